@@ -1,0 +1,4 @@
+pub mod Splits
+pub mod Attributes
+pub mod Plain
+pub mod Kinds

@@ -1,0 +1,83 @@
+// Looking up attributes by name.
+ghost use Rattle.std.specs.Prelude.{◌≡◌, option_copied};
+ghost use Rattle.std.specs.List.{filter_map, slice_get};
+ghost use Rattle.attr_rules.specs.Attributes.{value_named, values_named, free_text, parts_of, attr, value_in_part};
+
+use crate::splits::split_attr;
+use geda_model::{Body, Object, Part, Shape, Symbol, Text};
+
+fn value_named<'a>(text: &'a Text, name: &str) -> Option<&'a str>
+    ensures { option_copied result ≡ value_named name.now text.now }
+{
+    let content = &text.content;
+    let (own, value) = split_attr(content.as_str())?;
+    if own == name {
+        return Some(value);
+    }
+    None
+}
+
+/// The value of the first of some texts that is an attribute of this name.
+///
+/// `None` exactly where none is. It takes no memory.
+pub fn first_value<'a>(texts: &'a [Text], name: &str) -> Option<&'a str>
+    ensures { option_copied result ≡ slice_get (values_named name.now texts.now) 0 }
+{
+    for text in texts {
+        if let Some(value) = value_named(text, name) {
+            return Some(value);
+        }
+    }
+    None
+}
+
+fn value_in_part<'a>(part: &'a Part, name: &str) -> Option<&'a str>
+    ensures { option_copied result ≡ value_in_part name.now part.now }
+{
+    match &part.shape {
+        Shape::Text(text) => value_named(text, name),
+        _ => None,
+    }
+}
+
+#[tactic(auto, using(crate::proofs::Picks::values_in_parts))]
+fn first_in_parts<'a>(parts: &'a [Part], name: &str) -> Option<&'a str>
+    ensures { option_copied result ≡ slice_get (values_named name.now (filter_map free_text parts.now)) 0 }
+{
+    for part in parts {
+        if let Some(value) = value_in_part(part, name) {
+            return Some(value);
+        }
+    }
+    None
+}
+
+fn parts_of<'a>(object: &'a Object, library: Option<&'a Symbol>) -> &'a [Part]
+    ensures { result.now ≡ parts_of object.now (option_copied library.entry) }
+{
+    match &object.body {
+        Body::Shape(_) => &[],
+        Body::Component(component) => match &component.embedded {
+            Some(parts) => parts.as_slice(),
+            None => match library {
+                Some(symbol) => symbol.parts.as_slice(),
+                None => &[],
+            },
+        },
+    }
+}
+
+/// The value of an object's first attached attribute of a name or, where it has none attached, of the
+/// first inherited one (docs/RULES.md, "Attributes").
+///
+/// A component inherits from its embedded symbol, else from `library`. `None` exactly where no such
+/// attribute is there. It takes no memory.
+#[tactic(auto, unfolding(crate::specs::Attributes::attr, crate::specs::Attributes::attrs))]
+pub fn attr_of<'a>(object: &'a Object, library: Option<&'a Symbol>, name: &str) -> Option<&'a str>
+    ensures { option_copied result ≡ attr object.now (option_copied library.entry) name.now }
+{
+    if let Some(value) = first_value(object.attrs.as_slice(), name) {
+        return Some(value);
+    }
+    first_in_parts(parts_of(object, library), name)
+}

@@ -1,0 +1,5 @@
+pub mod Names
+pub mod Data
+pub mod Ranges
+pub mod Shapes
+pub mod Sheets

@@ -1,0 +1,34 @@
+-- Names, words, lines and texts, as lists of bytes (own).
+use Rattle.std.specs.Prelude.{◌≡◌, ℕ, ◌≤◌, ◌<◌, List, length, Bool, true, ◌||◌, ◌&&◌, nat_le, ◌==◌, ◌≢◌, slice_index, All}
+use Rattle.std.specs.List.{list_all}
+use Rattle.std.specs.Str.{is_utf8}
+
+-- a letter, a digit, `_`, `-`, `+` or `.`
+abbrev pub is_name_byte : ℕ → Bool
+is_name_byte b = (nat_le 48 b && nat_le b 57) || ((nat_le 65 b && nat_le b 90) || ((nat_le 97 b && nat_le b 122) || ((b == 95) || ((b == 45) || ((b == 43) || (b == 46))))))
+
+-- 1 to 100 letters, digits, `_`, `-`, `+` and `.`, the first of them no `.`
+pub record IsName (bytes : List ℕ) : Type 0 where
+  pub filled : 1 ≤ length bytes
+  pub short : length bytes ≤ 100
+  pub first : slice_index bytes 0 ≢ 46
+  pub name_bytes : list_all is_name_byte bytes ≡ true
+
+-- any byte but LF
+abbrev pub IsLineByte : ℕ → Type 0
+IsLineByte b = b ≢ 10
+
+-- UTF-8 without LF
+pub record IsLine (bytes : List ℕ) : Type 0 where
+  pub text : is_utf8 bytes ≡ true
+  pub line_bytes : All IsLineByte bytes
+
+-- no space, tab or control byte: control bytes are 0 to 31 and 127
+abbrev pub IsWordByte : ℕ → Type 0
+IsWordByte b = (32 < b) × (b ≢ 127)
+
+-- UTF-8 of at most 200 bytes without space, tab and control bytes
+pub record IsWord (bytes : List ℕ) : Type 0 where
+  pub text : is_utf8 bytes ≡ true
+  pub short : length bytes ≤ 200
+  pub word_bytes : All IsWordByte bytes

@@ -1,0 +1,154 @@
+// Objects of a sheet, sheets and symbols.
+use crate::shape::{Parts, Shape};
+use crate::text::Texts;
+use crate::word::Word;
+use std::marker::Model;
+
+/// A placed symbol.
+#[derive(Debug, Drop)]
+pub struct Component {
+    /// Where it stands, in mils, -200,000 to 200,000.
+    pub x: i32,
+    /// Where it stands, in mils, -200,000 to 200,000.
+    pub y: i32,
+    /// Whether it can be selected.
+    pub selectable: bool,
+    /// In degrees: 0, 90, 180 or 270.
+    pub angle: u16,
+    /// Whether it is mirrored.
+    pub mirror: bool,
+    /// The file of its symbol; without `EMBEDDED` where the symbol is embedded.
+    pub basename: Word,
+    /// The parts of its embedded symbol, which stand in sheet coordinates.
+    pub embedded: Option<Parts>,
+}
+
+impl Model for Component {
+    ghost use Rattle.geda_model.specs.Shapes.{ComponentData, IsComponent};
+
+    ghost Value = { ComponentData };
+
+    ghost view = { λ c. record { x = c.x; y = c.y; selectable = c.selectable; angle = c.angle; mirror = c.mirror; basename = c.basename; embedded = c.embedded } };
+
+    ghost invariant = { λ c. IsComponent (record { x = c.x; y = c.y; selectable = c.selectable; angle = c.angle; mirror = c.mirror; basename = c.basename; embedded = c.embedded }) };
+}
+
+/// What an object is.
+#[derive(Debug, Drop)]
+pub enum Body {
+    /// A shape.
+    Shape(Shape),
+    /// A placed symbol, letter `C`.
+    Component(Component),
+}
+
+/// An object of a sheet, with its attached texts.
+#[derive(Debug, Drop)]
+pub struct Object {
+    /// What it is.
+    pub body: Body,
+    /// The texts attached to it.
+    pub attrs: Texts,
+}
+
+impl Model for Object {
+    ghost use Rattle.geda_model.specs.Sheets.{ObjectData, ShapeBodyIsInRange};
+
+    ghost Value = { ObjectData };
+
+    ghost view = { λ o. record { body = o.body; attrs = o.attrs } };
+
+    ghost invariant = { λ o. ShapeBodyIsInRange o.body };
+}
+
+/// The objects of a sheet in order, at most 4,294,967,295.
+#[derive(Debug, Drop)]
+pub struct Objects {
+    list: Vec<Object>,
+}
+
+impl Model for Objects {
+    ghost use Rattle.std.specs.Prelude.{List, length, ◌≤◌};
+    ghost use Rattle.geda_model.specs.Sheets.{ObjectData};
+
+    ghost Value = { List ObjectData };
+
+    ghost view = { λ p. p.list.items };
+
+    ghost invariant = { λ p. length p.list.items ≤ 4294967295 };
+}
+
+impl Objects {
+    ghost use Rattle.std.specs.Prelude.{◌≡◌, ◌≤◌, length};
+
+    /// The objects of a list, which has at most 4,294,967,295. It takes no memory.
+    pub fn from_vec(list: Vec<Object>) -> Objects
+        requires { length list.items ≤ 4294967295 }
+        ensures { result ≡ list.items }
+    {
+        Objects { list }
+    }
+
+    /// The objects, in order. It takes no memory.
+    pub fn as_slice(&self) -> &[Object]
+        ensures objects { result.now ≡ self.now }
+        ensures few { length self.now ≤ 4294967295 }
+    {
+        self.list.as_slice()
+    }
+}
+
+/// The version line of a file.
+#[derive(Clone, Copy, Debug, PartialEq, Eq)]
+pub struct Head {
+    /// The date of the program that wrote the file, as eight digits `YYYYMMDD`.
+    pub date: u32,
+    /// The format, 1 or 2.
+    pub format: u8,
+}
+
+impl Model for Head {
+    ghost use Rattle.geda_model.specs.Sheets.{HeadData, IsHead};
+
+    ghost Value = { HeadData };
+
+    ghost view = { λ h. record { date = h.date; format = h.format } };
+
+    ghost invariant = { λ h. IsHead (record { date = h.date; format = h.format }) };
+
+    ghost inverse = { λ d. record { date = d.date; format = d.format } };
+}
+
+/// A schematic sheet.
+#[derive(Debug, Drop)]
+pub struct Sheet {
+    /// Its version line.
+    pub head: Head,
+    /// Its objects, in file order.
+    pub objects: Objects,
+}
+
+impl Model for Sheet {
+    ghost use Rattle.geda_model.specs.Sheets.{SheetData};
+
+    ghost Value = { SheetData };
+
+    ghost view = { λ s. record { head = s.head; objects = s.objects } };
+}
+
+/// A symbol of a library.
+#[derive(Debug, Drop)]
+pub struct Symbol {
+    /// Its version line.
+    pub head: Head,
+    /// Its parts, in file order.
+    pub parts: Parts,
+}
+
+impl Model for Symbol {
+    ghost use Rattle.geda_model.specs.Sheets.{SymbolData};
+
+    ghost Value = { SymbolData };
+
+    ghost view = { λ s. record { head = s.head; parts = s.parts } };
+}
