@@ -1,0 +1,9 @@
+pub mod LabelLemmas
+pub mod TouchLemmas
+pub mod OrderLemmas
+pub mod GroupLemmas
+pub mod ListingLemmas
+pub mod SheetLemmas
+pub mod PackageLemmas
+pub mod Uniqueness
+pub mod Cases

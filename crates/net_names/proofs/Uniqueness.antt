@@ -1,0 +1,28 @@
+-- The links determine the labels of classes, and so the net list.
+use Rattle.std.proofs.Common.{◌≡◌, ℕ, ◌<◌, List, get_or, sym, ap, ◌∙◌, arith}
+use Rattle.std.proofs.lemmas.List.{ext_get_or}
+use Rattle.geda_defs.specs.Classes.{AreClasses}
+use Rattle.geda_model.specs.Sheets.{SheetData}
+use Rattle.net_names.specs.declared.nets.Net.{Net}
+use Rattle.net_names.specs.declared.nets.Nets.{Nets}
+use Rattle.net_names.specs.declared.nets.Package.{Package}
+use Rattle.net_names.specs.Flattening.{Flattened}
+use Rattle.net_names.specs.NetLists.{AreNetsOf, IsNetListOf, nets_by}
+
+same_labels : (R : ℕ → ℕ → Type 0) (count : ℕ) (xs ys : List ℕ) → AreClasses R count xs → AreClasses R count ys → xs ≡ ys
+same_labels R count xs ys p q =
+    ext_get_or 0 xs ys (p.len ∙ sym q.len) (λ i h.
+    let inside : i < count = omega (arith, p.len) in
+    omega (arith, p.least i (get_or ys i 0) inside (q.chain i inside), q.least i (get_or xs i 0) inside (p.chain i inside)))
+
+pub same_nets : (p : Flattened) (xs ys : List Net) → AreNetsOf p xs → AreNetsOf p ys → xs ≡ ys
+same_nets p xs ys a b = a.2 ∙ ap (nets_by p) (same_labels _ _ a.0 b.0 a.1 b.1) ∙ sym b.2
+
+both_parts : (a b : Nets) → a.packages ≡ b.packages → a.nets ≡ b.nets → a ≡ b
+both_parts a b p q =
+    let first : a ≡ record { packages = b.packages; nets = a.nets } = ap (λ (packages : List Package). record { packages = packages; nets = a.nets }) p in
+    let second : record { packages = b.packages; nets = a.nets } ≡ b = ap (λ (nets : List Net). record { packages = b.packages; nets = nets }) q in
+    first ∙ second
+
+pub same_lists : (sheet : SheetData) (a b : Nets) → IsNetListOf sheet a → IsNetListOf sheet b → a ≡ b
+same_lists sheet a b p q = both_parts a b (p.packages ∙ sym q.packages) (same_nets _ a.nets b.nets p.nets q.nets)

@@ -1,0 +1,52 @@
+-- A project as a flat list of what joins, with the links between (own).
+use Rattle.std.specs.Prelude.{◌≡◌, ◌<◌, ◌⊎◌, ℕ, List, ◌++◌, Option, Some, None, length, slice_index_or, Contains}
+use Rattle.geda_geom.specs.declared.conductor.Conductor.{Conductor}
+use Rattle.geda_geom.specs.Touch.{Touch}
+use Rattle.net_names.specs.declared.nets.Member.{Member}
+
+-- a drawn segment, the drawn end of a pin, or a hidden pin: the ids of the components that lead down
+-- to its sheet, its key, what is drawn, its names, and the pin that it is if it is one of a listed part
+pub record Flat : Type 0 where
+  pub route : List ℕ
+  pub id : ℕ
+  pub place : ℕ
+  pub shape : Option Conductor
+  pub global_names : List (List ℕ)
+  pub drawn_names : List (List ℕ)
+  pub member : Option Member
+
+-- what joins, in order of route, id and place, and the pairs of places that ports tie
+pub record Flattened : Type 0 where
+  pub conductors : List Flat
+  pub ties : List (ℕ × ℕ)
+
+abbrev pub names_of : Flat → List (List ℕ)
+names_of f = f.global_names ++ f.drawn_names
+
+-- two drawn shapes touch
+abbrev pub ShapesTouch : Option Conductor → Option Conductor → Type 0
+ShapesTouch None other = ⊥
+ShapesTouch (Some a) None = ⊥
+ShapesTouch (Some a) (Some b) = Touch a b
+
+-- they stand on one sheet of the project and touch
+pub record AreTouching (f g : Flat) : Type 0 where
+  pub together : f.route ≡ g.route
+  pub touch : ShapesTouch f.shape g.shape
+
+-- they have a name in common
+abbrev pub ShareName : Flat → Flat → Type 0
+ShareName f g = (name : List ℕ) × Contains (names_of f) name × Contains (names_of g) name
+
+-- so are the ones at two places of a list
+abbrev pub AtPlaces : (Flat → Flat → Type 0) → List Flat → ℕ → ℕ → Type 0
+AtPlaces R conductors i j = (d : Flat) → R (slice_index_or conductors i d) (slice_index_or conductors j d)
+
+abbrev pub AreTied : List (ℕ × ℕ) → ℕ → ℕ → Type 0
+AreTied ties i j = Contains ties (i, j) ⊎ Contains ties (j, i)
+
+-- what stands at two places is linked: it touches, shares a name, or is tied by a port
+pub record Linked (p : Flattened) (i j : ℕ) : Type 0 where
+  pub first : i < length p.conductors
+  pub second : j < length p.conductors
+  pub link : AtPlaces AreTouching p.conductors i j ⊎ (AtPlaces ShareName p.conductors i j ⊎ AreTied p.ties i j)

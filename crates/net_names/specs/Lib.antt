@@ -1,0 +1,11 @@
+pub mod Order
+pub mod Flattening
+pub mod Sheets
+pub mod Packages
+pub mod NetLists
+pub mod Joints
+pub mod Gathering
+pub mod FirstValues
+pub mod Lowering
+pub mod Grouping
+pub mod Laws

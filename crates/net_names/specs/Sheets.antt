@@ -1,0 +1,128 @@
+-- What joins on a sheet whose components have their symbols embedded (gEDA master attribute document;
+-- that embedded symbols stand in sheet coordinates is own).
+use Rattle.std.specs.Prelude.{ℕ, ℤ, ◌+◌, ◌==◌, ◌&&◌, not, nat_lt, nat_le, if◌then◌else◌, Bool, true, false, List, [], ◌∷◌, ◌++◌, Option, Some, None, length, codes}
+use Rattle.std.specs.List.{filter_map, slice_get, list_all}
+use Rattle.std.specs.Str.{is_utf8}
+use Rattle.geda_model.specs.declared.shape.Shape.{Shape}
+use Rattle.geda_model.specs.declared.shape.Shape.TheVariants as shapes
+use Rattle.geda_model.specs.declared.object.Body.{Body}
+use Rattle.geda_model.specs.declared.object.Body.TheVariants as bodies
+use Rattle.geda_model.specs.Data.{TextData}
+use Rattle.geda_model.specs.Shapes.{PartData}
+use Rattle.geda_model.specs.Sheets.{ObjectData, SheetData}
+use Rattle.attr_rules.specs.Attributes.{attr, attached, values_named, parts_of}
+use Rattle.attr_rules.specs.Kinds.{kind_of}
+use Rattle.attr_rules.specs.declared.kinds.PinKind.{PinKind}
+use Rattle.geda_geom.specs.declared.conductor.Point.{Point}
+use Rattle.geda_geom.specs.declared.conductor.Conductor.TheVariants.{Segment, End}
+use Rattle.net_names.specs.declared.nets.Member.{Member}
+use Rattle.net_names.specs.Flattening.{Flat, Flattened}
+
+-- a net pin: its active end, its number and its kind
+pub record PinData : Type 0 where
+  pub active : Point
+  pub number : List ℕ
+  pub kind : PinKind
+
+-- a pin's first attached attribute of a name
+abbrev pub pin_attr : List TextData → List ℕ → Option (List ℕ)
+pin_attr attrs name = slice_get (values_named name attrs) 0
+
+-- no space, tab or control byte
+abbrev pub is_word_byte : ℕ → Bool
+is_word_byte b = nat_lt 32 b && not (b == 127)
+
+-- the test of a Word
+abbrev pub is_word : List ℕ → Bool
+is_word bytes = is_utf8 bytes && (nat_le (length bytes) 200 && list_all is_word_byte bytes)
+
+-- the `pinnumber`, if it is there and a Word, else `?`
+abbrev pub pin_number : Option (List ℕ) → List ℕ
+pin_number None = codes "?"
+pin_number (Some value) = if is_word value then value else codes "?"
+
+abbrev pub point : ℤ → ℤ → Point
+point across up = record { x = across; y = up }
+
+-- the first point where whichend is 0, else the second
+abbrev pub active_end : ℤ → ℤ → ℤ → ℤ → ℕ → Point
+active_end x1 y1 x2 y2 whichend = if whichend == 0 then point x1 y1 else point x2 y2
+
+-- the net pin that a part is, if it is one
+abbrev pub net_pin : PartData → Option PinData
+net_pin p = of_shape p.shape
+  where
+    of_pin : ℤ → ℤ → ℤ → ℤ → Bool → ℕ → Option PinData
+    of_pin x1 y1 x2 y2 true whichend = None
+    of_pin x1 y1 x2 y2 false whichend = Some (record { active = active_end x1 y1 x2 y2 whichend; number = pin_number (pin_attr p.attrs (codes "pinnumber")); kind = kind_of (pin_attr p.attrs (codes "pintype")) })
+
+    of_shape : Shape → Option PinData
+    of_shape (shapes.Straight x1 y1 x2 y2 color stroke) = None
+    of_shape (shapes.Picture x y width height angle mirrored file embedded) = None
+    of_shape (shapes.Rect x y width height color stroke fill) = None
+    of_shape (shapes.Circle x y radius color stroke fill) = None
+    of_shape (shapes.Arc x y radius start sweep color stroke) = None
+    of_shape (shapes.Text t) = None
+    of_shape (shapes.Net x1 y1 x2 y2 color) = None
+    of_shape (shapes.Bus x1 y1 x2 y2 color ripper) = None
+    of_shape (shapes.Pin x1 y1 x2 y2 color bus whichend) = of_pin x1 y1 x2 y2 bus whichend
+    of_shape (shapes.Path color stroke fill content) = None
+
+-- the net pins of a symbol in file order: their places count from 0
+abbrev pub net_pins : List PartData → List PinData
+net_pins parts = filter_map net_pin parts
+
+abbrev pub is_no_feed : ℕ → Bool
+is_no_feed b = not (b == 10)
+
+-- a value without LF
+abbrev pub if_line : Option (List ℕ) → Option (List ℕ)
+if_line None = None
+if_line (Some value) = if list_all is_no_feed value then Some value else None
+
+-- a component's refdes, if it has one and that has no LF; another object has none
+abbrev pub refdes_of : ObjectData → Option (List ℕ)
+refdes_of o = of_body o.body
+  where
+    of_body : Body → Option (List ℕ)
+    of_body (bodies.Shape s) = None
+    of_body (bodies.Component c) = if_line (attr o None (codes "refdes"))
+
+-- the member that a pin is, where its component has a refdes
+abbrev pub member_of : Option (List ℕ) → PinData → Option Member
+member_of None pin = None
+member_of (Some refdes) pin = Some (record { refdes = refdes; pin = pin.number; kind = pin.kind })
+
+-- the ends of pins, of which the first has this place
+abbrev pub flats_of_pins : ℕ → Option (List ℕ) → ℕ → List PinData → List Flat
+flats_of_pins id refdes place [] = []
+flats_of_pins id refdes place (pin ∷ pins) = record { route = []; id = id; place = place; shape = Some (End pin.active); global_names = []; drawn_names = []; member = member_of refdes pin } ∷ flats_of_pins id refdes (place + 1) pins
+
+-- a segment, or the net pins of a component; buses, and pins drawn on the sheet, join nothing
+abbrev pub flats_of_object : ℕ → ObjectData → List Flat
+flats_of_object id o = of_body o.body
+  where
+    of_shape : Shape → List Flat
+    of_shape (shapes.Straight x1 y1 x2 y2 color stroke) = []
+    of_shape (shapes.Picture x y width height angle mirrored file embedded) = []
+    of_shape (shapes.Rect x y width height color stroke fill) = []
+    of_shape (shapes.Circle x y radius color stroke fill) = []
+    of_shape (shapes.Arc x y radius start sweep color stroke) = []
+    of_shape (shapes.Text t) = []
+    of_shape (shapes.Net x1 y1 x2 y2 color) = record { route = []; id = id; place = 0; shape = Some (Segment (point x1 y1) (point x2 y2)); global_names = []; drawn_names = attached o (codes "netname"); member = None } ∷ []
+    of_shape (shapes.Bus x1 y1 x2 y2 color ripper) = []
+    of_shape (shapes.Pin x1 y1 x2 y2 color bus whichend) = []
+    of_shape (shapes.Path color stroke fill content) = []
+
+    of_body : Body → List Flat
+    of_body (bodies.Shape s) = of_shape s
+    of_body (bodies.Component c) = flats_of_pins id (refdes_of o) 0 (net_pins (parts_of o None))
+
+-- of objects, of which the first has this id
+abbrev pub flats_from : ℕ → List ObjectData → List Flat
+flats_from id [] = []
+flats_from id (o ∷ os) = flats_of_object id o ++ flats_from (id + 1) os
+
+-- a sheet by itself: its objects have the ids from 0, and nothing is tied
+abbrev pub flattened : SheetData → Flattened
+flattened sheet = record { conductors = flats_from 0 sheet.objects; ties = [] }
