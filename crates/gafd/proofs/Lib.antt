@@ -1,0 +1,4 @@
+pub mod Files
+pub mod Results
+pub mod Spaces
+pub mod Texts

@@ -1,0 +1,4 @@
+pub mod Memory
+pub mod ListText
+pub mod Faults
+pub mod Program

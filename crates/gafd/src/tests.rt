@@ -1,0 +1,264 @@
+// The program over a folder and sinks in memory.
+use crate::folder::MemoryFolder;
+use crate::run::run;
+use crate::sink::MemorySink;
+use geda_model::Name;
+use std::alloc::{AllocError, Global};
+use std::collections::BTreeMap;
+use std::process::Abort;
+use std::test::Fail;
+
+const EMPTY: &str = "v 20130925 2\n";
+
+/// What a test draws: the line of a net, a component with one pin, whose active end comes first, or
+/// any lines.
+#[derive(Clone, Copy)]
+enum Drawn {
+    Wire(&'static str),
+    Pin(&'static str, &'static str, &'static str),
+    Lines(&'static str),
+}
+
+use Drawn::{Lines, Pin, Wire};
+
+fn put_pin(sheet: &mut String, active: &str, far: &str, refdes: &str) -> Result<(), AllocError> {
+    writeln!(
+        sheet,
+        "C {active} 1 0 0 EMBEDDEDk.sym\n[\nP {active} {far} 1 0 0"
+    )?;
+    writeln!(sheet, "{{\nT {active} 5 8 0 1 0 0 1\npinnumber=1\n}}\n]")?;
+    writeln!(sheet, "{{\nT {active} 5 10 1 1 0 0 1\nrefdes={refdes}\n}}")
+}
+
+fn sheet_of(alloc: Global, drawn: &[Drawn]) -> Result<String, AllocError> {
+    let mut sheet = String::from_str(alloc, EMPTY)?;
+    for one in drawn {
+        match *one {
+            Wire(ends) => writeln!(sheet, "N {ends} 4")?,
+            Pin(active, far, refdes) => put_pin(&mut sheet, active, far, refdes)?,
+            Lines(lines) => sheet.push_str(lines)?,
+        }
+    }
+    Ok(sheet)
+}
+
+fn folder_of(alloc: Global, text: &str, failing: Vec<u64>) -> Result<MemoryFolder, Fail> {
+    let mut files = BTreeMap::new(alloc);
+    files.insert(Name::new(alloc, "one.sch")?, text.as_bytes().to_vec(alloc)?)?;
+    Ok(MemoryFolder::new(files, failing))
+}
+
+fn words_of(alloc: Global, words: &[&str]) -> Result<Vec<String>, AllocError> {
+    let mut list = Vec::new(alloc);
+    for word in words {
+        list.push(String::from_str(alloc, word)?)?;
+    }
+    Ok(list)
+}
+
+/// What a run does: its status, and what goes to the output and to the errors.
+#[derive(Clone, Copy)]
+struct Outcome<'a>(u8, &'a str, &'a str);
+
+fn expect<R: Abort>(
+    rt: &R,
+    alloc: Global,
+    sheet: &str,
+    words: &[&str],
+    wanted: Outcome,
+) -> Result<(), Fail> {
+    let words = words_of(alloc, words)?;
+    let mut folder = folder_of(alloc, sheet, Vec::new(alloc))?;
+    let mut out = MemorySink::new(alloc, 10_000, Vec::new(alloc))?;
+    let mut err = MemorySink::new(alloc, 1_000, Vec::new(alloc))?;
+    let status = run(alloc, &words, &mut folder, &mut out, &mut err);
+    assert_eq!(rt; out.written(), wanted.1.as_bytes(), "{words:?} {sheet}");
+    assert_eq!(rt; err.written(), wanted.2.as_bytes(), "{words:?}");
+    assert_eq!(rt; status, wanted.0, "{words:?}");
+    Ok(())
+}
+
+#[test]
+fn each_status_has_its_line(rt: HostRuntime) -> Result<(), Fail> {
+    let usage = Outcome(2, "", "gafd: usage\n");
+    let missing = Outcome(1, "", "gafd: two.sch: missing\n");
+    let cases: [(&[&str], Outcome); 9] = [
+        (&["netlist", "one.sch"], Outcome(0, "parts 0\nnets 0\n", "")),
+        (&["netlist", "two.sch"], missing),
+        (&[], usage),
+        (&["netlist"], usage),
+        (&["list", "one.sch"], usage),
+        (&["netlist", "a", "b"], usage),
+        (&["netlist", "-x"], usage),
+        (&["netlist", "../a.sch"], usage),
+        (&["netlist", ".sch"], usage),
+    ];
+    for (words, wanted) in cases {
+        expect(&rt, rt.alloc(), EMPTY, words, wanted)?;
+    }
+    let not_yet = Outcome(9, "", "gafd: one.sch: NotYet\n");
+    expect(
+        &rt,
+        rt.alloc(),
+        "v 20130925 3\n",
+        &["netlist", "one.sch"],
+        not_yet,
+    )
+}
+
+fn first_call(alloc: Global, fails: bool) -> Result<Vec<u64>, AllocError> {
+    let mut calls = Vec::new(alloc);
+    if fails {
+        calls.push(1)?;
+    }
+    Ok(calls)
+}
+
+/// The status of a run whose first call of the folder, the output or the errors fails, and how much
+/// then went to the output and to the errors.
+fn failing(alloc: Global, name: &str, calls: [bool; 3]) -> Result<(u8, usize, usize), Fail> {
+    let words = words_of(alloc, &["netlist", name])?;
+    let mut folder = folder_of(alloc, EMPTY, first_call(alloc, calls[0])?)?;
+    let mut out = MemorySink::new(alloc, 100, first_call(alloc, calls[1])?)?;
+    let mut err = MemorySink::new(alloc, 100, first_call(alloc, calls[2])?)?;
+    let status = run(alloc, &words, &mut folder, &mut out, &mut err);
+    let written = out.written().len();
+    let said = err.written().len();
+    Ok((status, written, said))
+}
+
+#[test]
+fn a_failing_call_gives_its_status(rt: HostRuntime) -> Result<(), Fail> {
+    let cases = [
+        ("one.sch", [true, false, false], (3, 0, 19)),
+        ("one.sch", [false, true, false], (4, 0, 19)),
+        ("one.sch", [true, false, true], (3, 0, 0)),
+        ("one.sch", [false, true, true], (4, 0, 0)),
+        ("one.sch", [false, false, true], (0, 15, 0)),
+        ("two.sch", [false, false, true], (1, 0, 0)),
+    ];
+    for (name, calls, wanted) in cases {
+        assert_eq!(rt;
+            failing(rt.alloc(), name, calls)?,
+            wanted,
+            "{name} {calls:?}"
+        );
+    }
+    Ok(())
+}
+
+/// Compares the list text of what is drawn.
+fn expect_text<R: Abort>(
+    rt: &R,
+    alloc: Global,
+    drawn: &[Drawn],
+    parts: &str,
+    nets: &str,
+) -> Result<(), Fail> {
+    let sheet = sheet_of(alloc, drawn)?;
+    let text = format!(in alloc; "{parts}{nets}")?;
+    let wanted = Outcome(0, text.as_str(), "");
+    expect(rt, alloc, sheet.as_str(), &["netlist", "one.sch"], wanted)
+}
+
+#[test]
+fn conductors_that_touch_are_one_net(rt: HostRuntime) -> Result<(), Fail> {
+    let a1 = Pin("0 500", "-100 500", "A1");
+    let a2 = Pin("1000 500", "1100 500", "A2");
+    let a3 = Pin("500 0", "500 -100", "A3");
+    let a4 = Pin("500 1000", "500 1100", "A4");
+    let across = Wire("0 500 1000 500");
+    let parts = "parts 4\nA1\t-\t-\t-\nA2\t-\t-\t-\nA3\t-\t-\t-\nA4\t-\t-\t-\n";
+    let cases: [(&[Drawn], &str); 4] = [
+        // Two wires that cross join nothing.
+        (
+            &[a1, a2, a3, a4, across, Wire("500 0 500 1000")],
+            "nets 2\nunnamed_net1\tA1-1 A2-1\nunnamed_net2\tA3-1 A4-1\n",
+        ),
+        // A wire that ends on another joins it.
+        (
+            &[a1, a2, a3, a4, across, Wire("500 0 500 500")],
+            "nets 2\nunnamed_net1\tA1-1 A2-1 A3-1\nunconnected_pin-1\tA4-1\n",
+        ),
+        // A third wire whose end is at a crossing joins both.
+        (
+            &[
+                a1,
+                a2,
+                a3,
+                a4,
+                across,
+                Wire("500 0 500 1000"),
+                Wire("500 500 700 700"),
+            ],
+            "nets 1\nunnamed_net1\tA1-1 A2-1 A3-1 A4-1\n",
+        ),
+        // A wire of length zero joins what is at its point.
+        (
+            &[a1, a2, a3, a4, Wire("0 500 0 500")],
+            "nets 4\nunnamed_net1\tA1-1\nunconnected_pin-1\tA2-1\nunconnected_pin-2\tA3-1\nunconnected_pin-3\tA4-1\n",
+        ),
+    ];
+    for (drawn, nets) in cases {
+        expect_text(&rt, rt.alloc(), drawn, parts, nets)?;
+    }
+    Ok(())
+}
+
+#[test]
+fn pins_join_at_ends_and_inside_straight_wires(rt: HostRuntime) -> Result<(), Fail> {
+    let a1 = Pin("0 0", "-100 0", "A1");
+    let a2 = Pin("1000 1000", "1100 1000", "A2");
+    let a3 = Pin("500 500", "500 600", "A3");
+    let parts = "parts 3\nA1\t-\t-\t-\nA2\t-\t-\t-\nA3\t-\t-\t-\n";
+    let cases: [(&[Drawn], &str); 3] = [
+        (
+            &[a1, a2, a3, Wire("0 0 1000 1000")],
+            "nets 2\nunnamed_net1\tA1-1 A2-1\nunconnected_pin-1\tA3-1\n",
+        ),
+        (
+            &[a1, a2, a3, Wire("0 500 1000 500")],
+            "nets 3\nunnamed_net1\tA3-1\nunconnected_pin-1\tA1-1\nunconnected_pin-2\tA2-1\n",
+        ),
+        // End on end.
+        (
+            &[a1, a2, Pin("0 0", "100 0", "A3")],
+            "nets 2\nunnamed_net1\tA1-1 A3-1\nunconnected_pin-1\tA2-1\n",
+        ),
+    ];
+    for (drawn, nets) in cases {
+        expect_text(&rt, rt.alloc(), drawn, parts, nets)?;
+    }
+    Ok(())
+}
+
+const SYMBOL: &str = "C 0 0 1 0 0 EMBEDDED\n[\nP 0 0 100 0 1 0 0\n]\n";
+
+#[test]
+fn a_package_is_all_components_with_one_refdes(rt: HostRuntime) -> Result<(), Fail> {
+    let block = "{\nT 0 0 5 10 1 1 0 0 1\nrefdes=U1\nT 0 0 5 10 1 1 0 0 1\ndevice=A B\n}\n";
+    let value =
+        "{\nT 0 0 5 10 1 1 0 0 1\nrefdes=U1\nT 0 0 5 10 1 1 0 0 1\nvalue=a\tb\nT 0 0 5 10 1 1 0 0 1\ndevice=C\n}\n";
+    let lines = "{\nT 0 0 5 10 1 1 0 0 2\nrefdes=R1\nR2\n}\n";
+    let cases: [(&[Drawn], &str, &str); 4] = [
+        // One refdes twice: the first device, the only value, and one member.
+        (
+            &[Lines(SYMBOL), Lines(block), Lines(SYMBOL), Lines(value)],
+            "parts 1\nU1\tA B\ta b\t-\n",
+            "nets 1\nunnamed_net1\tU1-?\n",
+        ),
+        // No refdes, and one of two lines.
+        (&[Lines(SYMBOL)], "parts 0\n", "nets 0\n"),
+        (&[Lines(SYMBOL), Lines(lines)], "parts 0\n", "nets 0\n"),
+        // Spaces of a refdes print as `_`.
+        (
+            &[Pin("0 0", "100 0", "a b")],
+            "parts 1\na_b\t-\t-\t-\n",
+            "nets 1\nunconnected_pin-1\ta_b-1\n",
+        ),
+    ];
+    for (drawn, parts, nets) in cases {
+        expect_text(&rt, rt.alloc(), drawn, parts, nets)?;
+    }
+    Ok(())
+}
