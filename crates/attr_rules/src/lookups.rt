@@ -42,7 +42,8 @@ fn value_in_part<'a>(part: &'a Part, name: &str) -> Option<&'a str>
 
 #[tactic(auto, using(crate::proofs::Picks::values_in_parts))]
 fn first_in_parts<'a>(parts: &'a [Part], name: &str) -> Option<&'a str>
-    ensures { option_copied result ≡ slice_get (values_named name.now (filter_map free_text parts.now)) 0 }
+    ensures { option_copied result ≡ slice_get
+        (values_named name.now (filter_map free_text parts.now)) 0 }
 {
     for part in parts {
         if let Some(value) = value_in_part(part, name) {

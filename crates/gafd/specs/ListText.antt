@@ -16,6 +16,7 @@ is_break b = (b == 9) || ((b == 10) || (b == 13))
 abbrev pub word_byte : ℕ → ℕ
 word_byte b = if (b == 32) || is_break b then 95 else b
 
+-- a refdes, a pin number or the name of a net, as it prints
 abbrev pub word : List ℕ → List ℕ
 word text = map word_byte text
 
@@ -23,6 +24,7 @@ word text = map word_byte text
 abbrev pub flat_byte : ℕ → ℕ
 flat_byte b = if is_break b then 32 else b
 
+-- another value, as it prints
 abbrev pub flat : List ℕ → List ℕ
 flat text = map flat_byte text
 
@@ -35,6 +37,7 @@ field (Some value) = flat value
 abbrev pub package_line : Package → List ℕ
 package_line p = word p.refdes ++ 9 ∷ (field p.device ++ 9 ∷ (field p.value ++ 9 ∷ field p.footprint))
 
+-- a member: refdes, `-`, pin number
 abbrev pub member_text : Member → List ℕ
 member_text m = word m.refdes ++ 45 ∷ word m.pin
 
@@ -42,9 +45,11 @@ member_text m = word m.refdes ++ 45 ∷ word m.pin
 abbrev pub net_line : Net → List ℕ
 net_line n = word n.name ++ 9 ∷ spaced (map member_text n.members)
 
+-- the line of a package
 abbrev pub package_text : Package → List ℕ
 package_text p = ended (package_line p)
 
+-- the line of a net
 abbrev pub net_text : Net → List ℕ
 net_text n = ended (net_line n)
 

@@ -33,6 +33,7 @@ second_word [] = []
 second_word (command ∷ []) = []
 second_word (command ∷ file ∷ words) = string_bytes file
 
+-- the status of a fault
 abbrev pub status_of : RunFault → ℕ
 status_of faults.Missing = 1
 status_of faults.Usage = 2

@@ -5,6 +5,7 @@ ghost use Rattle.geda_defs.specs.Causes.{HasCause};
 ghost use Rattle.geda_defs.specs.Contents.{Files, KeepsFiles, ReadsFile};
 ghost use Rattle.gafd.specs.declared.folder.FolderFault.TheVariants.{NoMemory};
 
+use crate::sink::is_listed;
 use geda_model::Name;
 use std::alloc::{AllocError, Global};
 use std::collections::BTreeMap;
@@ -64,7 +65,8 @@ impl Model for MemoryFolder {
 }
 
 fn find_file<'a>(files: &'a BTreeMap<Name, Vec<u8>>, name: &str) -> Option<&'a [u8]>
-    ensures { option_copied result ≡ file_in (map (λ e. (e.0, e.1.items)) files.now.entries) name.now }
+    ensures { option_copied result ≡ file_in (map (λ e. (e.0, e.1.items)) files.now.entries)
+        name.now }
 {
     for (key, bytes) in files {
         if key.as_str() == name {
@@ -92,6 +94,7 @@ impl MemoryFolder {
         ensures files { result.files ≡ map (λ e. (e.0, e.1.items)) files.entries }
         ensures failing { result.failing ≡ failing.items }
         ensures calls { result.calls ≡ 0 }
+        ensures faults { result.faults ≡ 0 }
     {
         MemoryFolder {
             files,
@@ -110,16 +113,28 @@ impl MemoryFolder {
 }
 
 impl Folder for MemoryFolder {
-    ghost use Rattle.std.specs.Prelude.{Some};
-    ghost use Rattle.gafd.specs.Memory.{file_in};
+    ghost use Rattle.std.specs.Prelude.{◌≡◌, ◌↔◌, Some, IsErrOf};
+    ghost use Rattle.geda_defs.specs.Causes.{HasCause};
+    ghost use Rattle.geda_defs.specs.Contents.{ReadsFile};
+    ghost use Rattle.gafd.specs.Memory.{FolderFails, file_in, next_call};
 
     ghost files = { λ m. Some (file_in m.files) };
 
     ghost faults = { λ m. m.faults };
 
-    fn read(&mut self, alloc: Global, name: &str) -> Result<Option<Vec<u8>>, FolderFault> {
+    /// The bytes of a file, or of one of over 4,194,305 bytes just the first so many. `None` exactly
+    /// where there is no such file.
+    ///
+    /// `Failed` exactly where the number of the call is in the list of those that fail.
+    fn read(&mut self, alloc: Global, name: &str) -> Result<Option<Vec<u8>>, FolderFault>
+        ensures file { ReadsFile (Some (file_in self.old.files)) name.now (λ v. v.items) result }
+        ensures same { self.new.files ≡ self.old.files }
+        ensures cause { HasCause self.old.faults self.new.faults result FolderFault.Failed }
+        ensures calls { self.new.calls ≡ next_call self.old.calls }
+        ensures failed { IsErrOf result FolderFault.Failed ↔ FolderFails self.old }
+    {
         self.calls = self.calls.saturating_add(1);
-        if self.failing.contains(&self.calls) {
+        if is_listed(&self.failing, self.calls) {
             self.faults = self.faults.saturating_add(1);
             return Err(FolderFault::Failed);
         }

@@ -107,7 +107,8 @@ fn put_members(out: &mut Vec<u8>, members: &[Member]) -> Result<(), AllocError>
 }
 
 fn put_others(out: &mut Vec<u8>, members: &[Member]) -> Result<(), AllocError>
-    ensures { OnOk result (out.new.items ≡ out.old.items ++ flat_map (λ m. 32 ∷ member_text m) members.now) }
+    ensures { OnOk result (out.new.items ≡ out.old.items ++ flat_map (λ m. 32 ∷ member_text m)
+        members.now) }
 {
     for member in members {
         out.push(b' ')?;

@@ -60,8 +60,10 @@ fn text_of_file<F: Folder>(alloc: Global, name: &str, folder: &mut F) -> Result<
     ensures done { IfOk result (λ text. IsTextOfFile (F.files folder.old) name.now text.items) }
     ensures missing { IsErrOf result RunFault.Missing → IsMissing (F.files folder.old) name.now }
     ensures not_yet { IsErrOf result RunFault.NotYet → IsNotYet (F.files folder.old) name.now }
-    ensures folder_fault { IsErrOf result RunFault.FolderFault → HasRisen (F.faults folder.old) (F.faults folder.new) }
-    ensures few { MatchResult result (λ _. ⊤) (λ e. (e ≢ RunFault.Usage) × (e ≢ RunFault.OutputFault)) }
+    ensures folder_fault { IsErrOf result RunFault.FolderFault →
+        HasRisen (F.faults folder.old) (F.faults folder.new) }
+    ensures few { MatchResult result (λ _. ⊤)
+        (λ e. (e ≢ RunFault.Usage) × (e ≢ RunFault.OutputFault)) }
     ensures files { KeepsFiles (F.files folder.old) (F.files folder.new) }
 {
     match folder.read(alloc, name)? {
@@ -77,14 +79,19 @@ fn netlist<F: Folder, O: Sink>(
     folder: &mut F,
     out: &mut O,
 ) -> Result<(), RunFault>
-    ensures done { OnOk result (Lists (WroteWhole (O.written out.old) (O.written out.new)) (F.files folder.old) name.now) }
+    ensures done { OnOk result (Lists (WroteWhole (O.written out.old) (O.written out.new))
+        (F.files folder.old) name.now) }
     ensures missing { IsErrOf result RunFault.Missing → IsMissing (F.files folder.old) name.now }
     ensures not_yet { IsErrOf result RunFault.NotYet → IsNotYet (F.files folder.old) name.now }
-    ensures folder_fault { IsErrOf result RunFault.FolderFault → HasRisen (F.faults folder.old) (F.faults folder.new) }
-    ensures output_fault { IsErrOf result RunFault.OutputFault → HasRisen (O.faults out.old) (O.faults out.new) }
-    ensures output_prefix { IsErrOf result RunFault.OutputFault → Lists (WrotePrefix (O.written out.old) (O.written out.new)) (F.files folder.old) name.now }
+    ensures folder_fault { IsErrOf result RunFault.FolderFault →
+        HasRisen (F.faults folder.old) (F.faults folder.new) }
+    ensures output_fault { IsErrOf result RunFault.OutputFault →
+        HasRisen (O.faults out.old) (O.faults out.new) }
+    ensures output_prefix { IsErrOf result RunFault.OutputFault →
+        Lists (WrotePrefix (O.written out.old) (O.written out.new)) (F.files folder.old) name.now }
     ensures no_usage { ¬ (IsErrOf result RunFault.Usage) }
-    ensures quiet { MatchResult result (λ _. ⊤) (λ e. e ≢ RunFault.OutputFault → O.written out.new ≡ O.written out.old) }
+    ensures quiet { MatchResult result (λ _. ⊤)
+        (λ e. e ≢ RunFault.OutputFault → O.written out.new ≡ O.written out.old) }
     ensures files { KeepsFiles (F.files folder.old) (F.files folder.new) }
 {
     let text = text_of_file(alloc, name, folder)?;
@@ -99,14 +106,22 @@ fn answered<F: Folder, O: Sink>(
     folder: &mut F,
     out: &mut O,
 ) -> Result<(), RunFault>
-    ensures done { OnOk result (Asked words.now (Lists (WroteWhole (O.written out.old) (O.written out.new)) (F.files folder.old))) }
-    ensures missing { IsErrOf result RunFault.Missing → Asked words.now (IsMissing (F.files folder.old)) }
+    ensures done { OnOk result (Asked words.now
+        (Lists (WroteWhole (O.written out.old) (O.written out.new)) (F.files folder.old))) }
+    ensures missing { IsErrOf result RunFault.Missing →
+        Asked words.now (IsMissing (F.files folder.old)) }
     ensures usage { IsErrOf result RunFault.Usage → (name : List ℕ) → ¬ (AskFor words.now name) }
-    ensures not_yet { IsErrOf result RunFault.NotYet → Asked words.now (IsNotYet (F.files folder.old)) }
-    ensures folder_fault { IsErrOf result RunFault.FolderFault → Asked words.now (λ _. HasRisen (F.faults folder.old) (F.faults folder.new)) }
-    ensures output_fault { IsErrOf result RunFault.OutputFault → HasRisen (O.faults out.old) (O.faults out.new) }
-    ensures output_prefix { IsErrOf result RunFault.OutputFault → Asked words.now (Lists (WrotePrefix (O.written out.old) (O.written out.new)) (F.files folder.old)) }
-    ensures quiet { MatchResult result (λ _. ⊤) (λ e. e ≢ RunFault.OutputFault → O.written out.new ≡ O.written out.old) }
+    ensures not_yet { IsErrOf result RunFault.NotYet →
+        Asked words.now (IsNotYet (F.files folder.old)) }
+    ensures folder_fault { IsErrOf result RunFault.FolderFault →
+        Asked words.now (λ _. HasRisen (F.faults folder.old) (F.faults folder.new)) }
+    ensures output_fault { IsErrOf result RunFault.OutputFault →
+        HasRisen (O.faults out.old) (O.faults out.new) }
+    ensures output_prefix { IsErrOf result RunFault.OutputFault →
+        Asked words.now (Lists (WrotePrefix (O.written out.old) (O.written out.new))
+        (F.files folder.old)) }
+    ensures quiet { MatchResult result (λ _. ⊤)
+        (λ e. e ≢ RunFault.OutputFault → O.written out.new ≡ O.written out.old) }
     ensures files { KeepsFiles (F.files folder.old) (F.files folder.new) }
 {
     let name = file_asked(alloc, words)?;
@@ -123,14 +138,17 @@ fn second_word(words: &[String]) -> &str
 }
 
 fn say<E: Sink>(line: &[u8], err: &mut E)
-    ensures { SaidLine (E.written err.old) (E.written err.new) (E.faults err.old) (E.faults err.new) line.now }
+    ensures { SaidLine (E.written err.old) (E.written err.new) (E.faults err.old) (E.faults err.new)
+        line.now }
 {
     let _ = err.write(line);
 }
 
-fn say_out_of_memory<E: Sink>(err: &mut E) -> u8
+/// Prints the line of want of memory and answers its status.
+pub fn say_out_of_memory<E: Sink>(err: &mut E) -> u8
     ensures status { result ≡ 71 }
-    ensures said { SaidLine (E.written err.old) (E.written err.new) (E.faults err.old) (E.faults err.new) (error_line RunFault.NoMemory []) }
+    ensures said { SaidLine (E.written err.old) (E.written err.new) (E.faults err.old)
+        (E.faults err.new) (error_line RunFault.NoMemory []) }
 {
     say(b"gafd: out of memory\n", err);
     71
@@ -138,7 +156,8 @@ fn say_out_of_memory<E: Sink>(err: &mut E) -> u8
 
 fn report_missing<E: Sink>(alloc: Global, name: &str, err: &mut E) -> u8
     ensures status { ReportsAs RunFault.Missing result }
-    ensures said { HasSaid name.now result (SaidLine (E.written err.old) (E.written err.new) (E.faults err.old) (E.faults err.new)) }
+    ensures said { HasSaid name.now result
+        (SaidLine (E.written err.old) (E.written err.new) (E.faults err.old) (E.faults err.new)) }
 {
     match format!(in alloc; "gafd: {name}: missing\n") {
         Ok(line) => {
@@ -151,7 +170,8 @@ fn report_missing<E: Sink>(alloc: Global, name: &str, err: &mut E) -> u8
 
 fn report_not_yet<E: Sink>(alloc: Global, name: &str, err: &mut E) -> u8
     ensures status { ReportsAs RunFault.NotYet result }
-    ensures said { HasSaid name.now result (SaidLine (E.written err.old) (E.written err.new) (E.faults err.old) (E.faults err.new)) }
+    ensures said { HasSaid name.now result
+        (SaidLine (E.written err.old) (E.written err.new) (E.faults err.old) (E.faults err.new)) }
 {
     match format!(in alloc; "gafd: {name}: NotYet\n") {
         Ok(line) => {
@@ -166,7 +186,8 @@ fn report_not_yet<E: Sink>(alloc: Global, name: &str, err: &mut E) -> u8
 /// that cannot be read yet finds no memory, they are those of want of memory.
 fn report<E: Sink>(alloc: Global, fault: RunFault, words: &[String], err: &mut E) -> u8
     ensures status { ReportsAs fault result }
-    ensures said { HasSaid (second_word words.now) result (SaidLine (E.written err.old) (E.written err.new) (E.faults err.old) (E.faults err.new)) }
+    ensures said { HasSaid (second_word words.now) result
+        (SaidLine (E.written err.old) (E.written err.new) (E.faults err.old) (E.faults err.new)) }
 {
     match fault {
         RunFault::Missing => report_missing(alloc, second_word(words), err),
@@ -200,14 +221,17 @@ pub fn run<F: Folder, O: Sink, E: Sink>(
     err: &mut E,
 ) -> u8
     // The words ask for a file, it is a sheet that can be read, and the text of its net list went out.
-    ensures done { result ≡ 0 → Asked words.now (Lists (WroteWhole (O.written out.old) (O.written out.new)) (F.files folder.old)) }
+    ensures done { result ≡ 0 → Asked words.now
+        (Lists (WroteWhole (O.written out.old) (O.written out.new)) (F.files folder.old)) }
 
     // Why it ends otherwise.
     ensures missing { result ≡ 1 → Asked words.now (IsMissing (F.files folder.old)) }
     ensures usage { result ≡ 2 → (name : List ℕ) → ¬ (AskFor words.now name) }
-    ensures folder_fault { result ≡ 3 → Asked words.now (λ _. HasRisen (F.faults folder.old) (F.faults folder.new)) }
+    ensures folder_fault { result ≡ 3 → Asked words.now
+        (λ _. HasRisen (F.faults folder.old) (F.faults folder.new)) }
     ensures output_fault { result ≡ 4 → HasRisen (O.faults out.old) (O.faults out.new) }
-    ensures output_prefix { result ≡ 4 → Asked words.now (Lists (WrotePrefix (O.written out.old) (O.written out.new)) (F.files folder.old)) }
+    ensures output_prefix { result ≡ 4 → Asked words.now
+        (Lists (WrotePrefix (O.written out.old) (O.written out.new)) (F.files folder.old)) }
     ensures not_yet { result ≡ 9 → Asked words.now (IsNotYet (F.files folder.old)) }
     ensures status { IsStatus result }
 
@@ -215,7 +239,8 @@ pub fn run<F: Folder, O: Sink, E: Sink>(
     ensures quiet { result ≢ 0 → result ≢ 4 → O.written out.new ≡ O.written out.old }
     ensures files { KeepsFiles (F.files folder.old) (F.files folder.new) }
     ensures silent { result ≡ 0 → E.written err.new ≡ E.written err.old }
-    ensures said { result ≢ 0 → HasSaid (second_word words.now) result (SaidLine (E.written err.old) (E.written err.new) (E.faults err.old) (E.faults err.new)) }
+    ensures said { result ≢ 0 → HasSaid (second_word words.now) result
+        (SaidLine (E.written err.old) (E.written err.new) (E.faults err.old) (E.faults err.new)) }
 {
     match answered(alloc, words, folder, out) {
         Ok(()) => 0,
@@ -225,5 +250,6 @@ pub fn run<F: Folder, O: Sink, E: Sink>(
 
 /// The law that a file has one list text.
 pub fn one_text()
-    ensures { (bytes first second : List ℕ) → IsTextOf bytes first → IsTextOf bytes second → first ≡ second }
+    ensures { (bytes first second : List ℕ) → IsTextOf bytes first → IsTextOf bytes second →
+        first ≡ second }
 {}

@@ -1,5 +1,5 @@
 // Where bytes go, and a sink in memory.
-ghost use Rattle.std.specs.Prelude.{ℕ, List, Option};
+ghost use Rattle.std.specs.Prelude.{◌↔◌, ℕ, List, Option, Contains, IsTrue};
 ghost use Rattle.geda_defs.specs.Causes.{HasCause};
 ghost use Rattle.geda_defs.specs.Contents.{Writes};
 
@@ -40,11 +40,14 @@ pub struct MemorySink {
 }
 
 impl Model for MemorySink {
+    ghost use Rattle.std.specs.Prelude.{◌+◌, ◌≤◌, vec_capacity, vec_len};
     ghost use Rattle.gafd.specs.Memory.{MemorySinkData};
 
     ghost Value = { MemorySinkData };
 
     ghost view = { λ m. record { written = m.written.items; room = m.room; failing = m.failing.items; calls = m.calls; faults = m.faults } };
+
+    ghost invariant = { λ m. vec_len m.written + m.room ≤ vec_capacity m.written };
 }
 
 impl MemorySink {
@@ -55,7 +58,9 @@ impl MemorySink {
     pub fn new(alloc: Global, room: usize, failing: Vec<u64>) -> Result<MemorySink, AllocError>
         ensures written { IfOk result (λ sink. sink.written ≡ []) }
         ensures failing { IfOk result (λ sink. sink.failing ≡ failing.items) }
+        ensures room { IfOk result (λ sink. sink.room ≡ room) }
         ensures calls { IfOk result (λ sink. sink.calls ≡ 0) }
+        ensures faults { IfOk result (λ sink. sink.faults ≡ 0) }
     {
         Ok(MemorySink {
             written: Vec::with_capacity(alloc, room)?,
@@ -75,23 +80,43 @@ impl MemorySink {
 }
 
 impl Sink for MemorySink {
-    ghost use Rattle.std.specs.Prelude.{Some};
+    ghost use Rattle.std.specs.Prelude.{◌≡◌, ◌↔◌, Some, IsErrOf, length};
+    ghost use Rattle.geda_defs.specs.Causes.{HasCause};
+    ghost use Rattle.geda_defs.specs.Contents.{Writes};
+    ghost use Rattle.gafd.specs.Memory.{SinkFails, next_call};
 
     ghost written = { λ m. Some m.written };
 
     ghost faults = { λ m. m.faults };
 
-    fn write(&mut self, piece: &[u8]) -> Result<(), SinkFault> {
+    /// Writes all the bytes of a piece. It takes no memory.
+    ///
+    /// `Failed` exactly where the number of the call is in the list of those that fail, or the piece
+    /// has more bytes than there is room for. Nothing is written then.
+    fn write(&mut self, piece: &[u8]) -> Result<(), SinkFault>
+        ensures bytes { Writes (Some self.old.written) (Some self.new.written) piece.now result }
+        ensures cause { HasCause self.old.faults self.new.faults result SinkFault.Failed }
+        ensures calls { self.new.calls ≡ next_call self.old.calls }
+        ensures failed { IsErrOf result SinkFault.Failed ↔ SinkFails self.old (length piece.now) }
+    {
         self.calls = self.calls.saturating_add(1);
-        if self.failing.contains(&self.calls) || piece.len() > self.room {
+        if is_listed(&self.failing, self.calls) {
             self.faults = self.faults.saturating_add(1);
             return Err(SinkFault::Failed);
         }
-        if self.written.extend_from_slice(piece).is_err() {
+        if piece.len() > self.room {
             self.faults = self.faults.saturating_add(1);
             return Err(SinkFault::Failed);
         }
+        self.written.extend_from_slice(piece).unwrap();
         self.room -= piece.len();
         Ok(())
     }
+}
+
+/// Whether the number of a call stands in a list. It takes no memory.
+pub fn is_listed(calls: &[u64], call: u64) -> bool
+    ensures { IsTrue result ↔ Contains calls.now call }
+{
+    calls.contains(&call)
 }

@@ -4,83 +4,85 @@ ghost use Rattle.geda_geom.specs.Touch.{IsAt, IsBetween, IsInside, IsLevel, IsIn
 
 use crate::conductor::{Conductor, Point};
 
-fn is_between_across(a: Point, b: Point, p: Point) -> bool
-    ensures { IsTrue result ↔ IsBetween a.x b.x p.x }
+fn is_between_across(from: Point, to: Point, point: Point) -> bool
+    ensures { IsTrue result ↔ IsBetween from.x to.x point.x }
 {
-    (a.x < p.x && p.x < b.x) || (b.x < p.x && p.x < a.x)
+    (from.x < point.x && point.x < to.x) || (to.x < point.x && point.x < from.x)
 }
 
-fn is_between_up(a: Point, b: Point, p: Point) -> bool
-    ensures { IsTrue result ↔ IsBetween a.y b.y p.y }
+fn is_between_up(from: Point, to: Point, point: Point) -> bool
+    ensures { IsTrue result ↔ IsBetween from.y to.y point.y }
 {
-    (a.y < p.y && p.y < b.y) || (b.y < p.y && p.y < a.y)
+    (from.y < point.y && point.y < to.y) || (to.y < point.y && point.y < from.y)
 }
 
-fn is_upright(a: Point, b: Point, p: Point) -> bool
-    ensures { IsTrue result ↔ IsLevel a.x b.x p.x }
+fn is_upright(from: Point, to: Point, point: Point) -> bool
+    ensures { IsTrue result ↔ IsLevel from.x to.x point.x }
 {
-    p.x == a.x && p.x == b.x
+    point.x == from.x && point.x == to.x
 }
 
-fn is_flat(a: Point, b: Point, p: Point) -> bool
-    ensures { IsTrue result ↔ IsLevel a.y b.y p.y }
+fn is_flat(from: Point, to: Point, point: Point) -> bool
+    ensures { IsTrue result ↔ IsLevel from.y to.y point.y }
 {
-    p.y == a.y && p.y == b.y
+    point.y == from.y && point.y == to.y
 }
 
-fn is_inside_upright(a: Point, b: Point, p: Point) -> bool
-    ensures { IsTrue result ↔ IsInsideUpright a b p }
+fn is_inside_upright(from: Point, to: Point, point: Point) -> bool
+    ensures { IsTrue result ↔ IsInsideUpright from to point }
 {
-    is_upright(a, b, p) && is_between_up(a, b, p)
+    is_upright(from, to, point) && is_between_up(from, to, point)
 }
 
-fn is_inside_flat(a: Point, b: Point, p: Point) -> bool
-    ensures { IsTrue result ↔ IsInsideFlat a b p }
+fn is_inside_flat(from: Point, to: Point, point: Point) -> bool
+    ensures { IsTrue result ↔ IsInsideFlat from to point }
 {
-    is_flat(a, b, p) && is_between_across(a, b, p)
+    is_flat(from, to, point) && is_between_across(from, to, point)
 }
 
 #[tactic(auto, using(crate::proofs::Or::or_else))]
-fn is_inside(c: &Conductor, p: Point) -> bool
-    ensures { IsTrue result ↔ IsInside c.now p }
+fn is_inside(conductor: &Conductor, point: Point) -> bool
+    ensures { IsTrue result ↔ IsInside conductor.now point }
 {
-    match *c {
-        Conductor::Segment { a, b } => { is_inside_upright(a, b, p) || is_inside_flat(a, b, p) }
+    match *conductor {
+        Conductor::Segment { a, b } => {
+            is_inside_upright(a, b, point) || is_inside_flat(a, b, point)
+        }
         Conductor::End { .. } => false,
     }
 }
 
-fn is_at(p: Point, q: Point) -> bool
-    ensures { IsTrue result ↔ IsAt p q }
+fn is_at(point: Point, other: Point) -> bool
+    ensures { IsTrue result ↔ IsAt point other }
 {
-    p.x == q.x && p.y == q.y
+    point.x == other.x && point.y == other.y
 }
 
 #[tactic(auto, using(crate::proofs::Or::or_else))]
-fn is_end(c: &Conductor, p: Point) -> bool
-    ensures { IsTrue result ↔ IsEnd c.now p }
+fn is_end(conductor: &Conductor, point: Point) -> bool
+    ensures { IsTrue result ↔ IsEnd conductor.now point }
 {
-    match *c {
-        Conductor::Segment { a, b } => is_at(p, a) || is_at(p, b),
-        Conductor::End { at } => is_at(p, at),
+    match *conductor {
+        Conductor::Segment { a, b } => is_at(point, a) || is_at(point, b),
+        Conductor::End { at } => is_at(point, at),
     }
 }
 
 #[tactic(auto, using(crate::proofs::Or::or_else))]
-fn has_end_at(c: &Conductor, other: &Conductor) -> bool
-    ensures { IsTrue result ↔ SomeEnd (IsEnd other.now) c.now }
+fn has_end_at(conductor: &Conductor, other: &Conductor) -> bool
+    ensures { IsTrue result ↔ SomeEnd (IsEnd other.now) conductor.now }
 {
-    match *c {
+    match *conductor {
         Conductor::Segment { a, b } => is_end(other, a) || is_end(other, b),
         Conductor::End { at } => is_end(other, at),
     }
 }
 
 #[tactic(auto, using(crate::proofs::Or::or_else))]
-fn has_end_inside(c: &Conductor, other: &Conductor) -> bool
-    ensures { IsTrue result ↔ SomeEnd (IsInside other.now) c.now }
+fn has_end_inside(conductor: &Conductor, other: &Conductor) -> bool
+    ensures { IsTrue result ↔ SomeEnd (IsInside other.now) conductor.now }
 {
-    match *c {
+    match *conductor {
         Conductor::Segment { a, b } => is_inside(other, a) || is_inside(other, b),
         Conductor::End { at } => is_inside(other, at),
     }

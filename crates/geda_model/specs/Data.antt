@@ -1,6 +1,7 @@
 -- What contracts see of a text, and how a shape is drawn: the fields, and contents as bytes.
 use Rattle.std.specs.Prelude.{ℕ, ℤ, List}
 
+-- a text: its point, its looks, and its content
 pub record TextData : Type 0 where
   pub x : ℤ
   pub y : ℤ
@@ -12,6 +13,7 @@ pub record TextData : Type 0 where
   pub align : ℕ
   pub content : List ℕ
 
+-- how a line is drawn
 pub record StrokeData : Type 0 where
   pub width : ℤ
   pub cap : ℤ
@@ -19,6 +21,7 @@ pub record StrokeData : Type 0 where
   pub dash_length : ℤ
   pub dash_space : ℤ
 
+-- how an area is filled
 pub record FillData : Type 0 where
   pub sort : ℤ
   pub width : ℤ

@@ -53,6 +53,7 @@ pub record IsPictureData (bytes : List ℕ) : Type 0 where
   pub first_line : begins_with_dot_line bytes ≡ false
   pub later_lines : has_later_dot_line bytes ≡ false
 
+-- the fields of a text are in their ranges
 pub record IsText (t : TextData) : Type 0 where
   pub x : IsCoordinate t.x
   pub y : IsCoordinate t.y
@@ -64,6 +65,7 @@ pub record IsText (t : TextData) : Type 0 where
   pub align : t.align ≤ 8
   pub content : IsContent t.content
 
+-- the fields of a stroke are in their ranges
 pub record IsStroke (s : StrokeData) : Type 0 where
   pub width : IsNumber s.width
   pub cap : IsNumber s.cap
@@ -71,6 +73,7 @@ pub record IsStroke (s : StrokeData) : Type 0 where
   pub dash_length : IsNumber s.dash_length
   pub dash_space : IsNumber s.dash_space
 
+-- the fields of a filling are in their ranges
 pub record IsFill (f : FillData) : Type 0 where
   pub sort : IsNumber f.sort
   pub width : IsNumber f.width

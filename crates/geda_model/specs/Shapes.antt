@@ -24,10 +24,12 @@ pub record IsPoint (across up : ℤ) : Type 0 where
   pub x : IsCoordinate across
   pub y : IsCoordinate up
 
+-- the data of a picture, where it is embedded
 abbrev pub IsEmbeddedData : Option (List ℕ) → Type 0
 IsEmbeddedData None = Unit {0}
 IsEmbeddedData (Some lines) = IsPictureData lines
 
+-- each field of the shape is in its range
 abbrev pub ShapeIsInRange : Shape → Type 0
 ShapeIsInRange (Straight x1 y1 x2 y2 color stroke) = IsSegment x1 y1 x2 y2 color × IsStroke stroke
 ShapeIsInRange (Picture x y width height angle mirrored file embedded) = IsPoint x y × IsNumber width × IsNumber height × IsAngle angle × IsLine file × IsEmbeddedData embedded
@@ -40,6 +42,7 @@ ShapeIsInRange (Bus x1 y1 x2 y2 color ripper) = IsSegment x1 y1 x2 y2 color × (
 ShapeIsInRange (Pin x1 y1 x2 y2 color bus whichend) = IsSegment x1 y1 x2 y2 color × (whichend ≤ 1)
 ShapeIsInRange (Path color stroke fill content) = IsNumber color × IsStroke stroke × IsFill fill × IsContent content
 
+-- so is each field of a part
 pub record PartIsInRange (p : PartData) : Type 0 where
   pub shape : ShapeIsInRange p.shape
   pub attrs : All IsText p.attrs
@@ -61,6 +64,7 @@ pub record IsComponent (c : ComponentData) : Type 0 where
   pub angle : IsAngle c.angle
   pub basename : IsWord c.basename
 
+-- so is each part of a symbol, where it is embedded
 abbrev pub EmbeddedIsInRange : Option (List PartData) → Type 0
 EmbeddedIsInRange None = Unit {0}
 EmbeddedIsInRange (Some parts) = All PartIsInRange parts

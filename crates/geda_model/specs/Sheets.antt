@@ -16,10 +16,12 @@ abbrev pub ShapeBodyIsInRange : Body → Type 0
 ShapeBodyIsInRange (Shape s) = ShapeIsInRange s
 ShapeBodyIsInRange (Component c) = Unit {0}
 
+-- each field of a shape or of a component, with its symbol
 abbrev pub BodyIsInRange : Body → Type 0
 BodyIsInRange (Shape s) = ShapeIsInRange s
 BodyIsInRange (Component c) = ComponentIsInRange c
 
+-- each field of an object is in its range
 pub record ObjectIsInRange (o : ObjectData) : Type 0 where
   pub body : BodyIsInRange o.body
   pub attrs : All IsText o.attrs
@@ -29,14 +31,17 @@ pub record HeadData : Type 0 where
   pub date : ℕ
   pub format : ℕ
 
+-- eight digits, and 1 or 2
 pub record IsHead (h : HeadData) : Type 0 where
   pub date : h.date < 100000000
   pub format : (h.format ≡ 1) ⊎ (h.format ≡ 2)
 
+-- a sheet: its version line and its objects
 pub record SheetData : Type 0 where
   pub head : HeadData
   pub objects : List ObjectData
 
+-- a symbol: its version line and its parts
 pub record SymbolData : Type 0 where
   pub head : HeadData
   pub parts : List PartData

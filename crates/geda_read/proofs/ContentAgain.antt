@@ -13,7 +13,8 @@ use Rattle.geda_model.specs.Data.{TextData}
 use Rattle.geda_model.specs.Ranges.{IsContent}
 use Rattle.geda_read.specs.Spelling.{line_count}
 use Rattle.geda_read.specs.States.{StateData}
-use Rattle.geda_read.specs.Machine.{step, more_text, is_whole}
+use Rattle.geda_read.specs.Placing.{is_whole}
+use Rattle.geda_read.specs.Machine.{step, more_text}
 use Rattle.geda_read.specs.Placing.{with_content, put_text}
 use Rattle.geda_read.proofs.Cutting.{some_part}
 use Rattle.geda_read.proofs.WordsAgain.{IsOneLine}

@@ -4,7 +4,7 @@ use Rattle.std.specs.Prelude.{IsTrue, not, nat_lt}
 use Rattle.std.specs.Str.{is_utf8}
 use Rattle.std.proofs.lemmas.Bool.{lt-ltb, ltb-true}
 use Rattle.geda_model.specs.Ranges.{IsContent, line_feeds, has_cr_end}
-use Rattle.geda_read.specs.Machine.{is_whole}
+use Rattle.geda_read.specs.Placing.{is_whole}
 
 both : (few cr : Bool) → (few && not cr) ≡ true → (few ≡ true) × (cr ≡ false)
 both true true e = absurd cc

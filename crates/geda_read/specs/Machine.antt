@@ -1,8 +1,7 @@
 -- A sheet from its lines, one line after the other (own).
-use Rattle.std.specs.Prelude.{ℕ, ◌-◌, Bool, not, ◌&&◌, ◌||◌, ◌==◌, nat_lt, nat_le, if◌then◌else◌, List, [], ◌∷◌, ◌++◌, length, Option, Some, None, is_some}
+use Rattle.std.specs.Prelude.{ℕ, ◌-◌, Bool, ◌||◌, ◌==◌, nat_le, if◌then◌else◌, List, [], ◌∷◌, ◌++◌, length, Option, Some, None, is_some}
 use Rattle.std.specs.Str.{is_utf8}
 use Rattle.geda_model.specs.Data.{TextData}
-use Rattle.geda_model.specs.Ranges.{line_feeds, has_cr_end}
 use Rattle.geda_model.specs.Shapes.{PartData, ComponentData}
 use Rattle.geda_model.specs.Sheets.{ObjectData, HeadData, SheetData}
 use Rattle.geda_model.specs.declared.object.Body.TheVariants as bodies
@@ -12,15 +11,7 @@ use Rattle.geda_read.specs.declared.said.Said.TheVariants as said
 use Rattle.geda_read.specs.Words.{words_of}
 use Rattle.geda_read.specs.Fields.{◌>>=◌}
 use Rattle.geda_read.specs.Says.{said_of}
-use Rattle.geda_read.specs.Placing.{put_part, put_text, attach_in, sheet_push, symbol_end, with_content, with_last}
-
--- at most 10,000 lines, none of which ends in CR
-abbrev pub is_whole : List ℕ → Bool
-is_whole content = nat_lt (line_feeds content) 10000 && not (has_cr_end content)
-
--- a text, where its content is that of a whole one
-abbrev pub whole_text : TextData → Option TextData
-whole_text t = if is_whole t.content then Some t else None
+use Rattle.geda_read.specs.Placing.{whole_text, put_part, put_text, attach_in, sheet_push, symbol_end, with_content, with_last}
 
 -- a text that has its last line is put; another one awaits the next
 abbrev pub with_line : StateData → TextData → ℕ → Option StateData

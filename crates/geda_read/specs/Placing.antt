@@ -1,6 +1,7 @@
 -- Objects, parts and texts, put where they belong in a state (own).
-use Rattle.std.specs.Prelude.{ℕ, nat_le, if◌then◌else◌, List, [], ◌∷◌, ◌++◌, length, Option, Some, None}
+use Rattle.std.specs.Prelude.{ℕ, Bool, not, ◌&&◌, nat_lt, nat_le, if◌then◌else◌, List, [], ◌∷◌, ◌++◌, length, Option, Some, None}
 use Rattle.geda_model.specs.Data.{TextData}
+use Rattle.geda_model.specs.Ranges.{line_feeds, has_cr_end}
 use Rattle.geda_model.specs.Shapes.{PartData, ComponentData}
 use Rattle.geda_model.specs.Sheets.{ObjectData}
 use Rattle.geda_model.specs.declared.shape.Shape.TheVariants as shapes
@@ -85,3 +86,11 @@ attach_in s texts None = do
 attach_in s texts (Some y) = do
   symbol ← symbol_attach y texts
   Some (record s { symbol = Some symbol })
+
+-- at most 10,000 lines, none of which ends in CR
+abbrev pub is_whole : List ℕ → Bool
+is_whole content = nat_lt (line_feeds content) 10000 && not (has_cr_end content)
+
+-- a text, where its content is that of a whole one
+abbrev pub whole_text : TextData → Option TextData
+whole_text t = if is_whole t.content then Some t else None

@@ -43,6 +43,7 @@ text_words t = codes "T" ∷ signed_decimal t.x ∷ signed_decimal t.y ∷ signe
 abbrev pub text_text : TextData → List ℕ
 text_text t = ended (spaced (text_words t)) ++ ended t.content
 
+-- the line of a picture
 abbrev pub picture_words : ℤ → ℤ → ℤ → ℤ → ℕ → Bool → Bool → List (List ℕ)
 picture_words x y width height angle mirrored embedded = codes "G" ∷ signed_decimal x ∷ signed_decimal y ∷ signed_decimal width ∷ signed_decimal height ∷ decimal angle ∷ flag mirrored ∷ flag embedded ∷ []
 
@@ -51,9 +52,11 @@ abbrev pub picture_text : ℤ → ℤ → ℤ → ℤ → ℕ → Bool → List 
 picture_text x y width height angle mirrored file None = ended (spaced (picture_words x y width height angle mirrored false)) ++ ended file
 picture_text x y width height angle mirrored file (Some lines) = ended (spaced (picture_words x y width height angle mirrored true)) ++ ended file ++ (lines ++ ended (codes "."))
 
+-- the line of a net
 abbrev pub net_words : ℤ → ℤ → ℤ → ℤ → ℤ → List (List ℕ)
 net_words x1 y1 x2 y2 color = codes "N" ∷ signed_decimal x1 ∷ signed_decimal y1 ∷ signed_decimal x2 ∷ signed_decimal y2 ∷ signed_decimal color ∷ []
 
+-- the line of a pin
 abbrev pub pin_words : ℤ → ℤ → ℤ → ℤ → ℤ → Bool → ℕ → List (List ℕ)
 pin_words x1 y1 x2 y2 color bus whichend = codes "P" ∷ signed_decimal x1 ∷ signed_decimal y1 ∷ signed_decimal x2 ∷ signed_decimal y2 ∷ signed_decimal color ∷ flag bus ∷ decimal whichend ∷ []
 
@@ -75,9 +78,11 @@ abbrev pub attrs_text : List TextData → List ℕ
 attrs_text [] = []
 attrs_text (t ∷ ts) = ended (codes "{") ++ flat_map text_text (t ∷ ts) ++ ended (codes "}")
 
+-- a shape and its attached texts
 abbrev pub part_text : PartData → List ℕ
 part_text p = shape_text p.shape ++ attrs_text p.attrs
 
+-- the line of a component, by the word that names its symbol
 abbrev pub component_words : ComponentData → List ℕ → List (List ℕ)
 component_words c basename = codes "C" ∷ signed_decimal c.x ∷ signed_decimal c.y ∷ flag c.selectable ∷ decimal c.angle ∷ flag c.mirror ∷ basename ∷ []
 
@@ -89,10 +94,12 @@ component_text c = by_symbol c.embedded
     by_symbol None = ended (spaced (component_words c c.basename))
     by_symbol (Some parts) = ended (spaced (component_words c (codes "EMBEDDED" ++ c.basename))) ++ (ended (codes "[") ++ flat_map part_text parts ++ ended (codes "]"))
 
+-- a shape or a component
 abbrev pub body_text : Body → List ℕ
 body_text (bodies.Shape s) = shape_text s
 body_text (bodies.Component c) = component_text c
 
+-- an object and its attached texts
 abbrev pub object_text : ObjectData → List ℕ
 object_text o = body_text o.body ++ attrs_text o.attrs
 

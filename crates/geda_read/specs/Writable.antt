@@ -27,6 +27,7 @@ ShapeIsWritable (Bus x1 y1 x2 y2 color ripper) = Unit {0}
 ShapeIsWritable (Pin x1 y1 x2 y2 color bus whichend) = Unit {0}
 ShapeIsWritable (Path color stroke fill content) = Unit {0}
 
+-- no kept line of a part ends in CR
 abbrev pub PartIsWritable : PartData → Type 0
 PartIsWritable p = ShapeIsWritable p.shape
 
@@ -41,6 +42,7 @@ pub record IsEmbeddedSymbol (basename : List ℕ) (parts : List PartData) : Type
   pub few : length parts ≤ 100000
   pub each : All PartIsWritable parts
 
+-- the basename fits, and so does the symbol where it is embedded
 abbrev pub ComponentIsWritable : ComponentData → Type 0
 ComponentIsWritable c = by_symbol c.embedded
   where
@@ -48,10 +50,12 @@ ComponentIsWritable c = by_symbol c.embedded
     by_symbol None = IsLibraryName c.basename
     by_symbol (Some parts) = IsEmbeddedSymbol c.basename parts
 
+-- the same of what an object is
 abbrev pub BodyIsWritable : Body → Type 0
 BodyIsWritable (bodies.Shape s) = ShapeIsWritable s
 BodyIsWritable (bodies.Component c) = ComponentIsWritable c
 
+-- the same of an object
 abbrev pub ObjectIsWritable : ObjectData → Type 0
 ObjectIsWritable o = BodyIsWritable o.body
 

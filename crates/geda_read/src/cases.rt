@@ -8,15 +8,18 @@ ghost use Rattle.geda_read.specs.Words.{lines_of};
 ghost use Rattle.geda_read.specs.Machine.{read_lines};
 
 fn a_net_is_spelled()
-    ensures { canonical (sheet_case (net_case (codes "a=\nb"))) ≡ codes "v 00000003 2\nN -5 0 9 0 4\n{\nT 0 0 5 9 1 0 0 8 2\na=\nb\n}\n" }
+    ensures { canonical (sheet_case (net_case (codes "a=\nb"))) ≡ codes
+        "v 00000003 2\nN -5 0 9 0 4\n{\nT 0 0 5 9 1 0 0 8 2\na=\nb\n}\n" }
 {}
 
 fn a_component_is_spelled()
-    ensures { canonical (sheet_case component_case) ≡ codes "v 00000003 2\nC 7 -8 1 0 0 EMBEDDEDa\n[\nP 0 0 1 0 1 0 1\n]\n" }
+    ensures { canonical (sheet_case component_case) ≡ codes
+        "v 00000003 2\nC 7 -8 1 0 0 EMBEDDEDa\n[\nP 0 0 1 0 1 0 1\n]\n" }
 {}
 
 fn a_net_is_read()
-    ensures { read_lines (lines_of (codes "v 00000003 2\nN -5 0 9 0 4\n")) ≡ Some (sheet_case (net_with [])) }
+    ensures { read_lines (lines_of (codes "v 00000003 2\nN -5 0 9 0 4\n")) ≡ Some
+        (sheet_case (net_with [])) }
 {}
 
 fn a_net_is_plain()

@@ -43,7 +43,8 @@ pub fn read_sheet(alloc: Global, bytes: &[u8]) -> Result<Sheet, ReadFault>
     // What is read is plain and writable, and the bytes are its canonical text.
     ensures found { IfOk result (IsReadOf bytes.now) }
     // The canonical text of a plain and writable sheet is read as that sheet, unless memory runs out.
-    ensures only { (s : SheetData) → IsReadOf bytes.now s → MatchResult result (λ v. v ≡ s) (λ e. e ≡ ReadFault.NoMemory) }
+    ensures only { (s : SheetData) → IsReadOf bytes.now s →
+        MatchResult result (λ v. v ≡ s) (λ e. e ≡ ReadFault.NoMemory) }
     // It is refused only where the bytes are the canonical text of no such sheet.
     ensures not_yet { IsErrOf result ReadFault.NotYet → (s : SheetData) → ¬ (IsReadOf bytes.now s) }
 {

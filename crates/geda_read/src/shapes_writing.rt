@@ -40,7 +40,8 @@ fn put_straight(
     color: i32,
     stroke: &Stroke,
 ) -> Result<(), AllocError>
-    ensures { Adds result out.old out.new (shape_text (shapes.Straight x1 y1 x2 y2 color stroke.now)) }
+    ensures { Adds result out.old out.new
+        (shape_text (shapes.Straight x1 y1 x2 y2 color stroke.now)) }
 {
     write!(out, "L {x1} {y1} {x2} {y2} {color}")?;
     put_stroke(out, stroke)?;
@@ -57,7 +58,8 @@ fn put_picture_line(
     mirrored: bool,
     embedded: bool,
 ) -> Result<(), AllocError>
-    ensures { Adds result out.old out.new (ended (spaced (picture_words x y width height angle mirrored embedded))) }
+    ensures { Adds result out.old out.new
+        (ended (spaced (picture_words x y width height angle mirrored embedded))) }
 {
     let mirrored = flag(mirrored);
     let embedded = flag(embedded);
@@ -85,7 +87,8 @@ fn put_linked_picture(
     mirrored: bool,
     file: &str,
 ) -> Result<(), AllocError>
-    ensures { Adds result out.old out.new (picture_text x y width height angle mirrored file.now None) }
+    ensures { Adds result out.old out.new
+        (picture_text x y width height angle mirrored file.now None) }
 {
     put_picture_line(out, x, y, width, height, angle, mirrored, false)?;
     put_line(out, file)
@@ -102,7 +105,8 @@ fn put_embedded_picture(
     file: &str,
     lines: &str,
 ) -> Result<(), AllocError>
-    ensures { Adds result out.old out.new (picture_text x y width height angle mirrored file.now (Some lines.now)) }
+    ensures { Adds result out.old out.new
+        (picture_text x y width height angle mirrored file.now (Some lines.now)) }
 {
     put_picture_line(out, x, y, width, height, angle, mirrored, true)?;
     put_line(out, file)?;
@@ -120,7 +124,8 @@ fn put_picture(
     file: &Line,
     embedded: &Option<Block>,
 ) -> Result<(), AllocError>
-    ensures { Adds result out.old out.new (picture_text x y width height angle mirrored file.now embedded.now) }
+    ensures { Adds result out.old out.new
+        (picture_text x y width height angle mirrored file.now embedded.now) }
 {
     let file = file.as_str();
     match embedded {
@@ -149,7 +154,8 @@ fn put_rect(
     stroke: &Stroke,
     fill: &Fill,
 ) -> Result<(), AllocError>
-    ensures { Adds result out.old out.new (shape_text (shapes.Rect x y width height color stroke.now fill.now)) }
+    ensures { Adds result out.old out.new
+        (shape_text (shapes.Rect x y width height color stroke.now fill.now)) }
 {
     write!(out, "B {x} {y} {width} {height} {color}")?;
     put_stroke(out, stroke)?;
@@ -166,7 +172,8 @@ fn put_circle(
     stroke: &Stroke,
     fill: &Fill,
 ) -> Result<(), AllocError>
-    ensures { Adds result out.old out.new (shape_text (shapes.Circle x y radius color stroke.now fill.now)) }
+    ensures { Adds result out.old out.new
+        (shape_text (shapes.Circle x y radius color stroke.now fill.now)) }
 {
     write!(out, "V {x} {y} {radius} {color}")?;
     put_stroke(out, stroke)?;
@@ -184,7 +191,8 @@ fn put_arc(
     color: i32,
     stroke: &Stroke,
 ) -> Result<(), AllocError>
-    ensures { Adds result out.old out.new (shape_text (shapes.Arc x y radius start sweep color stroke.now)) }
+    ensures { Adds result out.old out.new
+        (shape_text (shapes.Arc x y radius start sweep color stroke.now)) }
 {
     write!(out, "A {x} {y} {radius} {start} {sweep} {color}")?;
     put_stroke(out, stroke)?;
@@ -230,7 +238,8 @@ fn put_pin(
     bus: bool,
     whichend: u8,
 ) -> Result<(), AllocError>
-    ensures { Adds result out.old out.new (ended (spaced (pin_words x1 y1 x2 y2 color bus whichend))) }
+    ensures { Adds result out.old out.new
+        (ended (spaced (pin_words x1 y1 x2 y2 color bus whichend))) }
 {
     let bus = flag(bus);
     writeln!(out, "P {x1} {y1} {x2} {y2} {color} {bus} {whichend}")?;
@@ -244,7 +253,8 @@ fn put_path_line(
     fill: &Fill,
     lines: usize,
 ) -> Result<(), AllocError>
-    ensures { Adds result out.old out.new (ended (spaced (path_words color stroke.now fill.now lines))) }
+    ensures { Adds result out.old out.new
+        (ended (spaced (path_words color stroke.now fill.now lines))) }
 {
     write!(out, "H {color}")?;
     put_stroke(out, stroke)?;
@@ -260,7 +270,8 @@ fn put_path(
     fill: &Fill,
     content: &Block,
 ) -> Result<(), AllocError>
-    ensures { Adds result out.old out.new (shape_text (shapes.Path color stroke.now fill.now content.now)) }
+    ensures { Adds result out.old out.new
+        (shape_text (shapes.Path color stroke.now fill.now content.now)) }
 {
     let text = content.as_str();
     let lines = line_count(text);

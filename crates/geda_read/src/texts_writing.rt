@@ -62,7 +62,8 @@ fn put_each_text(out: &mut String, texts: &[Text]) -> Result<(), AllocError>
 }
 
 fn put_block(out: &mut String, texts: &[Text]) -> Result<(), AllocError>
-    ensures { Adds result out.old out.new (ended (codes "{") ++ flat_map text_text texts.now ++ ended (codes "}")) }
+    ensures { Adds result out.old out.new
+        (ended (codes "{") ++ flat_map text_text texts.now ++ ended (codes "}")) }
 {
     put_line(out, "{")?;
     put_each_text(out, texts)?;

@@ -85,7 +85,8 @@ impl<'a> Lines<'a> {
 
     /// The next line, or `None` where no line is left. It takes no memory.
     pub fn next(&mut self) -> Option<&'a [u8]>
-        ensures { MatchOption result ((self.old ≡ []) × (self.new ≡ [])) (λ line. self.old ≡ line.now ∷ self.new) }
+        ensures { MatchOption result ((self.old ≡ []) × (self.new ≡ []))
+            (λ line. self.old ≡ line.now ∷ self.new) }
     {
         if self.rest.is_empty() {
             return None;
@@ -130,7 +131,8 @@ impl<'a> Words<'a> {
 
     /// The next word, or `None` where no word is left. It takes no memory.
     pub fn next(&mut self) -> Option<&'a [u8]>
-        ensures { MatchOption result ((self.old ≡ []) × (self.new ≡ [])) (λ word. self.old ≡ word.now ∷ self.new) }
+        ensures { MatchOption result ((self.old ≡ []) × (self.new ≡ []))
+            (λ word. self.old ≡ word.now ∷ self.new) }
     {
         let rest = without_blanks(self.rest);
         if rest.is_empty() {

@@ -35,7 +35,8 @@ fn put_each_part(out: &mut String, parts: &[Part]) -> Result<(), AllocError>
 }
 
 fn put_parts(out: &mut String, parts: &[Part]) -> Result<(), AllocError>
-    ensures { Adds result out.old out.new (ended (codes "[") ++ flat_map part_text parts.now ++ ended (codes "]")) }
+    ensures { Adds result out.old out.new
+        (ended (codes "[") ++ flat_map part_text parts.now ++ ended (codes "]")) }
 {
     put_line(out, "[")?;
     put_each_part(out, parts)?;
@@ -47,7 +48,8 @@ fn put_component_line(
     component: &Component,
     prefix: &str,
 ) -> Result<(), AllocError>
-    ensures { Adds result out.old out.new (ended (spaced (component_words component.now (prefix.now ++ component.now.basename)))) }
+    ensures { Adds result out.old out.new
+        (ended (spaced (component_words component.now (prefix.now ++ component.now.basename)))) }
 {
     let selectable = flag(component.selectable);
     let mirror = flag(component.mirror);

@@ -7,7 +7,7 @@ use Rattle.std.proofs.lemmas.List.{drop_more, get_or-set_same, get_or-set_other,
 use Rattle.net_names.specs.declared.joints.Joint.{Joint}
 use Rattle.net_names.specs.Flattening.{names_of}
 use Rattle.net_names.specs.Joints.{flat_of}
-use Rattle.net_names.specs.NetLists.{Labelled, labelled_from, Pin, pin_of, by_member, is_drawn_pin, is_single_pin, has_global_name, class_of_members}
+use Rattle.net_names.specs.NetClasses.{Labelled, labelled_from, Pin, pin_of, by_member, is_drawn_pin, is_single_pin, has_global_name, class_of_members}
 use Rattle.net_names.specs.Grouping.{GroupData, no_group, with_pin, with_joint, joined_at, gathered_from, class_of_group}
 
 -- a group with one more labelled conductor

@@ -14,7 +14,8 @@ use Rattle.net_names.specs.Order.{once_in_order, by_bytes}
 use Rattle.geda_defs.specs.Classes.{AreClasses}
 use Rattle.net_names.specs.Flattening.{Linked, names_of}
 use Rattle.net_names.specs.Joints.{flat_of, flattened_by}
-use Rattle.net_names.specs.NetLists.{AreNetsOf, labelled_from, ClassData, class_of, classes_of, has_pins, is_named, is_unnamed, is_unconnected, named_net, net_of, by_least_pin, free_numbers, numbered, numbered_nets, nets_by}
+use Rattle.net_names.specs.NetClasses.{labelled_from, ClassData, class_of, classes_of, has_pins}
+use Rattle.net_names.specs.NetLists.{AreNetsOf, is_named, is_unnamed, is_unconnected, named_net, net_of, by_least_pin, free_numbers, numbered, numbered_nets, nets_by}
 use Rattle.net_names.specs.Grouping.{GroupData, no_group, gathered, class_of_group, by_first_pin, with_class, in_order, numbered_from}
 use Rattle.net_names.proofs.OrderLemmas.{by_first_pin_is}
 use Rattle.net_names.proofs.GroupLemmas.{grown, grown_class, no_names, no_global, gathered_length, gathered_at}

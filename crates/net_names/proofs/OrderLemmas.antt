@@ -3,7 +3,8 @@ use Rattle.std.proofs.Common.{◌≡◌, List, [], ◌∷◌, refl}
 use Rattle.std.specs.Prelude.{slice_get}
 use Rattle.std.specs.Option.{option_cmp}
 use Rattle.net_names.specs.Grouping.{by_first_pin}
-use Rattle.net_names.specs.NetLists.{Pin, ClassData, by_pin, by_least_pin}
+use Rattle.net_names.specs.NetClasses.{Pin, ClassData, by_pin}
+use Rattle.net_names.specs.NetLists.{by_least_pin}
 
 least_pin_at : (ps qs : List Pin) (c d : ClassData) → c.pins ≡ ps → d.pins ≡ qs
     → option_cmp by_pin (slice_get ps 0) (slice_get qs 0) ≡ by_least_pin c d

@@ -15,11 +15,13 @@ pub record Flat : Type 0 where
   pub drawn_names : List (List ℕ)
   pub member : Option Member
 
--- what joins, in order of route, id and place, and the pairs of places that ports tie
+-- what joins, and the pairs of places that ports tie: first what is drawn, in order of route, id and
+-- place, then the hidden pins, so that a drawn pin comes before a hidden one
 pub record Flattened : Type 0 where
   pub conductors : List Flat
   pub ties : List (ℕ × ℕ)
 
+-- all its names
 abbrev pub names_of : Flat → List (List ℕ)
 names_of f = f.global_names ++ f.drawn_names
 
@@ -42,6 +44,7 @@ ShareName f g = (name : List ℕ) × Contains (names_of f) name × Contains (nam
 abbrev pub AtPlaces : (Flat → Flat → Type 0) → List Flat → ℕ → ℕ → Type 0
 AtPlaces R conductors i j = (d : Flat) → R (slice_index_or conductors i d) (slice_index_or conductors j d)
 
+-- a port ties them, in either order
 abbrev pub AreTied : List (ℕ × ℕ) → ℕ → ℕ → Type 0
 AreTied ties i j = Contains ties (i, j) ⊎ Contains ties (j, i)
 

@@ -10,7 +10,8 @@ use Rattle.std.specs.BTreeSet.{insert_key}
 use Rattle.net_names.specs.declared.joints.Joint.{Joint}
 use Rattle.net_names.specs.declared.nets.Net.{Net}
 use Rattle.net_names.specs.declared.nets.NetSort.{NetSort}
-use Rattle.net_names.specs.NetLists.{Pin, pin_at, by_member, ClassData, is_drawn_pin, by_pin, has_pins, net_of}
+use Rattle.net_names.specs.NetClasses.{Pin, pin_at, by_member, ClassData, is_drawn_pin, by_pin, has_pins}
+use Rattle.net_names.specs.NetLists.{net_of}
 
 -- each label is below the count
 abbrev pub ArePlaces : List ℕ → ℕ → Type 0

@@ -3,6 +3,7 @@ use Rattle.std.specs.Prelude.{List, [], Some, map}
 use Rattle.net_names.specs.declared.joints.Joint.{Joint}
 use Rattle.net_names.specs.Flattening.{Flat, Flattened}
 
+-- a joint as what joins: it stands on the one sheet, is drawn, and has no names
 abbrev pub flat_of : Joint → Flat
 flat_of j = record { route = []; id = j.key.id; place = j.key.place; shape = Some j.conductor; global_names = []; drawn_names = []; member = j.member }
 

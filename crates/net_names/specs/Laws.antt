@@ -1,7 +1,7 @@
 -- The laws of the order of classes (own).
 use Rattle.std.specs.Cmp.{IsTotalOrder, on_total, then_total, nat_cmp_total}
 use Rattle.std.specs.Cmp.Lexicographic.{lists_total, options_total}
-use Rattle.net_names.specs.NetLists.{by_member, by_pin}
+use Rattle.net_names.specs.NetClasses.{by_member, by_pin}
 use Rattle.net_names.specs.Grouping.{first_pin, by_first_pin}
 
 -- pins by refdes and number are in a total order

@@ -2,6 +2,7 @@ pub mod Order
 pub mod Flattening
 pub mod Sheets
 pub mod Packages
+pub mod NetClasses
 pub mod NetLists
 pub mod Joints
 pub mod Gathering

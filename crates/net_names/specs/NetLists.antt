@@ -1,101 +1,36 @@
 -- The net list of a flattened project (own): nets are the classes of the least equivalence that holds
 -- the links, their members each once, their names and their order.
-use Rattle.std.specs.Prelude.{◌≡◌, ℕ, ◌+◌, ◌==◌, ◌&&◌, not, Bool, true, false, List, [], ◌∷◌, ◌++◌, Option, Some, None, length, map, filter, take, codes, count_by}
+use Rattle.std.specs.Prelude.{◌≡◌, ℕ, ◌+◌, ◌==◌, ◌&&◌, not, Bool, List, [], ◌∷◌, ◌++◌, length, map, filter, take, codes, count_by}
 use Rattle.std.specs.declared.cmp.Ordering.{Ordering}
-use Rattle.std.specs.List.{filter_map, flat_map, list_any, range_with_len}
+use Rattle.std.specs.List.{flat_map, list_any, range_with_len}
 use Rattle.std.specs.Str.{bytes_eq}
 use Rattle.std.specs.Fmt.{decimal}
 use Rattle.std.specs.Ordering.{nat_cmp, on, then_cmp}
 use Rattle.geda_model.specs.Sheets.{SheetData}
 use Rattle.geda_defs.specs.Classes.{AreClasses}
-use Rattle.geda_geom.specs.declared.conductor.Conductor.{Conductor}
-use Rattle.geda_geom.specs.declared.conductor.Conductor.TheVariants.{Segment, End}
-use Rattle.net_names.specs.declared.nets.Member.{Member}
 use Rattle.net_names.specs.declared.nets.Net.{Net}
 use Rattle.net_names.specs.declared.nets.NetSort.{NetSort}
 use Rattle.net_names.specs.declared.nets.NetSort.TheVariants as sorts
 use Rattle.net_names.specs.declared.nets.Nets.{Nets}
 use Rattle.net_names.specs.Order.{once_in_order, by_bytes}
-use Rattle.net_names.specs.Flattening.{Flat, Flattened, Linked, names_of}
+use Rattle.net_names.specs.Flattening.{Flattened, Linked, names_of}
 use Rattle.net_names.specs.Sheets.{flattened}
 use Rattle.net_names.specs.Packages.{packages_of}
-
--- what joins, with its place in the list and the label of its class
-pub record Labelled : Type 0 where
-  pub place : ℕ
-  pub label : ℕ
-  pub flat : Flat
-
-abbrev pub labelled_from : ℕ → List Flat → List ℕ → List Labelled
-labelled_from place [] labels = []
-labelled_from place (f ∷ fs) [] = []
-labelled_from place (f ∷ fs) (label ∷ labels) = record { place = place; label = label; flat = f } ∷ labelled_from (place + 1) fs labels
-
--- a pin of a listed part, with its place
-pub record Pin : Type 0 where
-  pub place : ℕ
-  pub member : Member
-
-abbrev pub pin_at : ℕ → Option Member → Option Pin
-pin_at place None = None
-pin_at place (Some member) = Some (record { place = place; member = member })
-
-abbrev pub pin_of : Labelled → Option Pin
-pin_of l = pin_at l.place l.flat.member
-
--- by refdes, then by number
-abbrev pub by_member : Pin → Pin → Ordering
-by_member = then_cmp (on (λ p. p.member.refdes) by_bytes) (on (λ p. p.member.pin) by_bytes)
-
--- and then by place
-abbrev pub by_pin : Pin → Pin → Ordering
-by_pin = then_cmp by_member (on (λ p. p.place) nat_cmp)
-
--- a class: its pins, each pair of refdes and number once, its names, whether one is global, and
--- whether it is a single drawn pin
-pub record ClassData : Type 0 where
-  pub pins : List Pin
-  pub names : List (List ℕ)
-  pub global : Bool
-  pub is_single_pin : Bool
-
-abbrev pub is_drawn_pin : Option Conductor → Bool
-is_drawn_pin None = false
-is_drawn_pin (Some (Segment a b)) = false
-is_drawn_pin (Some (End at)) = true
-
-abbrev pub is_single_pin : List Labelled → Bool
-is_single_pin [] = false
-is_single_pin (l ∷ []) = is_drawn_pin l.flat.shape
-is_single_pin (l ∷ m ∷ ls) = false
-
-abbrev pub has_global_name : Labelled → Bool
-has_global_name l = not (length l.flat.global_names == 0)
-
-abbrev pub class_of_members : List Labelled → ClassData
-class_of_members ls = record { pins = once_in_order by_member (filter_map pin_of ls); names = flat_map (λ l. names_of l.flat) ls; global = list_any has_global_name ls; is_single_pin = is_single_pin ls }
-
--- the class with a label
-abbrev pub class_of : List Labelled → ℕ → ClassData
-class_of ls label = class_of_members (filter (λ l. l.label == label) ls)
-
-abbrev pub has_pins : ClassData → Bool
-has_pins c = not (length c.pins == 0)
-
--- the classes that have members; the labels are places
-abbrev pub classes_of : List Labelled → ℕ → List ClassData
-classes_of ls count = filter has_pins (map (class_of ls) (range_with_len 0 count))
+use Rattle.net_names.specs.NetClasses.{labelled_from, Pin, by_pin, ClassData, classes_of}
 
 -- a class with a name is named; a single drawn pin without a name is unconnected
 abbrev pub is_named : ClassData → Bool
 is_named c = not (length c.names == 0)
 
+-- without a name, and no single pin
 abbrev pub is_unnamed : ClassData → Bool
 is_unnamed c = not (is_named c) && not c.is_single_pin
 
+-- without a name, and a single pin
 abbrev pub is_unconnected : ClassData → Bool
 is_unconnected c = not (is_named c) && c.is_single_pin
 
+-- how many `/` a name has
 abbrev pub slashes : List ℕ → ℕ
 slashes name = count_by (λ b. b == 47) name
 
@@ -103,10 +38,12 @@ slashes name = count_by (λ b. b == 47) name
 abbrev pub by_name : List ℕ → List ℕ → Ordering
 by_name = then_cmp (on slashes nat_cmp) by_bytes
 
+-- the first of a list, or the default where there is none
 abbrev pub first_or : {A : Type 0} → A → List A → A
 first_or a [] = a
 first_or a (b ∷ bs) = b
 
+-- the net of a class under a name
 abbrev pub net_of : List ℕ → NetSort → ClassData → Net
 net_of name sort c = record { name = name; sort = sort; global = c.global; members = map (λ p. p.member) c.pins }
 
@@ -129,6 +66,7 @@ by_least_pin c d = by_first c.pins d.pins
 abbrev pub free_numbers : List ℕ → List (List ℕ) → ℕ → List ℕ
 free_numbers prefix used count = take count (filter (λ n. not (list_any (bytes_eq (prefix ++ decimal n)) used)) (range_with_len 1 (count + length used)))
 
+-- the classes under their numbers
 abbrev pub numbered : List ℕ → NetSort → List ℕ → List ClassData → List Net
 numbered prefix sort [] classes = []
 numbered prefix sort (n ∷ ns) [] = []

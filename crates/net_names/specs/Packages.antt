@@ -21,6 +21,7 @@ attr_in_package refdes name o = if_refdes refdes (refdes_of o) (attr o None name
 abbrev pub package_attr : List ObjectData → List ℕ → List ℕ → Option (List ℕ)
 package_attr objects refdes name = slice_get (filter_map (attr_in_package refdes name) objects) 0
 
+-- the package of a refdes
 abbrev pub package_of : List ObjectData → List ℕ → Package
 package_of objects refdes = record { refdes = refdes; device = package_attr objects refdes (codes "device"); value = package_attr objects refdes (codes "value"); footprint = package_attr objects refdes (codes "footprint") }
 

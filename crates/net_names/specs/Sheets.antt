@@ -41,6 +41,7 @@ abbrev pub pin_number : Option (List ℕ) → List ℕ
 pin_number None = codes "?"
 pin_number (Some value) = if is_word value then value else codes "?"
 
+-- the point across and up
 abbrev pub point : ℤ → ℤ → Point
 point across up = record { x = across; y = up }
 
@@ -72,6 +73,7 @@ net_pin p = of_shape p.shape
 abbrev pub net_pins : List PartData → List PinData
 net_pins parts = filter_map net_pin parts
 
+-- any byte but LF
 abbrev pub is_no_feed : ℕ → Bool
 is_no_feed b = not (b == 10)
 

@@ -1,6 +1,6 @@
 // The joints of each class, gathered in one pass.
 ghost use Rattle.std.specs.Prelude.{◌≡◌, length, replicate, IfOk, OnOk, Some};
-ghost use Rattle.net_names.specs.NetLists.{is_drawn_pin};
+ghost use Rattle.net_names.specs.NetClasses.{is_drawn_pin};
 ghost use Rattle.net_names.specs.Grouping.{ArePlaces, no_group, with_joint, gathered};
 
 use crate::joints::Joint;

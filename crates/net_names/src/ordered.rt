@@ -1,7 +1,8 @@
 // Classes in order of their least pins.
 ghost use Rattle.std.specs.Prelude.{◌≡◌, IfOk, OnOk, option_copied, slice_get};
 ghost use Rattle.std.specs.Option.{option_cmp};
-ghost use Rattle.net_names.specs.NetLists.{by_pin, has_pins, is_unnamed, is_unconnected};
+ghost use Rattle.net_names.specs.NetClasses.{by_pin, has_pins};
+ghost use Rattle.net_names.specs.NetLists.{is_unnamed, is_unconnected};
 ghost use Rattle.net_names.specs.Grouping.{class_of_group, with_class, in_order};
 
 use crate::groups::Group;
@@ -22,7 +23,7 @@ pub struct Class {
 
 impl Model for Class {
     ghost use Rattle.std.specs.Prelude.{false, []};
-    ghost use Rattle.net_names.specs.NetLists.{ClassData};
+    ghost use Rattle.net_names.specs.NetClasses.{ClassData};
 
     ghost Value = { ClassData };
 

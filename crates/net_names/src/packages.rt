@@ -83,7 +83,8 @@ fn attributes_of(alloc: Global, objects: &[Object]) -> Result<Attributes, AllocE
 }
 
 fn refdes_set(alloc: Global, objects: &[Object]) -> Result<BTreeSet<Line>, AllocError>
-    ensures { IfOk result (λ set. set.keys ≡ once_in_order by_bytes (filter_map refdes_of objects.now)) }
+    ensures { IfOk result (λ set. set.keys ≡ once_in_order by_bytes
+        (filter_map refdes_of objects.now)) }
 {
     let mut set = BTreeSet::new(alloc);
     for object in objects {

@@ -13,7 +13,7 @@ pub struct ClassPin {
 }
 
 impl Model for ClassPin {
-    ghost use Rattle.net_names.specs.NetLists.{Pin};
+    ghost use Rattle.net_names.specs.NetClasses.{Pin};
 
     ghost Value = { Pin };
 
@@ -24,7 +24,7 @@ impl PartialEq for ClassPin {
     ghost use Rattle.std.proofs.Common.{rules};
     ghost use Rattle.std.specs.Cmp.Rules.{comparing};
     ghost use Rattle.std.specs.Ordering.{eq_by_cmp};
-    ghost use Rattle.net_names.specs.NetLists.{by_member};
+    ghost use Rattle.net_names.specs.NetClasses.{by_member};
 
     ghost eq = { eq_by_cmp by_member };
 
@@ -48,7 +48,7 @@ impl PartialOrd for ClassPin {
     ghost use Rattle.std.specs.Cmp.{partial_order_from_own_ties};
     ghost use Rattle.std.specs.Cmp.Rules.{comparing};
     ghost use Rattle.std.specs.Ordering.{as_partial_cmp};
-    ghost use Rattle.net_names.specs.NetLists.{by_member};
+    ghost use Rattle.net_names.specs.NetClasses.{by_member};
 
     ghost partial_cmp = { as_partial_cmp by_member };
 
@@ -63,7 +63,7 @@ impl PartialOrd for ClassPin {
 impl Ord for ClassPin {
     ghost use Rattle.std.proofs.Common.{rules};
     ghost use Rattle.std.specs.Cmp.Rules.{comparing};
-    ghost use Rattle.net_names.specs.NetLists.{by_member};
+    ghost use Rattle.net_names.specs.NetClasses.{by_member};
 
     ghost cmp = { by_member };
 

@@ -186,7 +186,8 @@ fn push_component(
     component: &Component,
 ) -> Result<(), AllocError>
     requires { object.now.body ≡ bodies.Component component.now }
-    ensures { OnOk result (GrowsBy joints.old.items joints.new.items (flats_of_object id object.now)) }
+    ensures { OnOk result (GrowsBy joints.old.items joints.new.items
+        (flats_of_object id object.now)) }
 {
     let refdes = refdes_of(alloc, object)?;
     match &component.embedded {
@@ -203,7 +204,8 @@ fn push_shape(
 ) -> Result<(), AllocError>
     requires body { object.now.body ≡ bodies.Shape shape.now }
     requires plain { IsPlainObject object.now }
-    ensures { OnOk result (GrowsBy joints.old.items joints.new.items (flats_of_object id object.now)) }
+    ensures { OnOk result (GrowsBy joints.old.items joints.new.items
+        (flats_of_object id object.now)) }
 {
     match shape {
         Shape::Net { x1, y1, x2, y2, .. } => {
@@ -228,7 +230,8 @@ fn push_object(
     object: &Object,
 ) -> Result<(), AllocError>
     requires { IsPlainObject object.now }
-    ensures { OnOk result (GrowsBy joints.old.items joints.new.items (flats_of_object id object.now)) }
+    ensures { OnOk result (GrowsBy joints.old.items joints.new.items
+        (flats_of_object id object.now)) }
 {
     match &object.body {
         Body::Shape(shape) => push_shape(joints, id, object, shape),
