@@ -1,5 +1,5 @@
 -- Names, words, lines and texts, as lists of bytes (own).
-use Rattle.std.specs.Prelude.{◌≡◌, ℕ, ◌≤◌, ◌<◌, List, length, Bool, true, ◌||◌, ◌&&◌, nat_le, ◌==◌, ◌≢◌, slice_index, All}
+use Rattle.std.specs.Prelude.{◌≡◌, ℕ, ◌≤◌, ◌<◌, List, length, Bool, true, not, ◌||◌, ◌&&◌, nat_lt, nat_le, ◌==◌, ◌≢◌, slice_index, All}
 use Rattle.std.specs.List.{list_all}
 use Rattle.std.specs.Str.{is_utf8}
 
@@ -32,3 +32,11 @@ pub record IsWord (bytes : List ℕ) : Type 0 where
   pub text : is_utf8 bytes ≡ true
   pub short : length bytes ≤ 200
   pub word_bytes : All IsWordByte bytes
+
+-- the same of a byte, as a test
+abbrev pub is_word_byte : ℕ → Bool
+is_word_byte b = nat_lt 32 b && not (b == 127)
+
+-- the same of a word, as a test
+abbrev pub is_word : List ℕ → Bool
+is_word bytes = is_utf8 bytes && (nat_le (length bytes) 200 && list_all is_word_byte bytes)

@@ -1,9 +1,8 @@
 -- What a line says is read again from its words.
-use Rattle.std.proofs.Common.{◌≡◌, ℕ, ◌<◌, ◌≤◌, Bool, true, false, eqb, List, [], ◌∷◌, ◌++◌, length, Some, None, refl, arith, ℤ, inl, inr, codes}
-use Rattle.std.specs.List.{list_all, AllByRecursion}
+use Rattle.std.proofs.Common.{◌≡◌, ℕ, ◌<◌, ◌≤◌, Bool, true, false, eqb, List, [], ◌∷◌, ◌++◌, Some, None, refl, arith, ℤ, inl, inr, codes}
+use Rattle.std.specs.List.{AllByRecursion}
 use Rattle.std.specs.Prelude.{◌⊎◌}
 use Rattle.std.specs.Fmt.{decimal, signed_decimal}
-use Rattle.std.proofs.lemmas.Bool.{le-leb}
 use Rattle.std.proofs.lemmas.Bool.Decides.{nat_tests}
 use Rattle.std.proofs.lemmas.List.Elements.{recursion_from_All}
 use Rattle.geda_model.specs.Data.{TextData}
@@ -14,7 +13,9 @@ use Rattle.geda_model.specs.Sheets.{HeadData, IsHead}
 use Rattle.geda_model.specs.declared.shape.Shape.TheVariants.{Net, Pin}
 use Rattle.geda_read.specs.declared.said.Said.TheVariants as said
 use Rattle.geda_read.specs.Spelling.{eight_digits, line_count, net_words, pin_words, text_words, component_words}
-use Rattle.geda_read.specs.Fields.{is_word, is_word_byte, word_of, embedded_at}
+use Rattle.geda_model.specs.Names.{is_word}
+use Rattle.geda_model.proofs.WordTests.{is_word-from_IsWord}
+use Rattle.geda_read.specs.Fields.{word_of, embedded_at}
 use Rattle.geda_read.specs.Says.{version_at, net_at, pin_at, text_at, component_at, said_of}
 use Rattle.geda_read.specs.Placing.{with_content}
 use Rattle.geda_read.proofs.NumbersAgain.{number_again, natural_again, flag_again, angle_again, date_again}
@@ -102,18 +103,11 @@ component_graphic c r =
     let name : IsGraphic (codes "EMBEDDED" ++ c.basename) = record { some = omega arith; above = (omega arith, (omega arith, (omega arith, (omega arith, (omega arith, (omega arith, (omega arith, (omega arith, word_graphic c.basename (recursion_from_All IsWordByte c.basename r.basename.word_bytes))))))))) } in
     (letter_graphic 67 (omega arith), (coordinate_graphic c.x r.x, (coordinate_graphic c.y r.y, (flag_graphic c.selectable, (angle_graphic c.angle r.angle, (flag_graphic c.mirror, (name, tt)))))))
 
--- the bytes of a name pass the test of the reader
-word_bytes : (w : List ℕ) → AllByRecursion IsWordByte w → list_all is_word_byte w ≡ true
-word_bytes [] h = refl
-word_bytes (b ∷ bs) h =
-    let one : is_word_byte b ≡ true = grind (arith, nat_tests, h.0.0, h.0.1) in
-    rw (one, word_bytes bs h.1) refl
-
 -- the name of an embedded symbol
 embedded_again : (w : List ℕ) (words : List (List ℕ)) → IsWord w → embedded_at ((codes "EMBEDDED" ++ w) ∷ words) ≡ Some (w, words)
 unfolding embedded_at word_of
 embedded_again w words r =
-    let text : is_word w ≡ true = rw (r.text, le-leb (length w) 200 r.short, word_bytes w (recursion_from_All IsWordByte w r.word_bytes)) refl in
+    let text : is_word w ≡ true = is_word-from_IsWord w r in
     rw text refl
 
 pub component_said : (c : ComponentData) → IsComponent c → said_of (component_words c (codes "EMBEDDED" ++ c.basename)) ≡ Some (said.Component (record { x = c.x; y = c.y; selectable = c.selectable; angle = c.angle; mirror = c.mirror; basename = c.basename; embedded = None }))

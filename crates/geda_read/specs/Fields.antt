@@ -1,11 +1,11 @@
 -- Fields of a line, from its first word on.
-use Rattle.std.specs.Prelude.{◌≡◌, ℕ, ℤ, pos, negsuc, Bool, not, ◌&&◌, ◌||◌, List, [], ◌∷◌, length, take, drop, codes, Option, Some, None, Result, Ok, Err, option_and_then, nat_le, nat_lt, ◌==◌, unsigned_abs, if◌then◌else◌}
-use Rattle.std.specs.List.{list_all}
-use Rattle.std.specs.Str.{is_utf8, bytes_eq}
+use Rattle.std.specs.Prelude.{◌≡◌, ℕ, ℤ, pos, negsuc, Bool, ◌||◌, List, [], ◌∷◌, take, drop, codes, Option, Some, None, Result, Ok, Err, option_and_then, nat_le, ◌==◌, unsigned_abs, if◌then◌else◌}
+use Rattle.std.specs.Str.{bytes_eq}
 use Rattle.geda_read.specs.declared.fault.ReadFault.{ReadFault}
 use Rattle.geda_read.specs.declared.fault.ReadFault.TheVariants as faults
 use Rattle.geda_model.specs.declared.name.NameFault.{NameFault}
 use Rattle.geda_model.specs.declared.name.NameFault.TheVariants as names
+use Rattle.geda_model.specs.Names.{is_word}
 use Rattle.geda_read.specs.Words.{whole_of}
 
 -- what follows reads on from what was read, if something was
@@ -58,14 +58,6 @@ unfoldable pub angle_at : List (List ℕ) → Option (ℕ × List (List ℕ))
 angle_at words = do
   n ← natural_at 270 words
   if (n.0 == 0) || ((n.0 == 90) || ((n.0 == 180) || (n.0 == 270))) then Some n else None
-
--- above the space, and not DEL
-abbrev pub is_word_byte : ℕ → Bool
-is_word_byte b = nat_lt 32 b && not (b == 127)
-
--- UTF-8 of at most 200 bytes without space, tab and control bytes
-abbrev pub is_word : List ℕ → Bool
-is_word bytes = is_utf8 bytes && (nat_le (length bytes) 200 && list_all is_word_byte bytes)
 
 -- the word that bytes are, if they are one
 unfoldable pub word_of : List ℕ → Option (List ℕ)

@@ -1,11 +1,11 @@
 -- Words and lines by their tests, and what an object without an attribute has attached.
-use Rattle.std.proofs.Common.{◌≡◌, ℕ, ℤ, true, false, ◌&&◌, List, [], ◌∷◌, Some, None, Bool, length, get_or, nat_le, refl, arith}
+use Rattle.std.proofs.Common.{◌≡◌, ℕ, ℤ, true, false, List, [], ◌∷◌, Some, None, Bool, get_or, refl, arith}
 use Rattle.std.specs.Prelude.{codes}
 use Rattle.std.specs.List.{list_all, slice_get}
 use Rattle.std.specs.Str.{is_utf8}
 use Rattle.std.proofs.lemmas.Bool.Decides.{nat_tests}
 use Rattle.std.proofs.lemmas.List.Sums.{list_all-from_AllPass, AllPass-from_list_all}
-use Rattle.geda_model.specs.Names.{IsWord, IsWordByte, IsLine, IsLineByte}
+use Rattle.geda_model.specs.Names.{IsWord, IsLine, IsLineByte}
 use Rattle.geda_model.specs.Sheets.{ObjectData}
 use Rattle.attr_rules.specs.Attributes.{attr, attrs, attached, or_else}
 use Rattle.attr_rules.specs.Plain.{HasNo, IsPlainObject}
@@ -14,26 +14,15 @@ use Rattle.geda_model.specs.declared.object.Body.TheVariants as bodies
 use Rattle.geda_geom.specs.declared.conductor.Point.{Point}
 use Rattle.geda_geom.specs.declared.conductor.Conductor.TheVariants.{Segment}
 use Rattle.net_names.specs.Flattening.{Flat}
-use Rattle.net_names.specs.Sheets.{flats_of_object, is_word, is_word_byte, is_no_feed, pin_number, if_line, point}
-
-word_byte : (b : ℕ) → IsWordByte b → is_word_byte b ≡ true
-word_byte b h = grind (arith, nat_tests)
-
-IsWordByte-from_test : (b : ℕ) → is_word_byte b ≡ true → IsWordByte b
-IsWordByte-from_test b h = grind (arith, nat_tests)
+use Rattle.geda_model.specs.Names.{is_word}
+use Rattle.geda_model.proofs.WordTests.{is_word-from_IsWord, IsWord-from_is_word}
+use Rattle.net_names.specs.Sheets.{flats_of_object, is_no_feed, pin_number, if_line, point}
 
 line_byte : (b : ℕ) → IsLineByte b → is_no_feed b ≡ true
 line_byte b h = grind (arith, nat_tests)
 
 IsLineByte-from_test : (b : ℕ) → is_no_feed b ≡ true → IsLineByte b
 IsLineByte-from_test b h = grind (arith, nat_tests)
-
-is_word-from_IsWord : (bs : List ℕ) → IsWord bs → is_word bs ≡ true
-is_word-from_IsWord bs w =
-    let bytes : list_all is_word_byte bs ≡ true =
-    list_all-from_AllPass is_word_byte bs (λ k d lt. word_byte (get_or bs k d) (w.word_bytes k d lt)) in
-    let short : nat_le (length bs) 200 ≡ true = grind (arith, nat_tests, w.short) in
-    rw (w.text, short, bytes) refl
 
 is_line-from_IsLine : (bs : List ℕ) → IsLine bs → list_all is_no_feed bs ≡ true
 is_line-from_IsLine bs line =
@@ -44,21 +33,6 @@ IsLine-from_test bs text e = record {
   text = text;
   line_bytes = λ k d lt. IsLineByte-from_test (get_or bs k d) (AllPass-from_list_all is_no_feed bs e k d lt);
 }
-
-three : (a b c : Bool) → (a && (b && c)) ≡ true → (a ≡ true) × (b ≡ true) × (c ≡ true)
-three true true true e = (refl, refl, refl)
-three true true false e = absurd (let h : false ≡ true = e in cc)
-three true false c e = absurd (let h : false ≡ true = e in cc)
-three false b c e = absurd (let h : false ≡ true = e in cc)
-
-IsWord-from_is_word : (bs : List ℕ) → is_word bs ≡ true → IsWord bs
-IsWord-from_is_word bs e =
-    let parts = three (is_utf8 bs) (nat_le (length bs) 200) (list_all is_word_byte bs) e in
-    record {
-      text = parts.0;
-      short = grind (arith, nat_tests, parts.1);
-      word_bytes = λ k d lt. IsWordByte-from_test (get_or bs k d) (AllPass-from_list_all is_word_byte bs parts.2 k d lt);
-    }
 
 refuted : (b : Bool) → (b ≡ true → ⊥) → b ≡ false
 refuted true h = absurd (h refl)

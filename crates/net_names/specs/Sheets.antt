@@ -1,12 +1,12 @@
 -- What joins on a sheet whose components have their symbols embedded (gEDA master attribute document;
 -- that embedded symbols stand in sheet coordinates is own).
-use Rattle.std.specs.Prelude.{ℕ, ℤ, ◌+◌, ◌==◌, ◌&&◌, not, nat_lt, nat_le, if◌then◌else◌, Bool, true, false, List, [], ◌∷◌, ◌++◌, Option, Some, None, length, codes}
+use Rattle.std.specs.Prelude.{ℕ, ℤ, ◌+◌, ◌==◌, not, if◌then◌else◌, Bool, true, false, List, [], ◌∷◌, ◌++◌, Option, Some, None, codes}
 use Rattle.std.specs.List.{filter_map, slice_get, list_all}
-use Rattle.std.specs.Str.{is_utf8}
 use Rattle.geda_model.specs.declared.shape.Shape.{Shape}
 use Rattle.geda_model.specs.declared.shape.Shape.TheVariants as shapes
 use Rattle.geda_model.specs.declared.object.Body.{Body}
 use Rattle.geda_model.specs.declared.object.Body.TheVariants as bodies
+use Rattle.geda_model.specs.Names.{is_word}
 use Rattle.geda_model.specs.Data.{TextData}
 use Rattle.geda_model.specs.Shapes.{PartData}
 use Rattle.geda_model.specs.Sheets.{ObjectData, SheetData}
@@ -27,14 +27,6 @@ pub record PinData : Type 0 where
 -- a pin's first attached attribute of a name
 abbrev pub pin_attr : List TextData → List ℕ → Option (List ℕ)
 pin_attr attrs name = slice_get (values_named name attrs) 0
-
--- no space, tab or control byte
-abbrev pub is_word_byte : ℕ → Bool
-is_word_byte b = nat_lt 32 b && not (b == 127)
-
--- the test of a Word
-abbrev pub is_word : List ℕ → Bool
-is_word bytes = is_utf8 bytes && (nat_le (length bytes) 200 && list_all is_word_byte bytes)
 
 -- the `pinnumber`, if it is there and a Word, else `?`
 abbrev pub pin_number : Option (List ℕ) → List ℕ
