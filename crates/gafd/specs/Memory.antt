@@ -1,6 +1,8 @@
 -- What the folder and the sink in memory hold (own).
-use Rattle.std.specs.Prelude.{ℕ, ◌+◌, ◌-◌, ◌^◌, ◌<◌, ◌⊎◌, min, List, [], ◌∷◌, Option, Some, None, if◌then◌else◌, Contains}
+use Rattle.std.specs.Prelude.{ℕ, ◌+◌, ◌-◌, ◌^◌, ◌<◌, ◌⊎◌, min, List, [], ◌∷◌, Option, Some, None, if◌then◌else◌, Contains, Vec, map}
 use Rattle.std.specs.Str.{bytes_eq}
+use Rattle.std.specs.declared.alloc.Global.{Global}
+use Rattle.std.specs.BTreeMap.{BTreeMap}
 
 -- files by name, the numbers of the calls that fail, and how many calls there were and failed
 pub record MemoryFolderData : Type 0 where
@@ -16,6 +18,10 @@ pub record MemorySinkData : Type 0 where
   pub failing : List ℕ
   pub calls : ℕ
   pub faults : ℕ
+
+-- the files of a map, in order of their names
+abbrev pub files_in : BTreeMap (List ℕ) (Vec ℕ Global) → List (List ℕ × List ℕ)
+files_in files = map (λ e. (e.0, e.1.items)) files.entries
 
 -- the file of a name
 abbrev pub file_in : List (List ℕ × List ℕ) → List ℕ → Option (List ℕ)

@@ -1,11 +1,11 @@
 // A folder of files, and one in memory.
-ghost use Rattle.std.specs.Prelude.{◌≡◌, ℕ, List, Option, take, map, option_copied};
-ghost use Rattle.gafd.specs.Memory.{file_in};
+ghost use Rattle.std.specs.Prelude.{◌≡◌, ℕ, Option, take, option_copied};
+ghost use Rattle.gafd.specs.Memory.{file_in, files_in};
 ghost use Rattle.geda_defs.specs.Causes.{HasCause};
 ghost use Rattle.geda_defs.specs.Contents.{Files, KeepsFiles, ReadsFile};
 ghost use Rattle.gafd.specs.declared.folder.FolderFault.TheVariants.{NoMemory};
 
-use crate::sink::is_listed;
+use crate::calls::is_listed;
 use geda_model::Name;
 use std::alloc::{AllocError, Global};
 use std::collections::BTreeMap;
@@ -56,17 +56,15 @@ pub struct MemoryFolder {
 }
 
 impl Model for MemoryFolder {
-    ghost use Rattle.std.specs.Prelude.{map};
-    ghost use Rattle.gafd.specs.Memory.{MemoryFolderData};
+    ghost use Rattle.gafd.specs.Memory.{MemoryFolderData, files_in};
 
     ghost Value = { MemoryFolderData };
 
-    ghost view = { λ m. record { files = map (λ e. (e.0, e.1.items)) m.files.entries; failing = m.failing.items; calls = m.calls; faults = m.faults } };
+    ghost view = { λ m. record { files = files_in m.files; failing = m.failing.items; calls = m.calls; faults = m.faults } };
 }
 
 fn find_file<'a>(files: &'a BTreeMap<Name, Vec<u8>>, name: &str) -> Option<&'a [u8]>
-    ensures { option_copied result ≡ file_in (map (λ e. (e.0, e.1.items)) files.now.entries)
-        name.now }
+    ensures { option_copied result ≡ file_in (files_in files.now) name.now }
 {
     for (key, bytes) in files {
         if key.as_str() == name {
@@ -86,12 +84,12 @@ fn first_bytes(bytes: &[u8]) -> &[u8]
 }
 
 impl MemoryFolder {
-    ghost use Rattle.std.specs.Prelude.{◌≡◌, option_copied, map};
-    ghost use Rattle.gafd.specs.Memory.{file_in};
+    ghost use Rattle.std.specs.Prelude.{◌≡◌, option_copied};
+    ghost use Rattle.gafd.specs.Memory.{file_in, files_in};
 
     /// A folder of these files. The calls whose numbers are in `failing`, counted from 1, fail.
     pub fn new(files: BTreeMap<Name, Vec<u8>>, failing: Vec<u64>) -> MemoryFolder
-        ensures files { result.files ≡ map (λ e. (e.0, e.1.items)) files.entries }
+        ensures files { result.files ≡ files_in files }
         ensures failing { result.failing ≡ failing.items }
         ensures calls { result.calls ≡ 0 }
         ensures faults { result.faults ≡ 0 }

@@ -1,9 +1,9 @@
 // The list text of a net list.
-ghost use Rattle.std.specs.Prelude.{◌≡◌, ◌++◌, ◌∷◌, [], IfOk, OnOk, option_copied, map};
+ghost use Rattle.std.specs.Prelude.{◌≡◌, ◌++◌, ◌∷◌, IfOk, OnOk, map};
 ghost use Rattle.std.specs.List.{flat_map};
 ghost use Rattle.std.specs.Fmt.{decimal};
 ghost use Rattle.geda_defs.specs.Lines.{ended, spaced};
-ghost use Rattle.gafd.specs.ListText.{field, flat, flat_byte, is_break, list_text, member_text, net_line, net_text, package_line, package_text, word, word_byte};
+ghost use Rattle.gafd.specs.ListText.{field, flat, flat_byte, is_break, list_text, member_text, net_text, package_text, word, word_byte};
 
 use geda_model::Block;
 use net_names::{Member, Net, Nets, Package};

@@ -4,6 +4,7 @@
 //! statuses: docs/FORMATS.md. Definitions: specs/Program.antt, specs/ListText.antt.
 #![tactic(auto)]
 
+mod calls;
 mod fault;
 mod folder;
 mod list_text;

@@ -1,5 +1,5 @@
 // The whole program, over any folder and sinks.
-ghost use Rattle.std.specs.Prelude.{◌≡◌, ◌≢◌, ◌↔◌, ◌⊎◌, ◌==◌, [], ⊤, not, ℕ, List, IfOk, OnOk, IsErrOf, MatchResult, slice_index, string_bytes};
+ghost use Rattle.std.specs.Prelude.{◌≡◌, ◌≢◌, ◌⊎◌, ◌==◌, [], ⊤, not, ℕ, List, IfOk, OnOk, IsErrOf, MatchResult, slice_index};
 ghost use Rattle.geda_defs.specs.Causes.{HasRisen};
 ghost use Rattle.geda_defs.specs.Contents.{KeepsFiles};
 ghost use Rattle.geda_model.specs.Sheets.{SheetData};

@@ -1,8 +1,9 @@
 // Where bytes go, and a sink in memory.
-ghost use Rattle.std.specs.Prelude.{◌↔◌, ℕ, List, Option, Contains, IsTrue};
+ghost use Rattle.std.specs.Prelude.{ℕ, List, Option};
 ghost use Rattle.geda_defs.specs.Causes.{HasCause};
 ghost use Rattle.geda_defs.specs.Contents.{Writes};
 
+use crate::calls::is_listed;
 use std::alloc::{AllocError, Global};
 use std::marker::Model;
 
@@ -112,11 +113,4 @@ impl Sink for MemorySink {
         self.room -= piece.len();
         Ok(())
     }
-}
-
-/// Whether the number of a call stands in a list. It takes no memory.
-pub fn is_listed(calls: &[u64], call: u64) -> bool
-    ensures { IsTrue result ↔ Contains calls.now call }
-{
-    calls.contains(&call)
 }
