@@ -1,15 +1,16 @@
 -- The ranges of fields (gEDA File Format Document; the bounds are own).
 use Rattle.std.specs.Prelude.{◌≡◌, ℕ, ◌≤◌, ◌<◌, ℤ, List, [], ◌∷◌, ◌⊎◌, Bool, false, true, ◌==◌, ◌&&◌, ◌||◌, length, unsigned_abs, count_by, slice_index, ◌-◌}
 use Rattle.std.specs.Str.{is_utf8}
+use Rattle.geda_model.specs.Limits.{greatest_coordinate, greatest_number, most_lines}
 use Rattle.geda_model.specs.Data.{TextData, StrokeData, FillData}
 
 -- a coordinate, in mils
 abbrev pub IsCoordinate : ℤ → Type 0
-IsCoordinate z = unsigned_abs z ≤ 200000
+IsCoordinate z = unsigned_abs z ≤ greatest_coordinate
 
 -- any other number
 abbrev pub IsNumber : ℤ → Type 0
-IsNumber z = unsigned_abs z ≤ 1000000
+IsNumber z = unsigned_abs z ≤ greatest_number
 
 -- an angle in degrees: 0, 90, 180 or 270
 abbrev pub IsAngle : ℕ → Type 0
@@ -32,7 +33,7 @@ line_feeds bytes = count_by (λ b. b == 10) bytes
 -- the content of a text or a path: UTF-8 of 1 to 10,000 lines, none of which ends in CR
 pub record IsContent (bytes : List ℕ) : Type 0 where
   pub text : is_utf8 bytes ≡ true
-  pub lines : line_feeds bytes < 10000
+  pub lines : line_feeds bytes < most_lines
   pub no_cr : has_cr_end bytes ≡ false
 
 -- the first line is a single `.`

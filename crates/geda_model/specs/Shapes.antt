@@ -1,5 +1,5 @@
 -- Shapes, parts and components, and the ranges that they keep (gEDA File Format Document).
-use Rattle.std.specs.Prelude.{ℕ, ℤ, ◌≤◌, Bool, List, Option, Some, None, All, unsigned_abs}
+use Rattle.std.specs.Prelude.{ℕ, ℤ, ◌≤◌, Bool, List, Option, Some, None, All, length, unsigned_abs}
 use Rattle.geda_model.specs.declared.shape.Shape.{Shape}
 use Rattle.geda_model.specs.declared.shape.Shape.TheVariants.{Straight, Picture, Rect, Circle, Arc, Text, Net, Bus, Pin, Path}
 use Rattle.geda_model.specs.Names.{IsLine, IsWord}
@@ -31,16 +31,27 @@ IsEmbeddedData (Some lines) = IsPictureData lines
 
 -- each field of the shape is in its range
 abbrev pub ShapeIsInRange : Shape → Type 0
-ShapeIsInRange (Straight x1 y1 x2 y2 color stroke) = IsSegment x1 y1 x2 y2 color × IsStroke stroke
-ShapeIsInRange (Picture x y width height angle mirrored file embedded) = IsPoint x y × IsNumber width × IsNumber height × IsAngle angle × IsLine file × IsEmbeddedData embedded
-ShapeIsInRange (Rect x y width height color stroke fill) = IsPoint x y × IsNumber width × IsNumber height × IsNumber color × IsStroke stroke × IsFill fill
-ShapeIsInRange (Circle x y radius color stroke fill) = IsPoint x y × IsNumber radius × IsNumber color × IsStroke stroke × IsFill fill
-ShapeIsInRange (Arc x y radius start sweep color stroke) = IsPoint x y × IsNumber radius × IsNumber start × IsNumber sweep × IsNumber color × IsStroke stroke
+ShapeIsInRange (Straight x1 y1 x2 y2 color stroke) =
+    IsSegment x1 y1 x2 y2 color × IsStroke stroke
+ShapeIsInRange (Picture x y width height angle mirrored file embedded) =
+    IsPoint x y × IsNumber width × IsNumber height
+    × IsAngle angle × IsLine file × IsEmbeddedData embedded
+ShapeIsInRange (Rect x y width height color stroke fill) =
+    IsPoint x y × IsNumber width × IsNumber height
+    × IsNumber color × IsStroke stroke × IsFill fill
+ShapeIsInRange (Circle x y radius color stroke fill) =
+    IsPoint x y × IsNumber radius × IsNumber color × IsStroke stroke × IsFill fill
+ShapeIsInRange (Arc x y radius start sweep color stroke) =
+    IsPoint x y × IsNumber radius × IsNumber start
+    × IsNumber sweep × IsNumber color × IsStroke stroke
 ShapeIsInRange (Text t) = IsText t
 ShapeIsInRange (Net x1 y1 x2 y2 color) = IsSegment x1 y1 x2 y2 color
-ShapeIsInRange (Bus x1 y1 x2 y2 color ripper) = IsSegment x1 y1 x2 y2 color × (unsigned_abs ripper ≤ 1)
-ShapeIsInRange (Pin x1 y1 x2 y2 color bus whichend) = IsSegment x1 y1 x2 y2 color × (whichend ≤ 1)
-ShapeIsInRange (Path color stroke fill content) = IsNumber color × IsStroke stroke × IsFill fill × IsContent content
+ShapeIsInRange (Bus x1 y1 x2 y2 color ripper) =
+    IsSegment x1 y1 x2 y2 color × (unsigned_abs ripper ≤ 1)
+ShapeIsInRange (Pin x1 y1 x2 y2 color bus whichend) =
+    IsSegment x1 y1 x2 y2 color × (whichend ≤ 1)
+ShapeIsInRange (Path color stroke fill content) =
+    IsNumber color × IsStroke stroke × IsFill fill × IsContent content
 
 -- so is each field of a part
 pub record PartIsInRange (p : PartData) : Type 0 where
@@ -64,10 +75,15 @@ pub record IsComponent (c : ComponentData) : Type 0 where
   pub angle : IsAngle c.angle
   pub basename : IsWord c.basename
 
--- so is each part of a symbol, where it is embedded
+-- so is each part of a symbol, and they are at most 4,294,967,295
+pub record ArePartsInRange (parts : List PartData) : Type 0 where
+  pub each : All PartIsInRange parts
+  pub few : length parts ≤ 4294967295
+
+-- the same of a component's symbol, where it is embedded
 abbrev pub EmbeddedIsInRange : Option (List PartData) → Type 0
 EmbeddedIsInRange None = Unit {0}
-EmbeddedIsInRange (Some parts) = All PartIsInRange parts
+EmbeddedIsInRange (Some parts) = ArePartsInRange parts
 
 -- and those of its embedded symbol
 pub record ComponentIsInRange (c : ComponentData) : Type 0 where

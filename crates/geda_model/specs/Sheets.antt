@@ -1,20 +1,15 @@
 -- Objects, sheets and symbols.
-use Rattle.std.specs.Prelude.{ℕ, ◌<◌, ◌≡◌, ◌⊎◌, List, All}
+use Rattle.std.specs.Prelude.{ℕ, ◌<◌, ◌≤◌, ◌≡◌, ◌⊎◌, List, All, length}
 use Rattle.geda_model.specs.declared.object.Body.{Body}
 use Rattle.geda_model.specs.declared.object.Body.TheVariants.{Shape, Component}
 use Rattle.geda_model.specs.Data.{TextData}
 use Rattle.geda_model.specs.Ranges.{IsText}
-use Rattle.geda_model.specs.Shapes.{PartData, ShapeIsInRange, ComponentIsInRange}
+use Rattle.geda_model.specs.Shapes.{PartData, ShapeIsInRange, ComponentIsInRange, ArePartsInRange}
 
 -- an object of a sheet, with its attached texts
 pub record ObjectData : Type 0 where
   pub body : Body
   pub attrs : List TextData
-
--- what a body keeps by itself: a component keeps its own ranges
-abbrev pub ShapeBodyIsInRange : Body → Type 0
-ShapeBodyIsInRange (Shape s) = ShapeIsInRange s
-ShapeBodyIsInRange (Component c) = Unit {0}
 
 -- each field of a shape or of a component, with its symbol
 abbrev pub BodyIsInRange : Body → Type 0
@@ -25,6 +20,11 @@ BodyIsInRange (Component c) = ComponentIsInRange c
 pub record ObjectIsInRange (o : ObjectData) : Type 0 where
   pub body : BodyIsInRange o.body
   pub attrs : All IsText o.attrs
+
+-- each object is, and they are at most 4,294,967,295
+pub record AreObjectsInRange (objects : List ObjectData) : Type 0 where
+  pub each : All ObjectIsInRange objects
+  pub few : length objects ≤ 4294967295
 
 -- the version line: eight digits of a date, and the format
 pub record HeadData : Type 0 where
@@ -49,4 +49,9 @@ pub record SymbolData : Type 0 where
 -- each number and text of the sheet is in its range
 pub record SheetIsInRange (s : SheetData) : Type 0 where
   pub head : IsHead s.head
-  pub objects : All ObjectIsInRange s.objects
+  pub objects : AreObjectsInRange s.objects
+
+-- so is each of the symbol
+pub record SymbolIsInRange (s : SymbolData) : Type 0 where
+  pub head : IsHead s.head
+  pub parts : ArePartsInRange s.parts

@@ -5,16 +5,21 @@
 //! type as plain data (specs/Data.antt, Shapes.antt, Sheets.antt). Rule: docs/RULES.md, "Ranges".
 #![tactic(auto)]
 
+mod items;
+mod limits;
 mod name;
 mod object;
 mod shape;
-#[cfg(test)]
-mod tests;
 mod text;
 mod word;
 
+pub use items::Items;
+pub use limits::{
+    GREATEST_COORDINATE, GREATEST_NUMBER, MOST_EMBEDDED_BYTES, MOST_FILE_BYTES, MOST_LINES,
+    MOST_NAME_BYTES, MOST_OBJECTS, MOST_WORD_BYTES,
+};
 pub use name::{Name, NameFault};
 pub use object::{Body, Component, Head, Object, Objects, Sheet, Symbol};
 pub use shape::{Fill, Part, Parts, Shape, Stroke};
-pub use text::{Block, Text, Texts, is_content};
+pub use text::{Block, Text, Texts, is_content, line_feeds};
 pub use word::{Line, Word};

@@ -4,6 +4,7 @@ ghost use Rattle.std.specs.List.{list_all};
 ghost use Rattle.geda_model.specs.Names.{IsName, is_name_byte};
 ghost use Rattle.geda_model.specs.declared.name.NameFault.TheVariants.{NoMemory};
 
+use crate::limits::MOST_NAME_BYTES;
 use std::alloc::{AllocError, Global};
 use std::cmp::Ordering;
 use std::marker::Model;
@@ -59,7 +60,7 @@ fn are_name_bytes(bytes: &[u8]) -> bool
 fn is_name(bytes: &[u8]) -> bool
     ensures { IsTrue result ↔ IsName bytes.now }
 {
-    if bytes.is_empty() || bytes.len() > 100 {
+    if bytes.is_empty() || bytes.len() > MOST_NAME_BYTES {
         return false;
     }
     if bytes[0] == b'.' {

@@ -2,6 +2,7 @@
 use crate::shape::{Parts, Shape};
 use crate::text::Texts;
 use crate::word::Word;
+use std::alloc::{AllocError, Global};
 use std::marker::Model;
 
 /// A placed symbol.
@@ -24,13 +25,13 @@ pub struct Component {
 }
 
 impl Model for Component {
-    ghost use Rattle.geda_model.specs.Shapes.{ComponentData, IsComponent};
+    ghost use Rattle.geda_model.specs.Shapes.{ComponentData, ComponentIsInRange};
 
     ghost Value = { ComponentData };
 
     ghost view = { λ c. record { x = c.x; y = c.y; selectable = c.selectable; angle = c.angle; mirror = c.mirror; basename = c.basename; embedded = c.embedded } };
 
-    ghost invariant = { λ c. IsComponent (record { x = c.x; y = c.y; selectable = c.selectable; angle = c.angle; mirror = c.mirror; basename = c.basename; embedded = c.embedded }) };
+    ghost invariant = { λ c. ComponentIsInRange (record { x = c.x; y = c.y; selectable = c.selectable; angle = c.angle; mirror = c.mirror; basename = c.basename; embedded = c.embedded }) };
 }
 
 /// What an object is.
@@ -52,47 +53,60 @@ pub struct Object {
 }
 
 impl Model for Object {
-    ghost use Rattle.geda_model.specs.Sheets.{ObjectData, ShapeBodyIsInRange};
+    ghost use Rattle.geda_model.specs.Sheets.{ObjectData, ObjectIsInRange};
 
     ghost Value = { ObjectData };
 
     ghost view = { λ o. record { body = o.body; attrs = o.attrs } };
 
-    ghost invariant = { λ o. ShapeBodyIsInRange o.body };
+    ghost invariant = { λ o. ObjectIsInRange (record { body = o.body; attrs = o.attrs }) };
 }
 
-/// The objects of a sheet in order, at most 4,294,967,295.
+/// The objects of a sheet in order, each in its ranges, at most 4,294,967,295.
 #[derive(Debug, Drop)]
 pub struct Objects {
     list: Vec<Object>,
 }
 
 impl Model for Objects {
-    ghost use Rattle.std.specs.Prelude.{List, length, ◌≤◌};
-    ghost use Rattle.geda_model.specs.Sheets.{ObjectData};
+    ghost use Rattle.std.specs.Prelude.{List};
+    ghost use Rattle.geda_model.specs.Sheets.{AreObjectsInRange, ObjectData};
 
     ghost Value = { List ObjectData };
 
     ghost view = { λ p. p.list.items };
 
-    ghost invariant = { λ p. length p.list.items ≤ 4294967295 };
+    ghost invariant = { λ p. AreObjectsInRange p.list.items };
 }
 
 impl Objects {
-    ghost use Rattle.std.specs.Prelude.{◌≡◌, ◌≤◌, length};
+    ghost use Rattle.std.specs.Prelude.{◌≡◌, ◌<◌, ◌++◌, ◌∷◌, [], OnErr, OnOk, length};
+    ghost use Rattle.geda_model.specs.Sheets.{AreObjectsInRange};
 
-    /// The objects of a list, which has at most 4,294,967,295. It takes no memory.
-    pub fn from_vec(list: Vec<Object>) -> Objects
-        requires { length list.items ≤ 4294967295 }
-        ensures { result ≡ list.items }
+    /// No object. It takes no memory.
+    pub fn new(alloc: Global) -> Objects
+        ensures { result ≡ [] }
     {
-        Objects { list }
+        Objects {
+            list: Vec::new(alloc),
+        }
+    }
+
+    /// Puts an object behind the others, which are fewer than 4,294,967,295. On want of memory they
+    /// stay as they are.
+    pub fn push(&mut self, object: Object) -> Result<(), AllocError>
+        requires { length self.old < 4294967295 }
+        ensures ok { OnOk result (self.new ≡ self.old ++ object ∷ []) }
+        ensures err { OnErr result (self.new ≡ self.old) }
+    {
+        self.list.push(object)?;
+        Ok(())
     }
 
     /// The objects, in order. It takes no memory.
     pub fn as_slice(&self) -> &[Object]
         ensures objects { result.now ≡ self.now }
-        ensures few { length self.now ≤ 4294967295 }
+        ensures in_range { AreObjectsInRange self.now }
     {
         self.list.as_slice()
     }
@@ -129,11 +143,13 @@ pub struct Sheet {
 }
 
 impl Model for Sheet {
-    ghost use Rattle.geda_model.specs.Sheets.{SheetData};
+    ghost use Rattle.geda_model.specs.Sheets.{SheetData, SheetIsInRange};
 
     ghost Value = { SheetData };
 
     ghost view = { λ s. record { head = s.head; objects = s.objects } };
+
+    ghost invariant = { λ s. SheetIsInRange (record { head = s.head; objects = s.objects }) };
 }
 
 /// A symbol of a library.
@@ -146,9 +162,11 @@ pub struct Symbol {
 }
 
 impl Model for Symbol {
-    ghost use Rattle.geda_model.specs.Sheets.{SymbolData};
+    ghost use Rattle.geda_model.specs.Sheets.{SymbolData, SymbolIsInRange};
 
     ghost Value = { SymbolData };
 
     ghost view = { λ s. record { head = s.head; parts = s.parts } };
+
+    ghost invariant = { λ s. SymbolIsInRange (record { head = s.head; parts = s.parts }) };
 }

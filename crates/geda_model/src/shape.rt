@@ -1,6 +1,7 @@
 // What is drawn, on a sheet or in a symbol.
 use crate::text::{Block, Text, Texts};
 use crate::word::Line;
+use std::alloc::{AllocError, Global};
 use std::marker::Model;
 
 /// How a line is drawn. Each number is -1,000,000 to 1,000,000.
@@ -164,47 +165,60 @@ pub struct Part {
 }
 
 impl Model for Part {
-    ghost use Rattle.geda_model.specs.Shapes.{PartData, ShapeIsInRange};
+    ghost use Rattle.geda_model.specs.Shapes.{PartData, PartIsInRange};
 
     ghost Value = { PartData };
 
     ghost view = { λ p. record { shape = p.shape; attrs = p.attrs } };
 
-    ghost invariant = { λ p. ShapeIsInRange p.shape };
+    ghost invariant = { λ p. PartIsInRange (record { shape = p.shape; attrs = p.attrs }) };
 }
 
-/// The parts of a symbol in order, at most 4,294,967,295.
+/// The parts of a symbol in order, each in its ranges, at most 4,294,967,295.
 #[derive(Debug, Drop)]
 pub struct Parts {
     list: Vec<Part>,
 }
 
 impl Model for Parts {
-    ghost use Rattle.std.specs.Prelude.{List, length, ◌≤◌};
-    ghost use Rattle.geda_model.specs.Shapes.{PartData};
+    ghost use Rattle.std.specs.Prelude.{List};
+    ghost use Rattle.geda_model.specs.Shapes.{ArePartsInRange, PartData};
 
     ghost Value = { List PartData };
 
     ghost view = { λ p. p.list.items };
 
-    ghost invariant = { λ p. length p.list.items ≤ 4294967295 };
+    ghost invariant = { λ p. ArePartsInRange p.list.items };
 }
 
 impl Parts {
-    ghost use Rattle.std.specs.Prelude.{◌≡◌, ◌≤◌, length};
+    ghost use Rattle.std.specs.Prelude.{◌≡◌, ◌<◌, ◌++◌, ◌∷◌, [], OnErr, OnOk, length};
+    ghost use Rattle.geda_model.specs.Shapes.{ArePartsInRange};
 
-    /// The parts of a list, which has at most 4,294,967,295. It takes no memory.
-    pub fn from_vec(list: Vec<Part>) -> Parts
-        requires { length list.items ≤ 4294967295 }
-        ensures { result ≡ list.items }
+    /// No part. It takes no memory.
+    pub fn new(alloc: Global) -> Parts
+        ensures { result ≡ [] }
     {
-        Parts { list }
+        Parts {
+            list: Vec::new(alloc),
+        }
+    }
+
+    /// Puts a part behind the others, which are fewer than 4,294,967,295. On want of memory they
+    /// stay as they are.
+    pub fn push(&mut self, part: Part) -> Result<(), AllocError>
+        requires { length self.old < 4294967295 }
+        ensures ok { OnOk result (self.new ≡ self.old ++ part ∷ []) }
+        ensures err { OnErr result (self.new ≡ self.old) }
+    {
+        self.list.push(part)?;
+        Ok(())
     }
 
     /// The parts, in order. It takes no memory.
     pub fn as_slice(&self) -> &[Part]
         ensures parts { result.now ≡ self.now }
-        ensures few { length self.now ≤ 4294967295 }
+        ensures in_range { ArePartsInRange self.now }
     {
         self.list.as_slice()
     }

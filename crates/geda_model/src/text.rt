@@ -2,6 +2,7 @@
 ghost use Rattle.std.specs.Prelude.{◌≡◌, ◌↔◌, ◌<◌, IsTrue, count_by, ◌==◌};
 ghost use Rattle.geda_model.specs.Ranges.{IsContent, has_cr_end, is_after_line, line_feeds};
 
+use crate::limits::MOST_LINES;
 use std::alloc::{AllocError, Global};
 use std::marker::Model;
 
@@ -77,10 +78,14 @@ fn has_cr_end(text: &[u8]) -> bool
     false
 }
 
-fn line_feeds(text: &[u8]) -> usize
+/// How many LFs a text has: one fewer than lines. It takes no memory.
+pub fn line_feeds(text: &str) -> usize
     ensures { result ≡ line_feeds text.now }
 {
-    text.iter().filter(|byte| **byte == b'\n').count()
+    text.as_bytes()
+        .iter()
+        .filter(|byte| **byte == b'\n')
+        .count()
 }
 
 /// Whether a text can be the content of a `Text` or a path: it has 1 to 10,000 lines, and none of
@@ -88,7 +93,7 @@ fn line_feeds(text: &[u8]) -> usize
 pub fn is_content(text: &str) -> bool
     ensures { IsTrue result ↔ IsContent text.now }
 {
-    if line_feeds(text.as_bytes()) >= 10000 {
+    if line_feeds(text) >= MOST_LINES {
         return false;
     }
     if has_cr_end(text.as_bytes()) {
@@ -131,34 +136,50 @@ impl Model for Text {
     ghost invariant = { λ t. IsText (record { x = t.x; y = t.y; color = t.color; size = t.size; visible = t.visible; show = t.show; angle = t.angle; align = t.align; content = t.content }) };
 }
 
-/// Texts in order.
+/// Texts in order, each in its ranges.
 #[derive(Debug, Drop)]
 pub struct Texts {
     list: Vec<Text>,
 }
 
 impl Model for Texts {
-    ghost use Rattle.std.specs.Prelude.{List};
+    ghost use Rattle.std.specs.Prelude.{All, List};
     ghost use Rattle.geda_model.specs.Data.{TextData};
+    ghost use Rattle.geda_model.specs.Ranges.{IsText};
 
     ghost Value = { List TextData };
 
     ghost view = { λ t. t.list.items };
+
+    ghost invariant = { λ t. All IsText t.list.items };
 }
 
 impl Texts {
-    ghost use Rattle.std.specs.Prelude.{◌≡◌};
+    ghost use Rattle.std.specs.Prelude.{◌≡◌, ◌++◌, ◌∷◌, [], All, OnErr, OnOk};
+    ghost use Rattle.geda_model.specs.Ranges.{IsText};
 
-    /// The texts of a list. It takes no memory.
-    pub fn from_vec(list: Vec<Text>) -> Texts
-        ensures { result ≡ list.items }
+    /// No text. It takes no memory.
+    pub fn new(alloc: Global) -> Texts
+        ensures { result ≡ [] }
     {
-        Texts { list }
+        Texts {
+            list: Vec::new(alloc),
+        }
+    }
+
+    /// Puts a text behind the others. On want of memory they stay as they are.
+    pub fn push(&mut self, text: Text) -> Result<(), AllocError>
+        ensures ok { OnOk result (self.new ≡ self.old ++ text ∷ []) }
+        ensures err { OnErr result (self.new ≡ self.old) }
+    {
+        self.list.push(text)?;
+        Ok(())
     }
 
     /// The texts, in order. It takes no memory.
     pub fn as_slice(&self) -> &[Text]
-        ensures { result.now ≡ self.now }
+        ensures texts { result.now ≡ self.now }
+        ensures in_range { All IsText self.now }
     {
         self.list.as_slice()
     }

@@ -2,6 +2,7 @@
 ghost use Rattle.std.specs.Prelude.{◌≡◌, ◌↔◌, ◌≤◌, All, IfOk, OnOk, IsErrOf, IsTrue, length};
 ghost use Rattle.geda_model.specs.Names.{IsLine, IsLineByte, IsWord, IsWordByte};
 
+use crate::limits::MOST_WORD_BYTES;
 use crate::name::NameFault;
 use std::alloc::{AllocError, Global};
 use std::cmp::Ordering;
@@ -158,7 +159,7 @@ fn are_word_bytes(bytes: &[u8]) -> bool
 fn is_word(text: &str) -> bool
     ensures { IsTrue result ↔ IsWord text.now }
 {
-    if text.len() > 200 {
+    if text.len() > MOST_WORD_BYTES {
         return false;
     }
     are_word_bytes(text.as_bytes())
