@@ -1,0 +1,87 @@
+ghost use Rattle.std.specs.Prelude.{◌≡◌, ◌+◌, ◌<◌, ◌≤◌, ◌∷◌, length, position};
+ghost use Rattle.std.specs.Iterator.{YieldsFirstRef, item_count};
+ghost use Rattle.geda_text.specs.Lines.{is_blank, fields_of};
+ghost use Rattle.geda_text.specs.steps.Words.{StartsWord};
+
+use std::marker::Model;
+
+fn is_blank(byte: u8) -> bool
+    ensures { result ≡ is_blank byte }
+{
+    byte == b' ' || byte == b'\t'
+}
+
+fn blank_at(bytes: &[u8]) -> Option<usize>
+    ensures { result ≡ position is_blank bytes.now }
+{
+    bytes.iter().position(|byte| is_blank(*byte))
+}
+
+fn without_blanks(line: &[u8]) -> &[u8]
+    ensures same { fields_of result.now ≡ fields_of line.now }
+    ensures first { StartsWord result.now }
+{
+    let mut rest = line;
+    while let Some((first, after)) = rest.split_first() {
+        if !is_blank(*first) {
+            break;
+        }
+        rest = after;
+    }
+    rest
+}
+
+/// The first field, and the bytes behind the blank that ends it.
+fn cut_field(bytes: &[u8]) -> (&[u8], &[u8])
+    requires some { 0 < length bytes.now }
+    requires first { StartsWord bytes.now }
+    ensures { fields_of bytes.now ≡ result.0.now ∷ fields_of result.1.now }
+{
+    match blank_at(bytes) {
+        Some(end) => (&bytes[..end], &bytes[end + 1..]),
+        None => (bytes, &[]),
+    }
+}
+
+/// The fields of a line that are still to come, each of at least one byte and without blanks.
+#[derive(Drop)]
+pub struct Fields<'a> {
+    rest: &'a [u8],
+}
+
+impl<'a> Model for Fields<'a> {
+    ghost use Rattle.std.specs.Prelude.{List, ℕ};
+    ghost use Rattle.geda_text.specs.Lines.{fields_of};
+
+    ghost Value = { List (List ℕ) };
+
+    ghost view = { λ l. fields_of l.rest.now };
+}
+
+impl<'a> Fields<'a> {
+    #[tactic(auto, using(crate::proofs::CuttingFields::few))]
+    pub(crate) fn of(line: &'a [u8]) -> Fields<'a>
+        ensures given { result ≡ fields_of line.now }
+        ensures few { length result ≤ length line.now + 1 }
+    {
+        Fields { rest: line }
+    }
+}
+
+impl<'a> Iterator for Fields<'a> {
+    type Item = &'a [u8];
+
+    ghost next_gives = { YieldsFirstRef (λ s. s) };
+
+    ghost remaining = { item_count (λ s. s) };
+
+    fn next(&mut self) -> Option<&'a [u8]> {
+        let rest = without_blanks(self.rest);
+        if rest.is_empty() {
+            return None;
+        }
+        let (field, rest) = cut_field(rest);
+        self.rest = rest;
+        Some(field)
+    }
+}
