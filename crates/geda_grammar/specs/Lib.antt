@@ -1,0 +1,11 @@
+pub mod Letters
+pub mod Classes
+pub mod Components
+pub mod Rows
+pub mod Grammar
+pub mod Spelling
+pub mod Faults
+pub mod Canonical
+pub mod Writable
+pub mod Laws
+pub mod steps
