@@ -1,12 +1,2 @@
-pub mod Words
-pub mod Spelling
-pub mod Putting
-pub mod Writable
-pub mod States
-pub mod Fields
-pub mod Says
-pub mod Placing
-pub mod Machine
-pub mod Limits
-pub mod Reading
-pub mod Cases
+pub mod Answers
+pub mod steps

@@ -1,64 +1,171 @@
-// A sheet from the bytes of its file.
-ghost use Rattle.std.specs.Prelude.{◌≡◌, ◌≤◌, ◌↔◌, List, ℕ, IfErr, IfOk, IsErrOf, IsTrue, MatchResult, length};
-ghost use Rattle.std.specs.String.{string_bytes};
-ghost use Rattle.geda_model.specs.Sheets.{SheetData};
-ghost use Rattle.geda_read.specs.Reading.{IsReadOf};
-ghost use Rattle.geda_read.specs.declared.fault.ReadFault.TheVariants as faults;
+// Files are read from their bytes.
+ghost use Rattle.std.specs.Prelude.{◌≡◌, ◌+◌, ◌≤◌, IfOk, length};
+ghost use Rattle.geda_grammar.specs.Faults.{object_file, sheet_file, symbol_file};
+ghost use Rattle.geda_read.specs.Answers.{Found, FoundAlways, Told, ToldAlways};
+ghost use Rattle.geda_read.specs.declared.rows.FileMode.TheVariants as files;
+ghost use Rattle.sheet_lines.specs.steps.Results.{Gives};
+ghost use Rattle.geda_read.specs.steps.Files.{Answers, IsCut, end_object, end_sheet, end_symbol, fault_at, read_bytes, start_of, state_of, take_lines};
 
 use crate::fault::ReadFault;
-use crate::limits::sheet_fits;
-use crate::machine::read_lines;
-use crate::writing::sheet_text;
-use attr_rules::is_plain;
-use geda_model::Sheet;
+use crate::file::Stage;
+use crate::refusal::Refusal;
+use crate::rows::FileMode;
+use geda_grammar::ReadKind;
+use geda_model::{MOST_FILE_BYTES, Object, Sheet, Symbol};
+use geda_text::Cutter;
+use sheet_lines::LineFault;
 use std::alloc::Global;
 
-fn is_text(text: &String, bytes: &[u8]) -> bool
-    ensures { IsTrue result ↔ (string_bytes text.now ≡ bytes.now) }
+/// The fault of a line with its number.
+fn fault_at(fault: LineFault, line: u32) -> ReadFault
+    ensures { result ≡ fault_at fault line }
 {
-    text.as_bytes() == bytes
+    match fault {
+        LineFault::Refused(read) => ReadFault::At { read, line },
+        LineFault::NoMemory => ReadFault::NoMemory,
+    }
 }
 
-/// Whether the bytes are the canonical text of a sheet that is plain and writable.
-fn is_read_of(alloc: Global, bytes: &[u8], sheet: &Sheet) -> Result<bool, ReadFault>
-    requires { length bytes.now ≤ 4194304 }
-    ensures answer { IfOk result (λ r. IsTrue r ↔ IsReadOf bytes.now sheet.now) }
-    ensures memory { IfErr result (λ e. e ≡ faults.NoMemory) }
+/// Takes all lines.
+fn take_lines(alloc: Global, mode: FileMode, cutter: &mut Cutter) -> Result<Stage, ReadFault>
+    requires { cutter.old.number ≡ 0 }
+    ensures given { Answers state_of result
+        (take_lines mode (start_of mode) 0 cutter.old.lines) }
+    ensures number { IfOk result (λ _. cutter.new.number ≡ length cutter.old.lines) }
 {
-    if !is_plain(sheet) {
-        return Ok(false);
+    let mut stage = Stage::new(alloc, mode);
+    while let Some(line) = cutter.next() {
+        match stage.take(alloc, mode, line) {
+            Ok(next) => stage = next,
+            Err(fault) => return Err(fault_at(fault, cutter.line())),
+        }
     }
-    if !sheet_fits(sheet) {
-        return Ok(false);
-    }
-    let text = sheet_text(alloc, sheet)?;
-    Ok(is_text(&text, bytes))
+    Ok(stage)
 }
 
-/// The sheet whose canonical text the bytes are (docs/FORMATS.md, "Sheet files").
+/// What is there of a sheet behind the last line.
+fn end_sheet(alloc: Global, stage: Stage) -> Result<Sheet, LineFault>
+    ensures { Gives (λ s. s) result (end_sheet (state_of stage)) }
+{
+    let (head, rows) = stage.end()?;
+    match rows.objects(alloc) {
+        Ok(objects) => Ok(Sheet { head, objects }),
+        Err(Refusal::NoMemory) => Err(LineFault::NoMemory),
+        Err(Refusal::Stray) => Err(LineFault::Refused(ReadKind::CutShort)),
+    }
+}
+
+/// What is there of a symbol behind the last line.
+fn end_symbol(alloc: Global, stage: Stage) -> Result<Symbol, LineFault>
+    ensures { Gives (λ s. s) result (end_symbol (state_of stage)) }
+{
+    let (head, rows) = stage.end()?;
+    match rows.parts(alloc) {
+        Ok(parts) => Ok(Symbol { head, parts }),
+        Err(Refusal::NoMemory) => Err(LineFault::NoMemory),
+        Err(Refusal::Stray) => Err(LineFault::Refused(ReadKind::CutShort)),
+    }
+}
+
+/// What is there of one object behind the last line.
+fn end_object(alloc: Global, stage: Stage) -> Result<Object, LineFault>
+    ensures { Gives (λ o. o) result (end_object (state_of stage)) }
+{
+    let (_, rows) = stage.end()?;
+    match rows.object(alloc) {
+        Ok(object) => Ok(object),
+        Err(Refusal::NoMemory) => Err(LineFault::NoMemory),
+        Err(Refusal::Stray) => Err(LineFault::Refused(ReadKind::CutShort)),
+    }
+}
+
+/// The lines of a file that is not too large.
+fn cut(bytes: &[u8]) -> Result<Cutter<'_>, ReadFault>
+    ensures { IsCut bytes.now result }
+{
+    if bytes.len() > MOST_FILE_BYTES {
+        return Err(ReadFault::At {
+            read: ReadKind::TooLarge,
+            line: 1,
+        });
+    }
+    Ok(Cutter::new(bytes))
+}
+
+#[tactic(auto, unfolding(crate::specs::steps::Files::read_lines, crate::specs::steps::Files::read_bytes), using(crate::proofs::Counting::few_lines))]
+fn sheet_in(alloc: Global, bytes: &[u8]) -> Result<Sheet, ReadFault>
+    ensures { Answers (λ v. v) result (read_bytes files.Sheet end_sheet bytes.now) }
+{
+    let mut cutter = cut(bytes)?;
+    let stage = take_lines(alloc, FileMode::Sheet, &mut cutter)?;
+    match end_sheet(alloc, stage) {
+        Ok(sheet) => Ok(sheet),
+        Err(fault) => Err(fault_at(fault, cutter.line() + 1)),
+    }
+}
+
+#[tactic(auto, unfolding(crate::specs::steps::Files::read_lines, crate::specs::steps::Files::read_bytes), using(crate::proofs::Counting::few_lines))]
+fn symbol_in(alloc: Global, bytes: &[u8]) -> Result<Symbol, ReadFault>
+    ensures { Answers (λ v. v) result (read_bytes files.Symbol end_symbol bytes.now) }
+{
+    let mut cutter = cut(bytes)?;
+    let stage = take_lines(alloc, FileMode::Symbol, &mut cutter)?;
+    match end_symbol(alloc, stage) {
+        Ok(symbol) => Ok(symbol),
+        Err(fault) => Err(fault_at(fault, cutter.line() + 1)),
+    }
+}
+
+#[tactic(auto, unfolding(crate::specs::steps::Files::read_lines, crate::specs::steps::Files::read_bytes), using(crate::proofs::Counting::few_lines))]
+fn object_in(alloc: Global, bytes: &[u8]) -> Result<Object, ReadFault>
+    ensures { Answers (λ v. v) result (read_bytes files.Object end_object bytes.now) }
+{
+    let mut cutter = cut(bytes)?;
+    let stage = take_lines(alloc, FileMode::Object, &mut cutter)?;
+    match end_object(alloc, stage) {
+        Ok(object) => Ok(object),
+        Err(fault) => Err(fault_at(fault, cutter.line() + 1)),
+    }
+}
+
+/// The sheet that the bytes of a file spell.
 ///
-/// `NotYet` exactly where they are the canonical text of no sheet that is plain and writable: among
-/// these where they are more than 4,194,304. The work grows with the number of bytes.
+/// `At` exactly where they spell none: with the first line from which no file goes on to be
+/// spelled, or the one behind the last where lines are missing, and with the first cause that holds
+/// there, in the order of docs/RULES.md, "Faults". `NoMemory` where memory ran out.
 pub fn read_sheet(alloc: Global, bytes: &[u8]) -> Result<Sheet, ReadFault>
-    // What is read is plain and writable, and the bytes are its canonical text.
-    ensures found { IfOk result (IsReadOf bytes.now) }
-    // The canonical text of a plain and writable sheet is read as that sheet, unless memory runs out.
-    ensures only { (s : SheetData) → IsReadOf bytes.now s →
-        MatchResult result (λ v. v ≡ s) (λ e. e ≡ ReadFault.NoMemory) }
-    // It is refused only where the bytes are the canonical text of no such sheet.
-    ensures not_yet { IsErrOf result ReadFault.NotYet → (s : SheetData) → ¬ (IsReadOf bytes.now s) }
+    ensures found { Found sheet_file bytes.now result }
+    ensures always_found { FoundAlways sheet_file bytes.now result }
+    ensures told { Told sheet_file bytes.now result }
+    ensures always_told { ToldAlways sheet_file bytes.now result }
 {
-    if bytes.len() > 4194304 {
-        return Err(ReadFault::NotYet);
-    }
-    let sheet = read_lines(alloc, bytes)?;
-    if !is_read_of(alloc, bytes, &sheet)? {
-        return Err(ReadFault::NotYet);
-    }
-    Ok(sheet)
+    sheet_in(alloc, bytes)
 }
 
-/// The law that bytes are the canonical text of one sheet.
-pub fn one_sheet()
-    ensures { (bytes : List ℕ) (s t : SheetData) → IsReadOf bytes s → IsReadOf bytes t → s ≡ t }
-{}
+/// The symbol that the bytes of a file spell.
+///
+/// `At` exactly where they spell none: with the first line from which no file goes on to be
+/// spelled, or the one behind the last where lines are missing, and with the first cause that holds
+/// there, in the order of docs/RULES.md, "Faults". `NoMemory` where memory ran out.
+pub fn read_symbol(alloc: Global, bytes: &[u8]) -> Result<Symbol, ReadFault>
+    ensures found { Found symbol_file bytes.now result }
+    ensures always_found { FoundAlways symbol_file bytes.now result }
+    ensures told { Told symbol_file bytes.now result }
+    ensures always_told { ToldAlways symbol_file bytes.now result }
+{
+    symbol_in(alloc, bytes)
+}
+
+/// The object that bytes spell, without a version line. Its first line is line 1.
+///
+/// `At` exactly where they spell none: with the first line from which no file goes on to be
+/// spelled, or the one behind the last where lines are missing, and with the first cause that holds
+/// there, in the order of docs/RULES.md, "Faults". `NoMemory` where memory ran out.
+pub fn read_object(alloc: Global, bytes: &[u8]) -> Result<Object, ReadFault>
+    ensures found { Found object_file bytes.now result }
+    ensures always_found { FoundAlways object_file bytes.now result }
+    ensures told { Told object_file bytes.now result }
+    ensures always_told { ToldAlways object_file bytes.now result }
+{
+    object_in(alloc, bytes)
+}

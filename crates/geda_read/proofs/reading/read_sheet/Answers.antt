@@ -1,23 +1,14 @@
-use Rattle.std.proofs.lemmas.Result.{err_from_is_err_and}
-use Rattle.geda_read.proofs.Reread.{one_reading, only_memory, no_reading}
+use Rattle.geda_read.proofs.Readings.{sheet_found, sheet_found_always, sheet_told, sheet_told_always}
 use Rattle.geda_read.proofs.reading.read_sheet.Goals as goal
 
-pub returns-in_err-sheet-clause-only : goal.returns-in_err-sheet-clause-only
-returns-in_err-sheet-clause-only c = λ s h.
-    let p = err_from_is_err_and c.from_residual.result c.from_residual.ensures.1 in
-    rw (p.1, p.2) (only_memory _ s _ h c.in_err-sheet.ensures)
+pub returns-clause-found : goal.returns-clause-found
+returns-clause-found c = sheet_found c.args.bytes.now c.sheet_in.result c.sheet_in.ensures
 
-pub returns-in_err-sheet-clause-not_yet : goal.returns-in_err-sheet-clause-not_yet
-returns-in_err-sheet-clause-not_yet c = λ e s h.
-    let p = err_from_is_err_and c.from_residual.result c.from_residual.ensures.1 in
-    let m = only_memory _ s _ h c.in_err-sheet.ensures in
-    absurd cc
+pub returns-clause-always_found : goal.returns-clause-always_found
+returns-clause-always_found c = sheet_found_always c.args.bytes.now c.sheet_in.result c.sheet_in.ensures
 
-pub returns-then-not-branch-clause-only : goal.returns-then-not-branch-clause-only
-returns-then-not-branch-clause-only c = λ s h. absurd (no_reading _ s _ _ c.in_ok-sheet.ensures c.in_ok-is_read_of.ensures.answer c.if-not-branch.true h)
+pub returns-clause-told : goal.returns-clause-told
+returns-clause-told c = sheet_told c.args.bytes.now c.sheet_in.result c.sheet_in.ensures
 
-pub returns-then-not-branch-clause-not_yet : goal.returns-then-not-branch-clause-not_yet
-returns-then-not-branch-clause-not_yet c = λ e s h. no_reading _ s _ _ c.in_ok-sheet.ensures c.in_ok-is_read_of.ensures.answer c.if-not-branch.true h
-
-pub returns-clause-only : goal.returns-clause-only
-returns-clause-only c = λ s h. one_reading _ s _ h c.in_ok-sheet.ensures
+pub returns-clause-always_told : goal.returns-clause-always_told
+returns-clause-always_told c = sheet_told_always c.args.bytes.now c.sheet_in.result c.sheet_in.ensures

@@ -1,6 +1,0 @@
-use Rattle.std.proofs.Common.{rules, append_assoc}
-use Rattle.std.proofs.lemmas.Result.{IfOk-equal}
-use Rattle.geda_read.proofs.shapes_writing.put_embedded_picture.Goals as goal
-
-pub returns : goal.returns
-returns c = search (rules, IfOk-equal, append_assoc)

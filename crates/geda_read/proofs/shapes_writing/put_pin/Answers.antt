@@ -1,5 +1,0 @@
-use Rattle.std.proofs.Common.{rules, append_assoc}
-use Rattle.geda_read.proofs.shapes_writing.put_pin.Goals as goal
-
-pub returns : goal.returns
-returns c = search (rules, append_assoc)

@@ -1,0 +1,5 @@
+pub mod Expecting
+pub mod Files
+pub mod Levels
+pub mod Rows
+pub mod Version

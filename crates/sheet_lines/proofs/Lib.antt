@@ -1,0 +1,5 @@
+pub mod Contents
+pub mod Following
+pub mod LineLaws
+pub mod Names
+pub mod Pictures

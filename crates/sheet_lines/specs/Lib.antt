@@ -1,0 +1,4 @@
+pub mod Begun
+pub mod Pending
+pub mod SheetLines
+pub mod steps

@@ -1,0 +1,5 @@
+pub mod Adding
+pub mod Contents
+pub mod Fields
+pub mod Letters
+pub mod Results
