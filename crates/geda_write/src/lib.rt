@@ -1,0 +1,17 @@
+//! The canonical text of sheets, symbols, objects and version lines, and how long it is.
+//!
+//! A sheet has one canonical text, which every file that spells it comes down to. Lengths are in
+//! bytes. Rule: docs/RULES.md, "Canonical text". Definitions: geda_grammar, specs/Canonical.antt.
+#![tactic(auto)]
+
+mod fields;
+mod laws;
+mod objects;
+mod output;
+mod shapes;
+mod sizes;
+mod texts;
+
+pub use laws::{object_again, sheet_again, symbol_again};
+pub use sizes::{object_size, symbol_size};
+pub use texts::{head_text, object_text, sheet_text, symbol_text};

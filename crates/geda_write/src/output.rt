@@ -1,0 +1,84 @@
+// Where a text goes: a text that grows, or a count of its bytes.
+ghost use Rattle.std.specs.Prelude.{◌≡◌, ◌<◌, ◌-◌, ◌^◌, length};
+ghost use Rattle.std.specs.Fmt.{decimal};
+ghost use Rattle.std.specs.String.{string_bytes};
+ghost use Rattle.geda_write.specs.steps.Output.{Adds, Got, Spare, Written};
+
+use std::alloc::AllocError;
+use std::convert::Infallible;
+
+pub(crate) trait Output {
+    type Fault;
+
+    // What has gone out so far.
+    ghost got: { Self → Got };
+
+    fn piece(&mut self, piece: &str) -> Result<(), Self::Fault>
+        ensures { Adds result (got self.old) (got self.new) piece.now };
+
+    fn digits(&mut self, number: u32) -> Result<(), Self::Fault>
+        ensures { Adds result (got self.old) (got self.new) (decimal number) };
+}
+
+impl Output for String {
+    type Fault = AllocError;
+
+    ghost got = { λ s. Written (string_bytes s) };
+
+    #[tactic(auto, unfolding(crate::specs::steps::Output::more))]
+    fn piece(&mut self, piece: &str) -> Result<(), AllocError> {
+        self.push_str(piece)?;
+        Ok(())
+    }
+
+    #[tactic(auto, unfolding(crate::specs::steps::Output::more))]
+    fn digits(&mut self, number: u32) -> Result<(), AllocError> {
+        write!(self, "{number}")?;
+        Ok(())
+    }
+}
+
+// The bytes of a text, at most 18,446,744,073,709,551,615.
+#[derive(Drop)]
+pub(crate) struct Count {
+    pub(crate) bytes: u64,
+}
+
+impl Count {
+    pub(crate) fn bytes(&self) -> u64
+        ensures bytes { result ≡ self.now.bytes }
+        ensures fits { self.now.bytes < 2 ^ 64 }
+    {
+        self.bytes
+    }
+}
+
+fn digit_count(number: u32) -> u64
+    ensures { result ≡ length (decimal number) }
+{
+    let mut rest = number;
+    let mut count = 1;
+    while rest >= 10 {
+        rest /= 10;
+        count += 1;
+    }
+    count
+}
+
+impl Output for Count {
+    type Fault = Infallible;
+
+    ghost got = { λ c. Spare (2 ^ 64 - 1 - c.bytes) };
+
+    #[tactic(auto, unfolding(crate::specs::steps::Output::more))]
+    fn piece(&mut self, piece: &str) -> Result<(), Infallible> {
+        self.bytes = self.bytes.saturating_add(piece.len() as u64);
+        Ok(())
+    }
+
+    #[tactic(auto, unfolding(crate::specs::steps::Output::more))]
+    fn digits(&mut self, number: u32) -> Result<(), Infallible> {
+        self.bytes = self.bytes.saturating_add(digit_count(number));
+        Ok(())
+    }
+}
