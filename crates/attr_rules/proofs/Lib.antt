@@ -1,1 +1,6 @@
 pub mod Picks
+pub mod Cutting
+pub mod Numbers
+pub mod Trims
+pub mod WordLemmas
+pub mod Cases

@@ -1,4 +1,5 @@
--- The attributes of objects: attached ones come before inherited ones (gEDA master attribute document).
+-- The attributes of objects: attached ones come before inherited ones (gEDA master attribute
+-- document).
 use Rattle.std.specs.Prelude.{ℕ, cond, List, [], ◌∷◌, Option, None, Some}
 use Rattle.std.specs.List.{filter_map, slice_get}
 use Rattle.std.specs.Str.{bytes_eq}
@@ -24,22 +25,13 @@ value_named name text = value_if name (split_of text.content)
 abbrev pub values_named : List ℕ → List TextData → List (List ℕ)
 values_named name texts = filter_map (value_named name) texts
 
--- the text that a shape is, if it is one
-abbrev pub text_of : Shape → Option TextData
-text_of (shapes.Straight x1 y1 x2 y2 color stroke) = None
-text_of (shapes.Picture x y width height angle mirrored file embedded) = None
-text_of (shapes.Rect x y width height color stroke fill) = None
-text_of (shapes.Circle x y radius color stroke fill) = None
-text_of (shapes.Arc x y radius start sweep color stroke) = None
-text_of (shapes.Text t) = Some t
-text_of (shapes.Net x1 y1 x2 y2 color) = None
-text_of (shapes.Bus x1 y1 x2 y2 color ripper) = None
-text_of (shapes.Pin x1 y1 x2 y2 color bus whichend) = None
-text_of (shapes.Path color stroke fill content) = None
-
 -- a text that stands free in a symbol
 abbrev pub free_text : PartData → Option TextData
-free_text p = text_of p.shape
+free_text p = of_shape p.shape
+  where
+    of_shape : Shape → Option TextData
+    of_shape (shapes.Text t) = Some t
+    of_shape other = None
 
 -- the parts of an object's symbol: of the embedded one, else of the library's
 abbrev pub parts_of : ObjectData → Option SymbolData → List PartData
@@ -77,12 +69,3 @@ attrs object library name = or_else (attached object name) (inherited object lib
 -- the first attached value of a name, else the first inherited one
 unfoldable pub attr : ObjectData → Option SymbolData → List ℕ → Option (List ℕ)
 attr object library name = slice_get (attrs object library name) 0
-
--- the same of a text that may be there
-abbrev pub value_of : List ℕ → Option TextData → Option (List ℕ)
-value_of name None = None
-value_of name (Some text) = value_named name text
-
--- what a part gives its component under a name
-abbrev pub value_in_part : List ℕ → PartData → Option (List ℕ)
-value_in_part name part = value_of name (free_text part)

@@ -1,10 +1,12 @@
 // Looking up attributes by name.
-ghost use Rattle.std.specs.Prelude.{◌≡◌, option_copied};
+ghost use Rattle.std.specs.Prelude.{◌≡◌, ◌++◌, IfOk, OnOk, option_copied};
 ghost use Rattle.std.specs.List.{filter_map, slice_get};
-ghost use Rattle.attr_rules.specs.Attributes.{value_named, values_named, free_text, parts_of, attr, value_in_part};
+ghost use Rattle.attr_rules.specs.Attributes.{value_named, values_named, free_text, parts_of, attr, attrs};
+ghost use Rattle.attr_rules.specs.steps.PartValues.{value_in_part};
 
 use crate::splits::split_attr;
-use geda_model::{Body, Object, Part, Shape, Symbol, Text};
+use geda_model::{Block, Body, Items, Object, Part, Shape, Symbol, Text};
+use std::alloc::{AllocError, Global};
 
 fn value_named<'a>(text: &'a Text, name: &str) -> Option<&'a str>
     ensures { option_copied result ≡ value_named name.now text.now }
@@ -68,8 +70,8 @@ fn parts_of<'a>(object: &'a Object, library: Option<&'a Symbol>) -> &'a [Part]
     }
 }
 
-/// The value of an object's first attached attribute of a name or, where it has none attached, of the
-/// first inherited one (docs/RULES.md, "Attributes").
+/// The value of an object's first attached attribute of a name or, where it has none attached, of
+/// the first inherited one (docs/RULES.md, "Attributes").
 ///
 /// A component inherits from its embedded symbol, else from `library`. `None` exactly where no such
 /// attribute is there. It takes no memory.
@@ -81,4 +83,62 @@ pub fn attr_of<'a>(object: &'a Object, library: Option<&'a Symbol>, name: &str) 
         return Some(value);
     }
     first_in_parts(parts_of(object, library), name)
+}
+
+fn push_from_texts(
+    alloc: Global,
+    texts: &[Text],
+    name: &str,
+    values: &mut Vec<Block>,
+) -> Result<(), AllocError>
+    ensures { OnOk result
+        (values.new.items ≡ values.old.items ++ values_named name.now texts.now) }
+{
+    for text in texts {
+        if let Some(value) = value_named(text, name) {
+            values.push(Block::new(alloc, value)?)?;
+        }
+    }
+    Ok(())
+}
+
+#[tactic(auto, using(crate::proofs::Picks::values_in_parts))]
+fn push_from_parts(
+    alloc: Global,
+    parts: &[Part],
+    name: &str,
+    values: &mut Vec<Block>,
+) -> Result<(), AllocError>
+    ensures { OnOk result (values.new.items ≡
+        values.old.items ++ values_named name.now (filter_map free_text parts.now)) }
+{
+    for part in parts {
+        if let Some(value) = value_in_part(part, name) {
+            values.push(Block::new(alloc, value)?)?;
+        }
+    }
+    Ok(())
+}
+
+/// The values of all attributes of a name that an object has attached or, where it has none
+/// attached, of all inherited ones (docs/RULES.md, "Attributes").
+///
+/// A component inherits from its embedded symbol, else from `library`. The values stand in the
+/// order of their texts; there is none exactly where no such attribute is there.
+#[tactic(auto, unfolding(crate::specs::Attributes::attrs))]
+pub fn attrs_of(
+    alloc: Global,
+    object: &Object,
+    library: Option<&Symbol>,
+    name: &str,
+) -> Result<Items<Block>, AllocError>
+    ensures { IfOk result
+        (λ values. values ≡ attrs object.now (option_copied library.entry) name.now) }
+{
+    let mut values = Vec::new(alloc);
+    push_from_texts(alloc, object.attrs.as_slice(), name, &mut values)?;
+    if values.is_empty() {
+        push_from_parts(alloc, parts_of(object, library), name, &mut values)?;
+    }
+    Ok(Items::from_vec(values))
 }

@@ -1,10 +1,9 @@
 // Which sheets are plain.
-ghost use Rattle.std.specs.Prelude.{◌≡◌, ◌↔◌, All, IsTrue, None};
-ghost use Rattle.geda_model.specs.Shapes.{PartData};
-ghost use Rattle.attr_rules.specs.Plain.{HasNo, HasPlainAttributes, IsPlain, IsPlainObject, IsPlainPart, IsPlainSymbol};
+ghost use Rattle.std.specs.Prelude.{◌≡◌, ◌↔◌, All, IsSome, IsTrue};
+ghost use Rattle.attr_rules.specs.Plain.{HasNo, HasPlainAttributes, IsPlain, IsPlainObject};
 
 use crate::lookups::attr_of;
-use geda_model::{Body, Component, Object, Part, Shape, Sheet};
+use geda_model::{Body, Component, Object, Shape, Sheet};
 
 fn has_no(object: &Object, name: &str) -> bool
     ensures { IsTrue result ↔ HasNo name.now object.now }
@@ -27,40 +26,20 @@ fn has_plain_attributes(object: &Object) -> bool
     has_no(object, "graphical")
 }
 
-fn is_plain_part(part: &Part) -> bool
-    ensures { IsTrue result ↔ IsPlainPart part.now }
+fn is_embedded(component: &Component) -> bool
+    ensures { IsTrue result ↔ IsSome component.now.embedded }
 {
-    match &part.shape {
-        Shape::Text(_) => true,
-        Shape::Pin { bus, .. } => !*bus,
-        _ => false,
-    }
-}
-
-fn are_plain_parts(parts: &[Part]) -> bool
-    ensures { IsTrue result ↔ All IsPlainPart parts.now }
-{
-    parts.iter().all(is_plain_part)
-}
-
-fn has_plain_symbol(component: &Component) -> bool
-    ensures { IsTrue result ↔ IsPlainSymbol component.now.embedded }
-{
-    match &component.embedded {
-        Some(parts) => are_plain_parts(parts.as_slice()),
-        None => false,
-    }
+    component.embedded.is_some()
 }
 
 fn is_plain_object(object: &Object) -> bool
     ensures { IsTrue result ↔ IsPlainObject object.now }
 {
     match &object.body {
-        Body::Shape(Shape::Text(_)) => true,
         Body::Shape(Shape::Net { .. }) => has_no(object, "netname"),
-        Body::Shape(_) => false,
+        Body::Shape(_) => true,
         Body::Component(component) => {
-            if !has_plain_symbol(component) {
+            if !is_embedded(component) {
                 return false;
             }
             has_plain_attributes(object)
@@ -74,7 +53,11 @@ fn are_plain_objects(objects: &[Object]) -> bool
     objects.iter().all(is_plain_object)
 }
 
-/// Whether the nets of a sheet can be found yet (docs/RULES.md, "Plain sheets"). It takes no memory.
+/// Whether the nets of a sheet can be found yet (docs/RULES.md, "Plain sheets"): each component has
+/// its symbol embedded and no attribute `slot`, `net`, `source` or `graphical`, attached or
+/// inherited, and no net has a `netname` attached.
+///
+/// It takes no memory.
 pub fn is_plain(sheet: &Sheet) -> bool
     ensures { IsTrue result ↔ IsPlain sheet.now }
 {
