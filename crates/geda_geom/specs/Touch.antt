@@ -1,5 +1,5 @@
--- When two conductors touch (own, after the active ends of gEDA pins): crossing is not touching, and a
--- slanting segment is joined at its ends alone.
+-- When two conductors touch (own, after the active ends of gEDA pins): crossing is not touching,
+-- and a slanting segment is joined at its ends alone.
 use Rattle.std.specs.Prelude.{◌≡◌, ◌⊎◌, ℤ, ◌<ℤ◌}
 use Rattle.geda_geom.specs.declared.conductor.Point.{Point}
 use Rattle.geda_geom.specs.declared.conductor.Conductor.{Conductor}
@@ -42,3 +42,10 @@ IsEnd c p = SomeEnd (IsAt p) c
 -- an end of one is an end of the other, or lies inside the other
 abbrev pub Touch : Conductor → Conductor → Type 0
 Touch a b = SomeEnd (IsEnd b) a ⊎ (SomeEnd (IsInside b) a ⊎ SomeEnd (IsInside a) b)
+
+-- a vertical segment from a to b and a horizontal one from c to d, each strictly passing the other
+pub record AreCrossing (a b c d : Point) : Type 0 where
+  pub upright : a.x ≡ b.x
+  pub flat : c.y ≡ d.y
+  pub passes_up : IsBetween a.y b.y c.y
+  pub passes_across : IsBetween c.x d.x a.x

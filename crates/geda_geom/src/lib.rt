@@ -1,13 +1,15 @@
-//! Points and conductors on a sheet, and when conductors touch.
+//! Points and conductors on a sheet, when conductors touch, and where points of symbols are placed.
 //!
-//! Coordinates are in mils (1/1000 inch), x to the right and y up. Rule: docs/RULES.md, "Touching".
-//! Definition: specs/Touch.antt.
+//! Coordinates are in mils (1/1000 inch), x to the right and y up. Rules: docs/RULES.md, "Touching"
+//! and "Placing". Definitions: specs/Touch.antt, specs/Keys.antt, specs/Placing.antt.
 #![tactic(auto)]
 
 mod conductor;
-#[cfg(test)]
-mod tests;
+mod laws;
+mod placing;
 mod touching;
 
 pub use conductor::{Conductor, Key, Point};
+pub use laws::{crossing_is_no_touch, touching_turns};
+pub use placing::{Placement, place};
 pub use touching::touches;

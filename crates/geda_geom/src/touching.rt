@@ -88,8 +88,8 @@ fn has_end_inside(conductor: &Conductor, other: &Conductor) -> bool
     }
 }
 
-/// Whether two conductors touch (docs/RULES.md, "Touching"): an end of one is an end of the other, or
-/// lies strictly inside the other, which is then a horizontal or vertical segment.
+/// Whether two conductors touch (docs/RULES.md, "Touching"): an end of one is an end of the other,
+/// or lies strictly inside the other, which is then a horizontal or vertical segment.
 ///
 /// A segment of length zero is a point. It takes no memory.
 #[tactic(auto, using(crate::proofs::Or::or_else))]
