@@ -1,0 +1,188 @@
+-- What touches has spans in the grid that meet.
+use Rattle.std.proofs.Common.{arith, ◌≡◌, ◌⊎◌, inl, inr, refl, ℤ, pos, negsuc, min, max, ◌-ℤ◌, w32, SFits, ◌≤◌, List, Contains, OnOk, Ok, Err, Result, sym, ap, subst, ◌∙◌}
+use Rattle.std.specs.Prelude.{◌<ℤ◌, unsigned_abs}
+use Rattle.std.proofs.lemmas.Bool.{cases_eq}
+use Rattle.std.proofs.lemmas.Int.{ints}
+use Rattle.geda_geom.specs.declared.conductor.Key.{Key}
+use Rattle.geda_geom.specs.declared.conductor.Point.{Point}
+use Rattle.geda_geom.specs.declared.conductor.Conductor.{Conductor}
+use Rattle.geda_geom.specs.declared.conductor.Conductor.TheVariants.{Segment, End}
+use Rattle.geda_geom.specs.Touch.{Touch, IsBetween, IsEnd, SomeEnd, IsInside}
+use Rattle.touch_index.specs.declared.grid.Grid.{Grid}
+use Rattle.touch_index.specs.declared.grid.LinePoint.{LinePoint}
+use Rattle.touch_index.specs.declared.spans.Span.{Span}
+use Rattle.touch_index.specs.declared.spans.SpanSet.{SpanSet}
+use Rattle.touch_index.specs.steps.Spans.{Holds, HasAllMeeting}
+use Rattle.touch_index.specs.steps.Grid.{lifted, row_point, column_point, between, Along, Through, ends_of, InGrid, Covers, Meets}
+
+-- coordinates stay in order
+pub lifted_low : (x y : ℤ) → x <ℤ y → lifted x ≤ lifted y
+lifted_low (pos a) (pos b) h = grind (arith, h)
+lifted_low (pos a) (negsuc b) h = grind (arith, h)
+lifted_low (negsuc a) (pos b) h = omega arith
+lifted_low (negsuc a) (negsuc b) h = grind (arith, h)
+
+pub lifted_is : (z : ℤ) → SFits w32 z → unsigned_abs (z -ℤ negsuc 2147483647) ≡ lifted z
+lifted_is (pos n) fits = omega (arith, ints)
+lifted_is (negsuc n) fits = omega (arith, ints)
+
+between_low : (q r p : ℤ) → IsBetween q r p → min (lifted q) (lifted r) ≤ lifted p
+between_low q r p h = elim h [
+  | inl h ↦ let a = lifted_low q p h.0 in let b = lifted_low p r h.1 in omega (arith, a, b)
+  | inr h ↦ let a = lifted_low r p h.0 in let b = lifted_low p q h.1 in omega (arith, a, b)
+]
+
+between_high : (q r p : ℤ) → IsBetween q r p → lifted p ≤ max (lifted q) (lifted r)
+between_high q r p h = elim h [
+  | inl h ↦ let a = lifted_low q p h.0 in let b = lifted_low p r h.1 in omega (arith, a, b)
+  | inr h ↦ let a = lifted_low r p h.0 in let b = lifted_low p q h.1 in omega (arith, a, b)
+]
+
+-- a span runs through the first of its points, and one through the second
+at_first : (P : Span → Type 0) (a b : LinePoint) → Along P a b → Through P a
+at_first P a b h = elim (cases_eq a.line b.line) [
+  | inl e ↦ (between a b, h.along e, record { line = refl; from = omega arith; to = omega arith })
+  | inr ne ↦ (between a a, h.first ne, record { line = refl; from = omega arith; to = omega arith })
+]
+
+at_second : (P : Span → Type 0) (a b : LinePoint) → Along P a b → Through P b
+at_second P a b h = elim (cases_eq a.line b.line) [
+  | inl e ↦ (between a b, h.along e, record { line = e; from = omega arith; to = omega arith })
+  | inr ne ↦ (between b b, h.second ne, record { line = refl; from = omega arith; to = omega arith })
+]
+
+-- and so at the same point
+through_same : (P : Span → Type 0) (a b : LinePoint) → a.line ≡ b.line → a.at ≡ b.at → Through P b → Through P a
+through_same P a b line at h = (
+  h.0,
+  h.1,
+  record {
+    line = h.2.line ∙ sym line;
+    from = let low = h.2.from in omega (arith, low, at);
+    to = let high = h.2.to in omega (arith, high, at);
+  },
+)
+
+module _ (R C : Span → Type 0) where
+  -- spans of a conductor run through its end, in the rows and in the columns
+  row_at_end : (c : Conductor) (p : Point) → InGrid R C c → IsEnd c p → Through R (row_point p)
+  row_at_end (Segment a b) p h is = elim is [
+    | inl at ↦ through_same R (row_point p) (row_point a) (ap lifted at.1) (ap lifted at.0) (at_first R (row_point a) (row_point b) h.rows)
+    | inr at ↦ through_same R (row_point p) (row_point b) (ap lifted at.1) (ap lifted at.0) (at_second R (row_point a) (row_point b) h.rows)
+  ]
+  row_at_end (End q) p h at = through_same R (row_point p) (row_point q) (ap lifted at.1) (ap lifted at.0) (at_first R (row_point q) (row_point q) h.rows)
+
+  column_at_end : (c : Conductor) (p : Point) → InGrid R C c → IsEnd c p → Through C (column_point p)
+  column_at_end (Segment a b) p h is = elim is [
+    | inl at ↦ through_same C (column_point p) (column_point a) (ap lifted at.0) (ap lifted at.1) (at_first C (column_point a) (column_point b) h.columns)
+    | inr at ↦ through_same C (column_point p) (column_point b) (ap lifted at.0) (ap lifted at.1) (at_second C (column_point a) (column_point b) h.columns)
+  ]
+  column_at_end (End q) p h at = through_same C (column_point p) (column_point q) (ap lifted at.0) (ap lifted at.1) (at_first C (column_point q) (column_point q) h.columns)
+
+  -- one runs through each point inside it, in the rows or in the columns
+  at_inside : (c : Conductor) (p : Point) → InGrid R C c → IsInside c p → Through R (row_point p) ⊎ Through C (column_point p)
+  at_inside (Segment a b) p h is = elim is [
+    | inl up ↦ inr (
+      between (column_point a) (column_point b),
+      h.columns.along (ap lifted (sym up.0.0 ∙ up.0.1)),
+      record {
+        line = ap lifted (sym up.0.0);
+        from = between_low a.y b.y p.y up.1;
+        to = between_high a.y b.y p.y up.1;
+      },
+    )
+    | inr flat ↦ inl (
+      between (row_point a) (row_point b),
+      h.rows.along (ap lifted (sym flat.0.0 ∙ flat.0.1)),
+      record {
+        line = ap lifted (sym flat.0.0);
+        from = between_low a.x b.x p.x flat.1;
+        to = between_high a.x b.x p.x flat.1;
+      },
+    )
+  ]
+  at_inside (End q) p h is = absurd is
+
+-- an end of which it is so
+some_end : (Q : Point → Type 0) (c : Conductor) → SomeEnd Q c → (p : Point) × IsEnd c p × Q p
+some_end Q (Segment a b) h = elim h [ inl q ↦ (a, inl (refl, refl), q) | inr q ↦ (b, inr (refl, refl), q) ]
+some_end Q (End at) q = (at, (refl, refl), q)
+
+-- spans through one point meet
+through_both : (spans : SpanSet) (k : Key) (keys : List Key) (p : LinePoint) → Through (HasAllMeeting spans keys) p → Through (λ s. Holds spans s k) p → Contains keys k
+through_both spans k keys p own other = own.1 other.0 k other.1 (record {
+  together = own.2.line ∙ sym other.2.line;
+  before = let low = own.2.from in let high = other.2.to in omega (arith, low, high);
+  after = let low = other.2.from in let high = own.2.to in omega (arith, low, high);
+})
+
+module _ (grid : Grid) (k : Key) (keys : List Key) (own c : Conductor) (meets : Meets grid own keys) (covers : Covers grid c k) where
+  abbrev MeetsRow : Span → Type 0
+  MeetsRow = HasAllMeeting grid.rows keys
+
+  abbrev MeetsColumn : Span → Type 0
+  MeetsColumn = HasAllMeeting grid.columns keys
+
+  abbrev HasRow : Span → Type 0
+  HasRow s = Holds grid.rows s k
+
+  abbrev HasColumn : Span → Type 0
+  HasColumn s = Holds grid.columns s k
+
+  end_at_end : (p : Point) → IsEnd own p → IsEnd c p → Contains keys k
+  end_at_end p is other =
+      through_both grid.rows k keys (row_point p) (row_at_end MeetsRow MeetsColumn own p meets is) (row_at_end HasRow HasColumn c p covers other)
+
+  end_inside : (p : Point) → IsEnd own p → IsInside c p → Contains keys k
+  end_inside p is inside = elim (at_inside HasRow HasColumn c p covers inside) [
+    | inl row ↦ through_both grid.rows k keys (row_point p) (row_at_end MeetsRow MeetsColumn own p meets is) row
+    | inr column ↦ through_both grid.columns k keys (column_point p) (column_at_end MeetsRow MeetsColumn own p meets is) column
+  ]
+
+  inside_over : (p : Point) → IsInside own p → IsEnd c p → Contains keys k
+  inside_over p inside is = elim (at_inside MeetsRow MeetsColumn own p meets inside) [
+    | inl row ↦ through_both grid.rows k keys (row_point p) row (row_at_end HasRow HasColumn c p covers is)
+    | inr column ↦ through_both grid.columns k keys (column_point p) column (column_at_end HasRow HasColumn c p covers is)
+  ]
+
+-- the key of what touches is in the list
+pub touching_is_near : (grid : Grid) (k : Key) (keys : List Key) (own c : Conductor) → Meets grid own keys → Covers grid c k → Touch own c → Contains keys k
+touching_is_near grid k keys own c meets covers touch = elim touch [
+  | inl ends ↦ let at = some_end (IsEnd c) own ends in end_at_end grid k keys own c meets covers at.0 at.1 at.2
+  | inr inside ↦ elim inside [
+    | inl first ↦ let at = some_end (IsInside c) own first in end_inside grid k keys own c meets covers at.0 at.1 at.2
+    | inr second ↦ let at = some_end (IsInside own) c second in inside_over grid k keys own c meets covers at.0 at.2 at.1
+  ]
+]
+
+-- what is so of a success is so of what follows from it
+pub on_ok : {A E P Q R : Type 0} (r : Result A E) → (P → Q → R) → OnOk r P → OnOk r Q → OnOk r R
+on_ok (Ok x) f p q = f p q
+on_ok (Err e) f p q = p
+
+-- what is so of a span and leads to something else
+pub along_to : (P Q : Span → Type 0) (a b : LinePoint) → ((s : Span) → P s → Q s) → Along P a b → Along Q a b
+along_to P Q a b to h = record {
+  along = λ e. to (between a b) (h.along e);
+  first = λ ne. to (between a a) (h.first ne);
+  second = λ ne. to (between b b) (h.second ne);
+}
+
+-- what keeps the spans under a key keeps its conductor
+pub covers_later : (old new : Grid) (k : Key) → ((s : Span) → Holds old.rows s k → Holds new.rows s k)
+    → ((s : Span) → Holds old.columns s k → Holds new.columns s k) → (c : Conductor) → Covers old c k → Covers new c k
+covers_later old new k rows columns c has = record {
+  rows = along_to (λ s. Holds old.rows s k) (λ s. Holds new.rows s k) (row_point (ends_of c).0) (row_point (ends_of c).1) rows has.rows;
+  columns = along_to (λ s. Holds old.columns s k) (λ s. Holds new.columns s k) (column_point (ends_of c).0) (column_point (ends_of c).1) columns has.columns;
+}
+
+pub along_at : (P : Span → Type 0) (a b x y : LinePoint) → a ≡ x → b ≡ y → Along P a b → Along P x y
+along_at P a b x y e f h = subst (λ (p : LinePoint). Along P p y) e (subst (λ (q : LinePoint). Along P a q) f h)
+
+-- the spans between the ends of a conductor are its spans
+pub in_grid_by : (R C : Span → Type 0) (c : Conductor) (ends : Point × Point) → ends ≡ ends_of c
+    → Along R (row_point ends.0) (row_point ends.1) → Along C (column_point ends.0) (column_point ends.1) → InGrid R C c
+in_grid_by R C c ends e rows columns = record {
+  rows = subst (λ (p : Point × Point). Along R (row_point p.0) (row_point p.1)) e rows;
+  columns = subst (λ (p : Point × Point). Along C (column_point p.0) (column_point p.1)) e columns;
+}

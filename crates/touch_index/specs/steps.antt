@@ -1,0 +1,5 @@
+-- Steps of the code; no public clause cites them.
+pub mod Marks
+pub mod Spans
+pub mod Grid
+pub mod Sifting

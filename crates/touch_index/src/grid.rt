@@ -1,0 +1,167 @@
+// A grid of rows and columns, in which each conductor is entered where it runs along a line, and
+// else at its ends.
+ghost use Rattle.std.specs.Prelude.{◌≡◌, Contains, OnOk, IfOk};
+ghost use Rattle.geda_geom.specs.declared.conductor.Key.{Key};
+ghost use Rattle.geda_geom.specs.declared.conductor.Conductor.{Conductor};
+ghost use Rattle.geda_geom.specs.Touch.{Touch};
+ghost use Rattle.touch_index.specs.steps.Spans.{Holds, HasAllMeeting, IsKept, KeepsSpans, KeepsOthers};
+ghost use Rattle.touch_index.specs.steps.Grid.{lifted, row_point, column_point, between, ends_of, Along, Covers, Meets};
+
+use crate::spans::{Span, SpanSet};
+use geda_geom::{Conductor, Key, Point};
+use std::alloc::{AllocError, Global};
+
+/// A point as it lies on a line, among parallel lines.
+#[derive(Clone, Copy, Debug)]
+pub(crate) struct LinePoint {
+    line: u32,
+    at: u32,
+}
+
+/// How far across a point lies, counted from the least coordinate.
+fn across(point: Point) -> u32
+    ensures { result ≡ lifted point.x }
+{
+    point.x.abs_diff(i32::MIN)
+}
+
+/// How far up a point lies, counted from the least coordinate.
+fn up(point: Point) -> u32
+    ensures { result ≡ lifted point.y }
+{
+    point.y.abs_diff(i32::MIN)
+}
+
+fn row_point(point: Point) -> LinePoint
+    ensures { result ≡ row_point point }
+{
+    LinePoint {
+        line: up(point),
+        at: across(point),
+    }
+}
+
+fn column_point(point: Point) -> LinePoint
+    ensures { result ≡ column_point point }
+{
+    LinePoint {
+        line: across(point),
+        at: up(point),
+    }
+}
+
+/// The span from one point of a line to another.
+fn between(a: LinePoint, b: LinePoint) -> Span
+    ensures { result ≡ between a b }
+{
+    Span {
+        line: a.line,
+        from: a.at.min(b.at),
+        to: a.at.max(b.at),
+    }
+}
+
+fn enter_along(spans: &mut SpanSet, a: LinePoint, b: LinePoint, key: Key) -> Result<(), AllocError>
+    ensures entered { OnOk result (Along (λ s. Holds spans.new s key) a b) }
+    ensures kept { KeepsSpans spans.old spans.new }
+{
+    if a.line == b.line {
+        return spans.enter(between(a, b), key);
+    }
+    spans.enter(between(a, a), key)?;
+    spans.enter(between(b, b), key)
+}
+
+fn leave_along(spans: &mut SpanSet, a: LinePoint, b: LinePoint, key: Key)
+    ensures { KeepsOthers key spans.old spans.new }
+{
+    if a.line == b.line {
+        spans.leave(between(a, b), key);
+        return;
+    }
+    spans.leave(between(a, a), key);
+    spans.leave(between(b, b), key);
+}
+
+fn push_along(
+    spans: &SpanSet,
+    a: LinePoint,
+    b: LinePoint,
+    keys: &mut Vec<Key>,
+) -> Result<(), AllocError>
+    ensures kept { OnOk result (IsKept keys.old.items keys.new.items) }
+    ensures found { OnOk result (Along (HasAllMeeting spans.now keys.new.items) a b) }
+{
+    if a.line == b.line {
+        return spans.push_meeting(between(a, b), keys);
+    }
+    spans.push_meeting(between(a, a), keys)?;
+    spans.push_meeting(between(b, b), keys)
+}
+
+/// The two ends of a segment; the end of a pin twice.
+fn ends_of(conductor: &Conductor) -> (Point, Point)
+    ensures { result ≡ ends_of conductor.now }
+{
+    match *conductor {
+        Conductor::Segment { a, b } => (a, b),
+        Conductor::End { at } => (at, at),
+    }
+}
+
+/// Rows and columns of spans.
+#[derive(Drop)]
+pub(crate) struct Grid {
+    rows: SpanSet,
+    columns: SpanSet,
+}
+
+impl Grid {
+    /// A grid without conductors.
+    pub fn new(alloc: Global) -> Grid {
+        Grid {
+            rows: SpanSet::new(alloc),
+            columns: SpanSet::new(alloc),
+        }
+    }
+
+    /// Enters a conductor under a key. On AllocError a part of it may stand there.
+    pub fn enter(&mut self, conductor: &Conductor, key: Key) -> Result<(), AllocError>
+        ensures has { OnOk result (Covers self.new conductor.now key) }
+        ensures rows { KeepsSpans self.old.rows self.new.rows }
+        ensures columns { KeepsSpans self.old.columns self.new.columns }
+    {
+        let (a, b) = ends_of(conductor);
+        enter_along(&mut self.rows, row_point(a), row_point(b), key)?;
+        enter_along(&mut self.columns, column_point(a), column_point(b), key)
+    }
+
+    /// Takes out a conductor under a key. It takes no memory.
+    pub fn leave(&mut self, conductor: &Conductor, key: Key)
+        ensures rows { KeepsOthers key self.old.rows self.new.rows }
+        ensures columns { KeepsOthers key self.old.columns self.new.columns }
+    {
+        let (a, b) = ends_of(conductor);
+        leave_along(&mut self.rows, row_point(a), row_point(b), key);
+        leave_along(&mut self.columns, column_point(a), column_point(b), key);
+    }
+
+    fn push_near(&self, conductor: &Conductor, keys: &mut Vec<Key>) -> Result<(), AllocError>
+        ensures { OnOk result (Meets self.now conductor.now keys.new.items) }
+    {
+        let (a, b) = ends_of(conductor);
+        push_along(&self.rows, row_point(a), row_point(b), keys)?;
+        push_along(&self.columns, column_point(a), column_point(b), keys)
+    }
+
+    /// The keys of the conductors that touch a conductor, and of some that lie near it. A key may
+    /// come more than once.
+    pub fn near(&self, alloc: Global, conductor: &Conductor) -> Result<Vec<Key>, AllocError>
+        ensures { IfOk result (λ keys. (c : Conductor) (k : Key)
+            → Covers self.now c k → Touch conductor.now c → Contains keys.items k) }
+    {
+        let mut keys = Vec::new(alloc);
+        self.push_near(conductor, &mut keys)?;
+        Ok(keys)
+    }
+}
