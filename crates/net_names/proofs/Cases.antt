@@ -1,5 +1,5 @@
 -- The definitions, evaluated on small sheets.
-use Rattle.std.proofs.Common.{◌≡◌, ℕ, ℤ, pos, true, false, List, [], ◌∷◌, Some, None, refl}
+use Rattle.std.proofs.Common.{◌≡◌, ℕ, ℤ, pos, true, false, List, [], ◌∷◌, Some, None, refl, ap, get_or, arith, inl}
 use Rattle.std.specs.Prelude.{codes}
 use Rattle.std.specs.Fmt.{digits}
 use Rattle.std.specs.Str.{is_utf8, chars}
@@ -15,7 +15,7 @@ use Rattle.attr_rules.specs.declared.kinds.PinKind.TheVariants as kinds
 use Rattle.net_names.specs.declared.nets.Member.{Member}
 use Rattle.net_names.specs.declared.nets.NetSort.TheVariants as sorts
 use Rattle.geda_geom.specs.declared.conductor.Conductor.TheVariants.{End}
-use Rattle.net_names.specs.Flattening.{Flat}
+use Rattle.net_names.specs.Flattening.{FlatConductor, AreTouching}
 use Rattle.net_names.specs.Sheets.{flattened}
 use Rattle.net_names.specs.Packages.{packages_of}
 use Rattle.net_names.specs.NetLists.{nets_by}
@@ -64,8 +64,8 @@ unfolding attr attrs split_of is_utf8 chars encode
 packages_of_three = refl
 
 -- a pin by itself, with the names of what it is
-abbrev named : ℕ → List ℕ → List (List ℕ) → Flat
-named id refdes names = record { route = []; id = id; place = 0; shape = Some (End (record { x = pos 0; y = pos 0 })); global_names = []; drawn_names = names; member = Some (member refdes) }
+abbrev named : ℕ → List ℕ → List (List ℕ) → FlatConductor
+named id refdes names = record { route = []; sheet = []; id = id; place = 0; shape = Some (End (record { x = pos 0; y = pos 0 })); global_names = []; drawn_names = names; member = Some (member refdes) }
 
 -- a name is a net's own, and no unnamed net takes a name that is there
 nets_with_names : nets_by (record { conductors = named 0 (codes "A1") (codes "unnamed_net1" ∷ []) ∷ named 1 (codes "A2") [] ∷ named 2 (codes "A3") [] ∷ []; ties = [] }) (0 ∷ 1 ∷ 1 ∷ []) ≡
@@ -73,3 +73,18 @@ nets_with_names : nets_by (record { conductors = named 0 (codes "A1") (codes "un
     ∷ record { name = codes "unnamed_net2"; sort = sorts.Unnamed; global = false; members = member (codes "A2") ∷ member (codes "A3") ∷ [] } ∷ []
 unfolding digits
 nets_with_names = refl
+
+-- a pin at one point of a sheet of this name
+abbrev on_sheet : List ℕ → FlatConductor
+on_sheet name = record { route = []; sheet = name; id = 0; place = 0; shape = Some (End (record { x = pos 0; y = pos 0 })); global_names = []; drawn_names = []; member = None }
+
+-- pins at one point of one sheet touch
+one_sheet_touches : AreTouching (on_sheet (codes "a")) (on_sheet (codes "a"))
+one_sheet_touches = record { route = refl; sheet = refl; touch = inl (refl, refl) }
+
+two_letters : (n : ℕ) → n ≡ 97 → n ≡ 98 → ⊥
+two_letters n e f = omega arith
+
+-- at one point of two sheets they do not, though both sheets are roots
+two_sheets_stay_apart : AreTouching (on_sheet (codes "a")) (on_sheet (codes "b")) → ⊥
+two_sheets_stay_apart t = two_letters 97 refl (ap (λ (name : List ℕ). get_or name 0 0) t.sheet)

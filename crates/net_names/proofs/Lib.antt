@@ -1,7 +1,9 @@
+pub mod OnceLaws
 pub mod LabelLemmas
 pub mod TouchLemmas
-pub mod OrderLemmas
-pub mod GroupLemmas
+pub mod UnionLemmas
+pub mod PairLemmas
+pub mod GatheringLemmas
 pub mod ListingLemmas
 pub mod SheetLemmas
 pub mod PackageLemmas

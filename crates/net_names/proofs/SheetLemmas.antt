@@ -11,12 +11,9 @@ use Rattle.attr_rules.specs.Attributes.{attr, attrs, attached, or_else}
 use Rattle.attr_rules.specs.Plain.{HasNo, IsPlainObject}
 use Rattle.geda_model.specs.declared.shape.Shape.TheVariants as shapes
 use Rattle.geda_model.specs.declared.object.Body.TheVariants as bodies
-use Rattle.geda_geom.specs.declared.conductor.Point.{Point}
-use Rattle.geda_geom.specs.declared.conductor.Conductor.TheVariants.{Segment}
-use Rattle.net_names.specs.Flattening.{Flat}
 use Rattle.geda_model.specs.Names.{is_word}
 use Rattle.geda_model.proofs.WordTests.{is_word-from_IsWord, IsWord-from_is_word}
-use Rattle.net_names.specs.Sheets.{flats_of_object, is_no_feed, pin_number, if_line, point}
+use Rattle.net_names.specs.Sheets.{conductors_of_object, segment_conductor, is_no_feed, pin_number, if_line, point}
 
 line_byte : (b : ℕ) → IsLineByte b → is_no_feed b ≡ true
 line_byte b h = grind (arith, nat_tests)
@@ -34,7 +31,8 @@ IsLine-from_test bs text e = record {
   line_bytes = λ k d lt. IsLineByte-from_test (get_or bs k d) (AllPass-from_list_all is_no_feed bs e k d lt);
 }
 
-refuted : (b : Bool) → (b ≡ true → ⊥) → b ≡ false
+-- what is refuted is false
+pub refuted : (b : Bool) → (b ≡ true → ⊥) → b ≡ false
 refuted true h = absurd (h refl)
 refuted false h = refl
 
@@ -56,18 +54,6 @@ if_line-refused value text refused =
     let e = refuted (list_all is_no_feed value) (λ e. refused (IsLine-from_test value text e)) in
     rw e refl
 
--- a segment without names
-abbrev segment : ℕ → Point → Point → Flat
-segment id a b = record {
-  route = [];
-  id = id;
-  place = 0;
-  shape = Some (Segment a b);
-  global_names = [];
-  drawn_names = [];
-  member = None;
-}
-
 none_first : (values others : List (List ℕ)) → slice_get (or_else values others) 0 ≡ None → values ≡ []
 none_first [] others e = refl
 none_first (v ∷ vs) others e = absurd (let h : Some v ≡ None = e in cc)
@@ -78,10 +64,10 @@ unfolding attr attrs
 attached-none name o e = none_first (attached o name) _ e
 
 -- a net of a plain sheet is one segment without names
-pub flats_of_object-net : (id : ℕ) (o : ObjectData) (x1 y1 x2 y2 color : ℤ)
+pub conductors_of_object-net : (id : ℕ) (o : ObjectData) (x1 y1 x2 y2 color : ℤ)
     → o.body ≡ bodies.Shape (shapes.Net x1 y1 x2 y2 color) → IsPlainObject o
-    → flats_of_object id o ≡ segment id (point x1 y1) (point x2 y2) ∷ []
-flats_of_object-net id o x1 y1 x2 y2 color e plain =
+    → conductors_of_object id o ≡ segment_conductor id [] (point x1 y1) (point x2 y2) ∷ []
+conductors_of_object-net id o x1 y1 x2 y2 color e plain =
     let net : ObjectData = record { body = bodies.Shape (shapes.Net x1 y1 x2 y2 color); attrs = o.attrs } in
     let none : attached o (codes "netname") ≡ [] = attached-none (codes "netname") net (rw e at plain) in
     rw (e, none) refl

@@ -7,7 +7,7 @@ use Rattle.net_names.specs.declared.nets.Net.{Net}
 use Rattle.net_names.specs.declared.nets.Nets.{Nets}
 use Rattle.net_names.specs.declared.nets.Package.{Package}
 use Rattle.net_names.specs.Flattening.{Flattened}
-use Rattle.net_names.specs.NetLists.{AreNetsOf, IsNetListOf, nets_by}
+use Rattle.net_names.specs.NetLists.{AreNetsOf, IsNetListOfPlainSheet, nets_by}
 
 same_labels : (R : ℕ → ℕ → Type 0) (count : ℕ) (xs ys : List ℕ) → AreClasses R count xs → AreClasses R count ys → xs ≡ ys
 same_labels R count xs ys p q =
@@ -24,5 +24,5 @@ both_parts a b p q =
     let second : record { packages = b.packages; nets = a.nets } ≡ b = ap (λ (nets : List Net). record { packages = b.packages; nets = nets }) q in
     first ∙ second
 
-pub same_lists : (sheet : SheetData) (a b : Nets) → IsNetListOf sheet a → IsNetListOf sheet b → a ≡ b
+pub same_lists : (sheet : SheetData) (a b : Nets) → IsNetListOfPlainSheet sheet a → IsNetListOfPlainSheet sheet b → a ≡ b
 same_lists sheet a b p q = both_parts a b (p.packages ∙ sym q.packages) (same_nets _ a.nets b.nets p.nets q.nets)

@@ -1,13 +1,15 @@
 -- A project as a flat list of what joins, with the links between (own).
-use Rattle.std.specs.Prelude.{◌≡◌, ◌<◌, ◌⊎◌, ℕ, List, ◌++◌, Option, Some, None, length, slice_index_or, Contains}
+use Rattle.std.specs.Prelude.{◌≡◌, ◌<◌, ◌⊎◌, ℕ, List, ◌++◌, Option, Some, length, slice_index_or, Contains}
 use Rattle.geda_geom.specs.declared.conductor.Conductor.{Conductor}
 use Rattle.geda_geom.specs.Touch.{Touch}
 use Rattle.net_names.specs.declared.nets.Member.{Member}
 
--- a drawn segment, the drawn end of a pin, or a hidden pin: the ids of the components that lead down
--- to its sheet, its key, what is drawn, its names, and the pin that it is if it is one of a listed part
-pub record Flat : Type 0 where
+-- a drawn segment, the drawn end of a pin, or a hidden pin: the ids of the components that lead
+-- down to its sheet, the bytes of the sheet's name (none for a sheet by itself), its key, what is
+-- drawn, its names, and the pin that it is if it is one of a listed part
+pub record FlatConductor : Type 0 where
   pub route : List ℕ
+  pub sheet : List ℕ
   pub id : ℕ
   pub place : ℕ
   pub shape : Option Conductor
@@ -15,34 +17,35 @@ pub record Flat : Type 0 where
   pub drawn_names : List (List ℕ)
   pub member : Option Member
 
--- what joins, and the pairs of places that ports tie: first what is drawn, in order of route, id and
--- place, then the hidden pins, so that a drawn pin comes before a hidden one
+-- what joins, and the pairs of places that ports tie: first what is drawn, in order of route, id
+-- and place, then the hidden pins, so that a drawn pin comes before a hidden one
 pub record Flattened : Type 0 where
-  pub conductors : List Flat
+  pub conductors : List FlatConductor
   pub ties : List (ℕ × ℕ)
 
 -- all its names
-abbrev pub names_of : Flat → List (List ℕ)
+abbrev pub names_of : FlatConductor → List (List ℕ)
 names_of f = f.global_names ++ f.drawn_names
 
 -- two drawn shapes touch
 abbrev pub ShapesTouch : Option Conductor → Option Conductor → Type 0
-ShapesTouch None other = ⊥
-ShapesTouch (Some a) None = ⊥
 ShapesTouch (Some a) (Some b) = Touch a b
+ShapesTouch one other = ⊥
 
--- they stand on one sheet of the project and touch
-pub record AreTouching (f g : Flat) : Type 0 where
-  pub together : f.route ≡ g.route
+-- they stand on one sheet of one instance, and touch: several sheets share a route
+pub record AreTouching (f g : FlatConductor) : Type 0 where
+  pub route : f.route ≡ g.route
+  pub sheet : f.sheet ≡ g.sheet
   pub touch : ShapesTouch f.shape g.shape
 
 -- they have a name in common
-abbrev pub ShareName : Flat → Flat → Type 0
+abbrev pub ShareName : FlatConductor → FlatConductor → Type 0
 ShareName f g = (name : List ℕ) × Contains (names_of f) name × Contains (names_of g) name
 
 -- so are the ones at two places of a list
-abbrev pub AtPlaces : (Flat → Flat → Type 0) → List Flat → ℕ → ℕ → Type 0
-AtPlaces R conductors i j = (d : Flat) → R (slice_index_or conductors i d) (slice_index_or conductors j d)
+abbrev pub AtPlaces : (FlatConductor → FlatConductor → Type 0) → List FlatConductor → ℕ → ℕ → Type 0
+AtPlaces R conductors i j =
+    (d : FlatConductor) → R (slice_index_or conductors i d) (slice_index_or conductors j d)
 
 -- a port ties them, in either order
 abbrev pub AreTied : List (ℕ × ℕ) → ℕ → ℕ → Type 0
@@ -52,4 +55,6 @@ AreTied ties i j = Contains ties (i, j) ⊎ Contains ties (j, i)
 pub record Linked (p : Flattened) (i j : ℕ) : Type 0 where
   pub first : i < length p.conductors
   pub second : j < length p.conductors
-  pub link : AtPlaces AreTouching p.conductors i j ⊎ (AtPlaces ShareName p.conductors i j ⊎ AreTied p.ties i j)
+  pub link :
+      AtPlaces AreTouching p.conductors i j
+      ⊎ (AtPlaces ShareName p.conductors i j ⊎ AreTied p.ties i j)

@@ -4,9 +4,4 @@ pub mod Sheets
 pub mod Packages
 pub mod NetClasses
 pub mod NetLists
-pub mod Joints
-pub mod Gathering
-pub mod FirstValues
-pub mod Lowering
-pub mod Grouping
-pub mod Laws
+pub mod steps

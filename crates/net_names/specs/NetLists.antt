@@ -1,6 +1,7 @@
--- The net list of a flattened project (own): nets are the classes of the least equivalence that holds
--- the links, their members each once, their names and their order.
-use Rattle.std.specs.Prelude.{◌≡◌, ℕ, ◌+◌, ◌==◌, ◌&&◌, not, Bool, List, [], ◌∷◌, ◌++◌, length, map, filter, take, codes, count_by}
+-- The net list of a flattened project (own): nets are the classes of the least equivalence that
+-- holds the links, their members each once, their names and their order.
+use Rattle.std.specs.Prelude.{◌≡◌, ℕ, ◌+◌, ◌==◌, ◌&&◌, not, Bool, List, [], ◌∷◌, ◌++◌, Option, length, map, filter, take, codes, count_by, slice_get}
+use Rattle.std.specs.Option.{option_cmp}
 use Rattle.std.specs.declared.cmp.Ordering.{Ordering}
 use Rattle.std.specs.List.{flat_map, list_any, range_with_len}
 use Rattle.std.specs.Str.{bytes_eq}
@@ -16,18 +17,18 @@ use Rattle.net_names.specs.Order.{once_in_order, by_bytes}
 use Rattle.net_names.specs.Flattening.{Flattened, Linked, names_of}
 use Rattle.net_names.specs.Sheets.{flattened}
 use Rattle.net_names.specs.Packages.{packages_of}
-use Rattle.net_names.specs.NetClasses.{labelled_from, Pin, by_pin, ClassData, classes_of}
+use Rattle.net_names.specs.NetClasses.{labelled_from, ClassPinData, by_pin, NetClassData, net_classes}
 
 -- a class with a name is named; a single drawn pin without a name is unconnected
-abbrev pub is_named : ClassData → Bool
+abbrev pub is_named : NetClassData → Bool
 is_named c = not (length c.names == 0)
 
 -- without a name, and no single pin
-abbrev pub is_unnamed : ClassData → Bool
+abbrev pub is_unnamed : NetClassData → Bool
 is_unnamed c = not (is_named c) && not c.is_single_pin
 
 -- without a name, and a single pin
-abbrev pub is_unconnected : ClassData → Bool
+abbrev pub is_unconnected : NetClassData → Bool
 is_unconnected c = not (is_named c) && c.is_single_pin
 
 -- how many `/` a name has
@@ -44,52 +45,67 @@ first_or a [] = a
 first_or a (b ∷ bs) = b
 
 -- the net of a class under a name
-abbrev pub net_of : List ℕ → NetSort → ClassData → Net
-net_of name sort c = record { name = name; sort = sort; global = c.global; members = map (λ p. p.member) c.pins }
+abbrev pub net_of : List ℕ → NetSort → NetClassData → Net
+net_of name sort c = record {
+  name = name;
+  sort = sort;
+  global = c.global;
+  members = map (λ p. p.member) c.pins;
+}
 
 -- a named class prints under the least of its names
-abbrev pub named_net : ClassData → Net
+abbrev pub named_net : NetClassData → Net
 named_net c = net_of (first_or [] (once_in_order by_name c.names)) sorts.Named c
 
--- by the least pin, by its place last
-abbrev pub by_least_pin : ClassData → ClassData → Ordering
-by_least_pin c d = by_first c.pins d.pins
-  where
-    by_first : List Pin → List Pin → Ordering
-    by_first [] [] = nat_cmp 0 0
-    by_first [] (q ∷ qs) = nat_cmp 0 1
-    by_first (p ∷ ps) [] = nat_cmp 1 0
-    by_first (p ∷ ps) (q ∷ qs) = by_pin p q
+-- the least pin, since pins stand in order
+abbrev pub least_pin : NetClassData → Option ClassPinData
+least_pin c = slice_get c.pins 0
 
--- the first so many numbers from 1 whose text no conductor has as a name: at most as many are skipped
--- as there are names
+-- by the least pin, by its place last; without pins before all others
+abbrev pub by_least_pin : NetClassData → NetClassData → Ordering
+by_least_pin = on least_pin (option_cmp by_pin)
+
+-- no conductor has the name of this number
+abbrev pub is_free : List ℕ → List (List ℕ) → ℕ → Bool
+is_free prefix used n = not (list_any (bytes_eq (prefix ++ decimal n)) used)
+
+-- the first so many numbers from 1 whose text no conductor has as a name: at most as many are
+-- skipped as there are names
 abbrev pub free_numbers : List ℕ → List (List ℕ) → ℕ → List ℕ
-free_numbers prefix used count = take count (filter (λ n. not (list_any (bytes_eq (prefix ++ decimal n)) used)) (range_with_len 1 (count + length used)))
+free_numbers prefix used count =
+    take count (filter (is_free prefix used) (range_with_len 1 (count + length used)))
 
 -- the classes under their numbers
-abbrev pub numbered : List ℕ → NetSort → List ℕ → List ClassData → List Net
-numbered prefix sort [] classes = []
-numbered prefix sort (n ∷ ns) [] = []
-numbered prefix sort (n ∷ ns) (c ∷ cs) = net_of (prefix ++ decimal n) sort c ∷ numbered prefix sort ns cs
+abbrev pub numbered : List ℕ → NetSort → List ℕ → List NetClassData → List Net
+numbered prefix sort (n ∷ ns) (c ∷ cs) =
+    net_of (prefix ++ decimal n) sort c ∷ numbered prefix sort ns cs
+numbered prefix sort numbers classes = []
 
 -- the classes in order of their least pins, numbered
-abbrev pub numbered_nets : List ℕ → NetSort → List (List ℕ) → List ClassData → List Net
-numbered_nets prefix sort used classes = numbered prefix sort (free_numbers prefix used (length classes)) (once_in_order by_least_pin classes)
+abbrev pub numbered_nets : List ℕ → NetSort → List (List ℕ) → List NetClassData → List Net
+numbered_nets prefix sort used classes =
+    numbered prefix sort (free_numbers prefix used (length classes))
+    (once_in_order by_least_pin classes)
 
 -- the nets, given the label of each conductor's class: named, then unnamed, then unconnected ones
 abbrev pub nets_by : Flattened → List ℕ → List Net
 nets_by p labels =
-    let classes = classes_of (labelled_from 0 p.conductors labels) (length p.conductors) in
+    let classes = net_classes (labelled_from 0 p.conductors labels) (length p.conductors) in
     let used = flat_map names_of p.conductors in
     once_in_order (on (λ n. n.name) by_bytes) (map named_net (filter is_named classes))
-    ++ numbered_nets (codes "unnamed_net") sorts.Unnamed used (filter is_unnamed classes)
-    ++ numbered_nets (codes "unconnected_pin-") sorts.Unconnected used (filter is_unconnected classes)
+    ++ numbered_nets (codes "unnamed_net") sorts.Unnamed used
+    (filter is_unnamed classes)
+    ++ numbered_nets (codes "unconnected_pin-") sorts.Unconnected used
+    (filter is_unconnected classes)
 
 -- the nets are those of the classes of linked conductors
 abbrev pub AreNetsOf : Flattened → List Net → Type 0
-AreNetsOf p nets = (labels : List ℕ) × AreClasses (Linked p) (length p.conductors) labels × (nets ≡ nets_by p labels)
+AreNetsOf p nets =
+    (labels : List ℕ)
+    × AreClasses (Linked p) (length p.conductors) labels
+    × (nets ≡ nets_by p labels)
 
--- the net list of a sheet by itself
-pub record IsNetListOf (sheet : SheetData) (list : Nets) : Type 0 where
+-- the net list of a plain sheet by itself; on other sheets slots, names and sheets below join too
+pub record IsNetListOfPlainSheet (sheet : SheetData) (list : Nets) : Type 0 where
   pub packages : list.packages ≡ packages_of sheet.objects
   pub nets : AreNetsOf (flattened sheet) list.nets

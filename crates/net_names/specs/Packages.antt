@@ -19,12 +19,19 @@ attr_in_package refdes name o = if_refdes refdes (refdes_of o) (attr o None name
 
 -- the attribute of the first component of the package that has it
 abbrev pub package_attr : List ObjectData → List ℕ → List ℕ → Option (List ℕ)
-package_attr objects refdes name = slice_get (filter_map (attr_in_package refdes name) objects) 0
+package_attr objects refdes name =
+    slice_get (filter_map (attr_in_package refdes name) objects) 0
 
 -- the package of a refdes
 abbrev pub package_of : List ObjectData → List ℕ → Package
-package_of objects refdes = record { refdes = refdes; device = package_attr objects refdes (codes "device"); value = package_attr objects refdes (codes "value"); footprint = package_attr objects refdes (codes "footprint") }
+package_of objects refdes = record {
+  refdes = refdes;
+  device = package_attr objects refdes (codes "device");
+  value = package_attr objects refdes (codes "value");
+  footprint = package_attr objects refdes (codes "footprint");
+}
 
 -- one package for each refdes, in order of bytes
 abbrev pub packages_of : List ObjectData → List Package
-packages_of objects = map (package_of objects) (once_in_order by_bytes (filter_map refdes_of objects))
+packages_of objects =
+    map (package_of objects) (once_in_order by_bytes (filter_map refdes_of objects))

@@ -1,6 +1,6 @@
--- What joins on a sheet whose components have their symbols embedded (gEDA master attribute document;
--- that embedded symbols stand in sheet coordinates is own).
-use Rattle.std.specs.Prelude.{ℕ, ℤ, ◌+◌, ◌==◌, not, if◌then◌else◌, Bool, true, false, List, [], ◌∷◌, ◌++◌, Option, Some, None, codes}
+-- What joins on a sheet whose components have their symbols embedded (gEDA master attribute
+-- document; that embedded symbols stand in sheet coordinates is own).
+use Rattle.std.specs.Prelude.{ℕ, ℤ, ◌+◌, ◌==◌, not, if◌then◌else◌, Bool, false, List, [], ◌∷◌, ◌++◌, Option, Some, None, codes}
 use Rattle.std.specs.List.{filter_map, slice_get, list_all}
 use Rattle.geda_model.specs.declared.shape.Shape.{Shape}
 use Rattle.geda_model.specs.declared.shape.Shape.TheVariants as shapes
@@ -16,10 +16,10 @@ use Rattle.attr_rules.specs.declared.kinds.PinKind.{PinKind}
 use Rattle.geda_geom.specs.declared.conductor.Point.{Point}
 use Rattle.geda_geom.specs.declared.conductor.Conductor.TheVariants.{Segment, End}
 use Rattle.net_names.specs.declared.nets.Member.{Member}
-use Rattle.net_names.specs.Flattening.{Flat, Flattened}
+use Rattle.net_names.specs.Flattening.{FlatConductor, Flattened}
 
 -- a net pin: its active end, its number and its kind
-pub record PinData : Type 0 where
+pub record NetPinData : Type 0 where
   pub active : Point
   pub number : List ℕ
   pub kind : PinKind
@@ -41,28 +41,25 @@ point across up = record { x = across; y = up }
 abbrev pub active_end : ℤ → ℤ → ℤ → ℤ → ℕ → Point
 active_end x1 y1 x2 y2 whichend = if whichend == 0 then point x1 y1 else point x2 y2
 
--- the net pin that a part is, if it is one
-abbrev pub net_pin : PartData → Option PinData
+-- the net pin with this active end and these attributes
+abbrev pub net_pin_at : Point → List TextData → NetPinData
+net_pin_at active attrs = record {
+  active = active;
+  number = pin_number (pin_attr attrs (codes "pinnumber"));
+  kind = kind_of (pin_attr attrs (codes "pintype"));
+}
+
+-- the net pin that a part is, if it is one: bus pins are none
+abbrev pub net_pin : PartData → Option NetPinData
 net_pin p = of_shape p.shape
   where
-    of_pin : ℤ → ℤ → ℤ → ℤ → Bool → ℕ → Option PinData
-    of_pin x1 y1 x2 y2 true whichend = None
-    of_pin x1 y1 x2 y2 false whichend = Some (record { active = active_end x1 y1 x2 y2 whichend; number = pin_number (pin_attr p.attrs (codes "pinnumber")); kind = kind_of (pin_attr p.attrs (codes "pintype")) })
-
-    of_shape : Shape → Option PinData
-    of_shape (shapes.Straight x1 y1 x2 y2 color stroke) = None
-    of_shape (shapes.Picture x y width height angle mirrored file embedded) = None
-    of_shape (shapes.Rect x y width height color stroke fill) = None
-    of_shape (shapes.Circle x y radius color stroke fill) = None
-    of_shape (shapes.Arc x y radius start sweep color stroke) = None
-    of_shape (shapes.Text t) = None
-    of_shape (shapes.Net x1 y1 x2 y2 color) = None
-    of_shape (shapes.Bus x1 y1 x2 y2 color ripper) = None
-    of_shape (shapes.Pin x1 y1 x2 y2 color bus whichend) = of_pin x1 y1 x2 y2 bus whichend
-    of_shape (shapes.Path color stroke fill content) = None
+    of_shape : Shape → Option NetPinData
+    of_shape (shapes.Pin x1 y1 x2 y2 color false whichend) =
+        Some (net_pin_at (active_end x1 y1 x2 y2 whichend) p.attrs)
+    of_shape other = None
 
 -- the net pins of a symbol in file order: their places count from 0
-abbrev pub net_pins : List PartData → List PinData
+abbrev pub net_pins : List PartData → List NetPinData
 net_pins parts = filter_map net_pin parts
 
 -- any byte but LF
@@ -79,44 +76,67 @@ abbrev pub refdes_of : ObjectData → Option (List ℕ)
 refdes_of o = of_body o.body
   where
     of_body : Body → Option (List ℕ)
-    of_body (bodies.Shape s) = None
     of_body (bodies.Component c) = if_line (attr o None (codes "refdes"))
+    of_body other = None
 
 -- the member that a pin is, where its component has a refdes
-abbrev pub member_of : Option (List ℕ) → PinData → Option Member
+abbrev pub member_of : Option (List ℕ) → NetPinData → Option Member
 member_of None pin = None
-member_of (Some refdes) pin = Some (record { refdes = refdes; pin = pin.number; kind = pin.kind })
+member_of (Some refdes) pin =
+    Some (record { refdes = refdes; pin = pin.number; kind = pin.kind })
+
+-- the end of a pin, on a sheet by itself
+abbrev pub pin_conductor : ℕ → Option (List ℕ) → ℕ → NetPinData → FlatConductor
+pin_conductor id refdes place pin = record {
+  route = [];
+  sheet = [];
+  id = id;
+  place = place;
+  shape = Some (End pin.active);
+  global_names = [];
+  drawn_names = [];
+  member = member_of refdes pin;
+}
 
 -- the ends of pins, of which the first has this place
-abbrev pub flats_of_pins : ℕ → Option (List ℕ) → ℕ → List PinData → List Flat
-flats_of_pins id refdes place [] = []
-flats_of_pins id refdes place (pin ∷ pins) = record { route = []; id = id; place = place; shape = Some (End pin.active); global_names = []; drawn_names = []; member = member_of refdes pin } ∷ flats_of_pins id refdes (place + 1) pins
+abbrev pub conductors_of_pins : ℕ → Option (List ℕ) → ℕ → List NetPinData → List FlatConductor
+conductors_of_pins id refdes place [] = []
+conductors_of_pins id refdes place (pin ∷ pins) =
+    pin_conductor id refdes place pin ∷ conductors_of_pins id refdes (place + 1) pins
 
--- a segment, or the net pins of a component; buses, and pins drawn on the sheet, join nothing
-abbrev pub flats_of_object : ℕ → ObjectData → List Flat
-flats_of_object id o = of_body o.body
+-- a segment, on a sheet by itself
+abbrev pub segment_conductor : ℕ → List (List ℕ) → Point → Point → FlatConductor
+segment_conductor id names a b = record {
+  route = [];
+  sheet = [];
+  id = id;
+  place = 0;
+  shape = Some (Segment a b);
+  global_names = [];
+  drawn_names = names;
+  member = None;
+}
+
+-- a segment, or the net pins of a component; no other shape joins, no bus and no pin drawn on the
+-- sheet
+abbrev pub conductors_of_object : ℕ → ObjectData → List FlatConductor
+conductors_of_object id o = of_body o.body
   where
-    of_shape : Shape → List Flat
-    of_shape (shapes.Straight x1 y1 x2 y2 color stroke) = []
-    of_shape (shapes.Picture x y width height angle mirrored file embedded) = []
-    of_shape (shapes.Rect x y width height color stroke fill) = []
-    of_shape (shapes.Circle x y radius color stroke fill) = []
-    of_shape (shapes.Arc x y radius start sweep color stroke) = []
-    of_shape (shapes.Text t) = []
-    of_shape (shapes.Net x1 y1 x2 y2 color) = record { route = []; id = id; place = 0; shape = Some (Segment (point x1 y1) (point x2 y2)); global_names = []; drawn_names = attached o (codes "netname"); member = None } ∷ []
-    of_shape (shapes.Bus x1 y1 x2 y2 color ripper) = []
-    of_shape (shapes.Pin x1 y1 x2 y2 color bus whichend) = []
-    of_shape (shapes.Path color stroke fill content) = []
-
-    of_body : Body → List Flat
-    of_body (bodies.Shape s) = of_shape s
-    of_body (bodies.Component c) = flats_of_pins id (refdes_of o) 0 (net_pins (parts_of o None))
+    of_body : Body → List FlatConductor
+    of_body (bodies.Shape (shapes.Net x1 y1 x2 y2 color)) =
+        segment_conductor id (attached o (codes "netname")) (point x1 y1) (point x2 y2) ∷ []
+    of_body (bodies.Shape other) = []
+    of_body (bodies.Component c) =
+        conductors_of_pins id (refdes_of o) 0 (net_pins (parts_of o None))
 
 -- of objects, of which the first has this id
-abbrev pub flats_from : ℕ → List ObjectData → List Flat
-flats_from id [] = []
-flats_from id (o ∷ os) = flats_of_object id o ++ flats_from (id + 1) os
+abbrev pub conductors_from : ℕ → List ObjectData → List FlatConductor
+conductors_from id [] = []
+conductors_from id (o ∷ os) = conductors_of_object id o ++ conductors_from (id + 1) os
 
 -- a sheet by itself: its objects have the ids from 0, and nothing is tied
 abbrev pub flattened : SheetData → Flattened
-flattened sheet = record { conductors = flats_from 0 sheet.objects; ties = [] }
+flattened sheet = record {
+  conductors = conductors_from 0 sheet.objects;
+  ties = [];
+}

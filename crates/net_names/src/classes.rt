@@ -1,67 +1,80 @@
-// Which joints stand in one class, by scanning all pairs until nothing changes.
-ghost use Rattle.std.specs.Prelude.{◌≡◌, ◌<◌, ◌↔◌, length, sum, IsTrue, IfOk};
-ghost use Rattle.std.specs.Bool.{OnTrue, OnFalse};
+// Which conductors stand in one class, by the neighbours that an index finds.
+ghost use Rattle.std.specs.Prelude.{◌≡◌, ◌++◌, length, map, IfOk, OnOk};
 ghost use Rattle.geda_defs.specs.Classes.{AreClasses};
 ghost use Rattle.net_names.specs.Flattening.{Linked};
-ghost use Rattle.net_names.specs.Joints.{flattened_by};
-ghost use Rattle.net_names.specs.Lowering.{TouchAt, IsSound, IsSettled, IsLeastNear};
+ghost use Rattle.net_names.specs.steps.SheetConductors.{flattened_by};
+ghost use Rattle.net_names.specs.steps.Touching.{key_at, place_of, ArePairs, Indexes};
 
-use crate::joints::Joint;
-use geda_geom::touches;
+use crate::conductors::SheetConductor;
+use crate::unions::classes_of_pairs;
+use geda_geom::Key;
 use std::alloc::{AllocError, Global};
+use touch_index::{Sealed, TouchIndex};
 
-/// Whether the joints at two places touch. It takes no memory.
-fn touch_at(joints: &[Joint], i: usize, j: usize) -> bool
-    requires first { i < length joints.now }
-    requires second { j < length joints.now }
-    ensures { IsTrue result ↔ TouchAt joints.now i j }
+/// A place as a key, in two parts: the index asks for a key of each conductor.
+fn key_at(place: usize) -> Key
+    ensures { result ≡ key_at place }
 {
-    touches(&joints[i].conductor, &joints[j].conductor)
-}
-
-/// The least label of the joint at a place and of those that it touches.
-fn least_near(joints: &[Joint], labels: &[usize], at: usize) -> usize
-    requires len { length labels.now ≡ length joints.now }
-    requires at_in { at < length joints.now }
-    ensures { IsLeastNear (TouchAt joints.now) labels.now at (length joints.now) result }
-{
-    let mut least = labels[at];
-    for j in 0..joints.len() {
-        if labels[j] < least && touch_at(joints, at, j) {
-            least = labels[j];
-        }
+    Key {
+        id: (place / 4_294_967_296) as u32,
+        place: (place % 4_294_967_296) as u32,
     }
-    least
 }
 
-/// Lowers each label to the least near it, and says whether one fell.
-fn lower_all(joints: &[Joint], labels: &mut [usize]) -> bool
-    requires len { length labels.old ≡ length joints.now }
-    requires sound { IsSound (TouchAt joints.now) labels.old }
-    ensures sound { IsSound (TouchAt joints.now) labels.new }
-    ensures falls { OnTrue result (sum labels.new < sum labels.old) }
-    ensures settled { OnFalse result (IsSettled (TouchAt joints.now) labels.new) }
+fn place_of(key: Key) -> usize
+    ensures { result ≡ place_of key }
 {
-    let mut fell = false;
-    for at in 0..joints.len() {
-        let least = least_near(joints, labels, at);
-        if least < labels[at] {
-            labels[at] = least;
-            fell = true;
-        }
-    }
-    fell
+    key.id as usize * 4_294_967_296 + key.place as usize
 }
 
-/// The least place of the class of each joint: joints that touch stand in one class.
-pub fn classes(alloc: Global, joints: &[Joint]) -> Result<Vec<usize>, AllocError>
+/// An index of what is drawn, each under the key of its place.
+fn fill(alloc: Global, conductors: &[SheetConductor]) -> Result<TouchIndex, AllocError>
     ensures { IfOk result
-        (λ labels. AreClasses (Linked (flattened_by joints.now)) (length joints.now) labels.items) }
+        (λ index. Indexes index.conductors conductors.now (length conductors.now)) }
 {
-    let mut labels = Vec::new(alloc);
-    for place in 0..joints.len() {
-        labels.push(place)?;
+    let mut index = TouchIndex::new(alloc);
+    for place in 0..conductors.len() {
+        index.insert(key_at(place), Sealed::new(conductors[place].shape))?;
     }
-    while lower_all(joints, &mut labels) {}
-    Ok(labels)
+    Ok(index)
+}
+
+/// Adds the place, paired with that of each key.
+fn push_pairs(pairs: &mut Vec<(usize, usize)>, place: usize, keys: &[Key]) -> Result<(), AllocError>
+    ensures { OnOk result
+        (pairs.new.items ≡ pairs.old.items ++ map (λ k. (place, place_of k)) keys.now) }
+{
+    for key in keys {
+        pairs.push((place, place_of(*key)))?;
+    }
+    Ok(())
+}
+
+/// The pairs of places whose conductors touch.
+fn touching_pairs(
+    alloc: Global,
+    index: &mut TouchIndex,
+    conductors: &[SheetConductor],
+) -> Result<Vec<(usize, usize)>, AllocError>
+    requires { Indexes index.old.conductors conductors.now (length conductors.now) }
+    ensures { IfOk result
+        (λ pairs. ArePairs conductors.now (length conductors.now) pairs.items) }
+{
+    let mut pairs = Vec::new(alloc);
+    for place in 0..conductors.len() {
+        let keys = index.neighbours(key_at(place))?;
+        push_pairs(&mut pairs, place, &keys)?;
+    }
+    Ok(pairs)
+}
+
+/// The least place of the class of each conductor: conductors that touch stand in one class.
+pub fn classes(alloc: Global, conductors: &[SheetConductor]) -> Result<Vec<usize>, AllocError>
+    ensures { IfOk result
+        (λ labels. AreClasses (Linked (flattened_by conductors.now)) (length conductors.now)
+        labels.items) }
+{
+    let mut index = fill(alloc, conductors)?;
+    let pairs = touching_pairs(alloc, &mut index, conductors)?;
+    classes_of_pairs(alloc, conductors.len(), &pairs)
 }

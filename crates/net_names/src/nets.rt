@@ -1,7 +1,6 @@
 // The net list as a value.
 use attr_rules::PinKind;
-use geda_model::{Block, Line, Word};
-use std::marker::Model;
+use geda_model::{Block, Items, Line, Word};
 
 /// A pin of a package in a net.
 #[derive(Debug, Drop)]
@@ -15,37 +14,7 @@ pub struct Member {
 }
 
 /// Members in order of the bytes of the refdes, then of the number, each pair once.
-#[derive(Debug, Drop)]
-pub struct Members {
-    list: Vec<Member>,
-}
-
-impl Model for Members {
-    ghost use Rattle.std.specs.Prelude.{List};
-    ghost use Rattle.net_names.specs.declared.nets.Member.{Member};
-
-    ghost Value = { List Member };
-
-    ghost view = { λ m. m.list.items };
-}
-
-impl Members {
-    ghost use Rattle.std.specs.Prelude.{◌≡◌};
-
-    /// The members of a list. It takes no memory.
-    pub fn from_vec(list: Vec<Member>) -> Members
-        ensures { result ≡ list.items }
-    {
-        Members { list }
-    }
-
-    /// The members, in order. It takes no memory.
-    pub fn as_slice(&self) -> &[Member]
-        ensures { result.now ≡ self.now }
-    {
-        self.list.as_slice()
-    }
-}
+pub type Members = Items<Member>;
 
 /// How a net got its name.
 #[derive(Clone, Copy, Debug, PartialEq, Eq)]
@@ -71,39 +40,9 @@ pub struct Net {
     pub members: Members,
 }
 
-/// Nets: the named ones by the bytes of the name, then the unnamed and the unconnected ones, each by
-/// number.
-#[derive(Debug, Drop)]
-pub struct NetList {
-    list: Vec<Net>,
-}
-
-impl Model for NetList {
-    ghost use Rattle.std.specs.Prelude.{List};
-    ghost use Rattle.net_names.specs.declared.nets.Net.{Net};
-
-    ghost Value = { List Net };
-
-    ghost view = { λ n. n.list.items };
-}
-
-impl NetList {
-    ghost use Rattle.std.specs.Prelude.{◌≡◌};
-
-    /// The nets of a list. It takes no memory.
-    pub fn from_vec(list: Vec<Net>) -> NetList
-        ensures { result ≡ list.items }
-    {
-        NetList { list }
-    }
-
-    /// The nets, in order. It takes no memory.
-    pub fn as_slice(&self) -> &[Net]
-        ensures { result.now ≡ self.now }
-    {
-        self.list.as_slice()
-    }
-}
+/// Nets: the named ones by the bytes of the name, then the unnamed and the unconnected ones, each
+/// by number.
+pub type NetList = Items<Net>;
 
 /// One physical part: all components with one refdes.
 #[derive(Debug, Drop)]
@@ -119,37 +58,7 @@ pub struct Package {
 }
 
 /// Packages in order of the bytes of the refdes, each once.
-#[derive(Debug, Drop)]
-pub struct Packages {
-    list: Vec<Package>,
-}
-
-impl Model for Packages {
-    ghost use Rattle.std.specs.Prelude.{List};
-    ghost use Rattle.net_names.specs.declared.nets.Package.{Package};
-
-    ghost Value = { List Package };
-
-    ghost view = { λ p. p.list.items };
-}
-
-impl Packages {
-    ghost use Rattle.std.specs.Prelude.{◌≡◌};
-
-    /// The packages of a list. It takes no memory.
-    pub fn from_vec(list: Vec<Package>) -> Packages
-        ensures { result ≡ list.items }
-    {
-        Packages { list }
-    }
-
-    /// The packages, in order. It takes no memory.
-    pub fn as_slice(&self) -> &[Package]
-        ensures { result.now ≡ self.now }
-    {
-        self.list.as_slice()
-    }
-}
+pub type Packages = Items<Package>;
 
 /// The net list of a sheet.
 #[derive(Debug, Drop)]

@@ -1,12 +1,12 @@
 // Nets without names, numbered from 1 in the order of their classes.
 ghost use Rattle.std.specs.Prelude.{◌≡◌, ◌++◌, IfOk, OnOk, decimal, map};
 ghost use Rattle.net_names.specs.NetLists.{net_of};
-ghost use Rattle.net_names.specs.Grouping.{numbered_from};
+ghost use Rattle.net_names.specs.steps.Gathering.{numbered_from};
 
+use crate::class_pins::ClassPin;
+use crate::net_classes::NetClass;
 use crate::nets::{Member, Members, Net, NetSort};
-use crate::ordered::Class;
-use crate::pins::ClassPin;
-use geda_model::Block;
+use geda_model::{Block, Items};
 use std::alloc::{AllocError, Global};
 use std::collections::BTreeSet;
 
@@ -18,7 +18,7 @@ fn members(alloc: Global, pins: BTreeSet<ClassPin>) -> Result<Members, AllocErro
         let ClassPin { member, .. } = pin;
         members.push(member)?;
     }
-    Ok(Members::from_vec(members))
+    Ok(Items::from_vec(members))
 }
 
 fn numbered_net(
@@ -26,11 +26,11 @@ fn numbered_net(
     prefix: &str,
     number: usize,
     sort: NetSort,
-    class: Class,
+    class: NetClass,
 ) -> Result<Net, AllocError>
     ensures { IfOk result (λ net. net ≡ net_of (prefix.now ++ decimal number) sort class) }
 {
-    let Class { pins, .. } = class;
+    let NetClass { pins, .. } = class;
     let name = Block::from_string(format!(in alloc; "{prefix}{number}")?);
     let members = members(alloc, pins)?;
     Ok(Net {
@@ -47,7 +47,7 @@ pub fn number_classes(
     nets: &mut Vec<Net>,
     prefix: &str,
     sort: NetSort,
-    classes: BTreeSet<Class>,
+    classes: BTreeSet<NetClass>,
 ) -> Result<(), AllocError>
     ensures { OnOk result
         (nets.new.items ≡ nets.old.items ++ numbered_from 1 prefix.now sort classes.keys) }

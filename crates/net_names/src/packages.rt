@@ -1,204 +1,114 @@
 // The packages of a sheet.
-ghost use Rattle.std.specs.Prelude.{◌≡◌, IfOk, OnOk, map};
-ghost use Rattle.std.specs.List.{filter_map};
-ghost use Rattle.net_names.specs.Order.{once_in_order, by_bytes};
-ghost use Rattle.net_names.specs.Sheets.{refdes_of};
-ghost use Rattle.net_names.specs.Packages.{packages_of};
-ghost use Rattle.net_names.specs.FirstValues.{AddsObject, AddsValue, HasAttributes, HasFirstValues};
-ghost use Rattle.net_names.specs.FirstValues.{package_at, value_at};
+ghost use Rattle.std.specs.Prelude.{◌≡◌, IfOk, None, OnOk, Some, codes, map};
+ghost use Rattle.std.specs.BTreeMap.{IsOrdered};
+ghost use Rattle.std.specs.Option.{option_or};
+ghost use Rattle.attr_rules.specs.Attributes.{attr};
+ghost use Rattle.net_names.specs.Order.{by_bytes};
+ghost use Rattle.net_names.specs.steps.PackageRows.{TakesIn, no_attributes, package_of_row};
+ghost use Rattle.net_names.specs.steps.PackageRows.{with_attributes_of};
 
 use crate::nets::{Package, Packages};
-use crate::sheets::refdes_of;
 use attr_rules::attr_of;
-use geda_model::{Block, Line, Object, Sheet};
+use geda_model::{Block, Items, Line, Object};
 use std::alloc::{AllocError, Global};
-use std::collections::{BTreeMap, BTreeSet};
+use std::collections::BTreeMap;
 
-// The attributes of packages, each by refdes.
-#[derive(Drop)]
-struct Attributes {
-    devices: BTreeMap<Line, Block>,
-    values: BTreeMap<Line, Block>,
-    footprints: BTreeMap<Line, Block>,
+/// The attributes of a package, as far as they are known.
+#[derive(Debug, Drop)]
+pub struct PackageAttributes {
+    /// The attribute `device`.
+    pub device: Option<Block>,
+    /// The attribute `value`.
+    pub value: Option<Block>,
+    /// The attribute `footprint`.
+    pub footprint: Option<Block>,
 }
 
-fn add_value(
-    alloc: Global,
-    values: &mut BTreeMap<Line, Block>,
-    refdes: Line,
-    value: &str,
-) -> Result<(), AllocError>
-    ensures { OnOk result (AddsValue refdes value.now values.old values.new) }
+fn no_attributes() -> PackageAttributes
+    ensures { result ≡ no_attributes }
 {
-    if values.contains_key(&refdes) {
-        return Ok(());
+    PackageAttributes {
+        device: None,
+        value: None,
+        footprint: None,
     }
-    let value = Block::new(alloc, value)?;
-    values.insert(refdes, value)?;
-    Ok(())
 }
 
-fn add_object(
+fn known_or(
     alloc: Global,
-    values: &mut BTreeMap<Line, Block>,
-    name: &str,
+    known: Option<Block>,
     object: &Object,
-) -> Result<(), AllocError>
-    ensures { OnOk result (AddsObject name.now object.now values.old values.new) }
+    name: &str,
+) -> Result<Option<Block>, AllocError>
+    ensures { IfOk result (λ value. value ≡ option_or known (attr object.now None name.now)) }
 {
-    match attr_of(object, None, name) {
-        None => Ok(()),
-        Some(value) => match refdes_of(alloc, object)? {
-            None => Ok(()),
-            Some(refdes) => add_value(alloc, values, refdes, value),
+    match known {
+        Some(value) => Ok(Some(value)),
+        None => match attr_of(object, None, name) {
+            Some(value) => Ok(Some(Block::new(alloc, value)?)),
+            None => Ok(None),
         },
     }
 }
 
-fn first_values(
+fn with_attributes_of(
     alloc: Global,
-    objects: &[Object],
-    name: &str,
-) -> Result<BTreeMap<Line, Block>, AllocError>
-    ensures { IfOk result (HasFirstValues objects.now name.now) }
+    attributes: PackageAttributes,
+    object: &Object,
+) -> Result<PackageAttributes, AllocError>
+    ensures { IfOk result (λ made. made ≡ with_attributes_of object.now attributes) }
 {
-    let mut values = BTreeMap::new(alloc);
-    for object in objects {
-        add_object(alloc, &mut values, name, object)?;
-    }
-    Ok(values)
-}
-
-fn attributes_of(alloc: Global, objects: &[Object]) -> Result<Attributes, AllocError>
-    ensures { IfOk result (HasAttributes objects.now) }
-{
-    let devices = first_values(alloc, objects, "device")?;
-    let values = first_values(alloc, objects, "value")?;
-    let footprints = first_values(alloc, objects, "footprint")?;
-    Ok(Attributes {
-        devices,
-        values,
-        footprints,
-    })
-}
-
-fn refdes_set(alloc: Global, objects: &[Object]) -> Result<BTreeSet<Line>, AllocError>
-    ensures { IfOk result (λ set. set.keys ≡ once_in_order by_bytes
-        (filter_map refdes_of objects.now)) }
-{
-    let mut set = BTreeSet::new(alloc);
-    for object in objects {
-        if let Some(refdes) = refdes_of(alloc, object)? {
-            set.insert(refdes)?;
-        }
-    }
-    Ok(set)
-}
-
-fn value_at(values: &BTreeMap<Line, Block>, refdes: &Line) -> Result<Option<Block>, AllocError>
-    ensures { IfOk result (λ value. value ≡ value_at values.now refdes.now) }
-{
-    match values.get(refdes) {
-        None => Ok(None),
-        Some(value) => {
-            let value = value.clone()?;
-            Ok(Some(value))
-        }
-    }
-}
-
-fn package_at(attributes: &Attributes, refdes: Line) -> Result<Package, AllocError>
-    ensures { IfOk result (λ made. made ≡ package_at attributes.now refdes) }
-{
-    let device = value_at(&attributes.devices, &refdes)?;
-    let value = value_at(&attributes.values, &refdes)?;
-    let footprint = value_at(&attributes.footprints, &refdes)?;
-    Ok(Package {
-        refdes,
+    let PackageAttributes {
+        device,
+        value,
+        footprint,
+    } = attributes;
+    let device = known_or(alloc, device, object, "device")?;
+    let value = known_or(alloc, value, object, "value")?;
+    let footprint = known_or(alloc, footprint, object, "footprint")?;
+    Ok(PackageAttributes {
         device,
         value,
         footprint,
     })
 }
 
-fn packages_at(
+/// Takes in a component that has a refdes. An attribute that its package has already stays.
+pub fn take_component(
     alloc: Global,
-    attributes: &Attributes,
-    set: BTreeSet<Line>,
-) -> Result<Vec<Package>, AllocError>
-    ensures { IfOk result (λ packages. packages.items ≡ map (package_at attributes.now) set.keys) }
+    rows: &mut BTreeMap<Line, PackageAttributes>,
+    refdes: Line,
+    object: &Object,
+) -> Result<(), AllocError>
+    ensures { OnOk result (TakesIn object.now (Some refdes) rows.old rows.new) }
+{
+    let known = rows.remove(&refdes).unwrap_or(no_attributes());
+    let attributes = with_attributes_of(alloc, known, object)?;
+    rows.insert(refdes, attributes)?;
+    Ok(())
+}
+
+/// The packages of rows, in order of the bytes of the refdes.
+pub fn packages_of_rows(
+    alloc: Global,
+    rows: BTreeMap<Line, PackageAttributes>,
+) -> Result<Packages, AllocError>
+    ensures packages { IfOk result (λ packages. packages ≡ map package_of_row rows.entries) }
+    ensures ordered { IsOrdered by_bytes rows }
 {
     let mut packages = Vec::new(alloc);
-    for refdes in set {
-        packages.push(package_at(attributes, refdes)?)?;
+    for (refdes, attributes) in rows {
+        let PackageAttributes {
+            device,
+            value,
+            footprint,
+        } = attributes;
+        packages.push(Package {
+            refdes,
+            device,
+            value,
+            footprint,
+        })?;
     }
-    Ok(packages)
-}
-
-fn packages_of_objects(alloc: Global, objects: &[Object]) -> Result<Vec<Package>, AllocError>
-    ensures { IfOk result (λ packages. packages.items ≡ packages_of objects.now) }
-{
-    let attributes = attributes_of(alloc, objects)?;
-    let set = refdes_set(alloc, objects)?;
-    packages_at(alloc, &attributes, set)
-}
-
-/// The packages of a sheet, in order of the bytes of the refdes (docs/RULES.md, "Packages").
-///
-/// All components with one refdes are one package, and each attribute is that of the first of them
-/// that has it.
-pub fn packages_of(alloc: Global, sheet: &Sheet) -> Result<Packages, AllocError>
-    ensures { IfOk result (λ packages. packages ≡ packages_of sheet.now.objects) }
-{
-    let packages = packages_of_objects(alloc, sheet.objects.as_slice())?;
-    Ok(Packages::from_vec(packages))
-}
-
-#[cfg(test)]
-mod tests {
-    use super::*;
-    use crate::sheets::tests::component;
-    use geda_model::{Head, Objects};
-    use std::test::Fail;
-
-    fn text_of(value: &Option<Block>) -> &str {
-        match value {
-            None => "",
-            Some(value) => value.as_str(),
-        }
-    }
-
-    // The refdes, device, value and footprint, empty for none.
-    fn texts_of(package: &Package) -> (&str, &str, &str, &str) {
-        let device = text_of(&package.device);
-        let value = text_of(&package.value);
-        let footprint = text_of(&package.footprint);
-        (package.refdes.as_str(), device, value, footprint)
-    }
-
-    #[test]
-    fn the_first_component_with_an_attribute_gives_it(rt: HostRuntime) -> Result<(), Fail> {
-        let alloc = rt.alloc();
-        let mut list = Vec::new(alloc);
-        list.push(component(alloc, &["refdes=R2", "device=RESISTOR"])?)?;
-        list.push(component(alloc, &["device=NONE"])?)?;
-        list.push(component(alloc, &["refdes=R1\nR3", "device=NONE"])?)?;
-        list.push(component(alloc, &["refdes=R2", "device=OTHER", "value=1k"])?)?;
-        list.push(component(alloc, &["refdes=R10", "footprint=0805"])?)?;
-        let head = Head {
-            date: 20260101,
-            format: 2,
-        };
-        let sheet = Sheet {
-            head,
-            objects: Objects::from_vec(list),
-        };
-        let packages = packages_of(alloc, &sheet)?;
-        let expected = [("R10", "", "", "0805"), ("R2", "RESISTOR", "1k", "")];
-        assert_eq!(rt; packages.as_slice().len(), expected.len());
-        for (package, row) in packages.as_slice().iter().zip(expected) {
-            assert_eq!(rt; texts_of(package), row);
-        }
-        Ok(())
-    }
+    Ok(Items::from_vec(packages))
 }

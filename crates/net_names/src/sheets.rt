@@ -1,105 +1,22 @@
-// What joins on a plain sheet.
-ghost use Rattle.std.specs.Prelude.{◌≡◌, ◌≤◌, [], ◌∷◌, All, IfOk, OnOk, Some, codes, length, map, option_copied};
+// What joins on a plain sheet, and the packages that its components are of.
+ghost use Rattle.std.specs.Prelude.{◌≡◌, ◌≤◌, All, IfOk, OnOk, Some, length, map, option_copied};
 ghost use Rattle.geda_model.specs.declared.object.Body.TheVariants as bodies;
 ghost use Rattle.attr_rules.specs.Plain.{IsPlain, IsPlainObject};
-ghost use Rattle.net_names.specs.Sheets.{active_end, flats_from, flats_of_object, flats_of_pins, flattened};
-ghost use Rattle.net_names.specs.Sheets.{if_line, member_of, net_pin, net_pins, pin_number, refdes_of};
-ghost use Rattle.net_names.specs.Joints.{flat_of, flattened_by};
-ghost use Rattle.net_names.specs.Gathering.{GrowsBy, pin_at};
+ghost use Rattle.net_names.specs.Sheets.{conductors_from, conductors_of_object};
+ghost use Rattle.net_names.specs.Sheets.{conductors_of_pins, flattened, if_line, member_of};
+ghost use Rattle.net_names.specs.Sheets.{net_pins, pin_conductor, refdes_of};
+ghost use Rattle.net_names.specs.steps.PackageRows.{AreRowsOf, TakesIn};
+ghost use Rattle.net_names.specs.steps.SheetConductors.{flat_conductor, flattened_by, GrowsBy};
 
-use crate::joints::Joint;
+use crate::conductors::SheetConductor;
+use crate::net_pins::{NetPin, net_pin};
 use crate::nets::Member;
-use attr_rules::{PinKind, attr_of, first_value, pin_kind};
+use crate::packages::{PackageAttributes, take_component};
+use attr_rules::attr_of;
 use geda_geom::{Conductor, Key, Point};
-use geda_model::{Body, Component, Line, NameFault, Object, Part, Shape, Sheet, Text, Word};
+use geda_model::{Body, Component, Line, NameFault, Object, Part, Shape, Sheet};
 use std::alloc::{AllocError, Global};
-use std::marker::Model;
-
-// A net pin of the symbol of a component.
-#[derive(Drop)]
-struct NetPin {
-    active: Point,
-    number: Word,
-    kind: PinKind,
-}
-
-impl Model for NetPin {
-    ghost use Rattle.net_names.specs.Sheets.{PinData};
-
-    ghost Value = { PinData };
-
-    ghost view = { λ p. record { active = p.active; number = p.number; kind = p.kind } };
-}
-
-fn question_mark(alloc: Global) -> Result<Word, AllocError>
-    ensures { IfOk result (λ word. word ≡ codes "?") }
-{
-    match Word::new(alloc, "?") {
-        Ok(word) => Ok(word),
-        // `?` is a Word, so that memory ran out.
-        Err(_) => Err(AllocError),
-    }
-}
-
-fn number_of(alloc: Global, value: &str) -> Result<Word, AllocError>
-    ensures { IfOk result (λ word. word ≡ pin_number (Some value.now)) }
-{
-    match Word::new(alloc, value) {
-        Ok(word) => Ok(word),
-        Err(NameFault::NotAName) => question_mark(alloc),
-        Err(NameFault::NoMemory) => Err(AllocError),
-    }
-}
-
-fn pin_number(alloc: Global, value: Option<&str>) -> Result<Word, AllocError>
-    ensures { IfOk result (λ word. word ≡ pin_number (option_copied value.entry)) }
-{
-    match value {
-        Some(value) => number_of(alloc, value),
-        None => question_mark(alloc),
-    }
-}
-
-fn active_end(first: Point, second: Point, whichend: u8) -> Point
-    ensures { result ≡ active_end first.x first.y second.x second.y whichend }
-{
-    if whichend == 0 { first } else { second }
-}
-
-fn pin_at(alloc: Global, active: Point, attrs: &[Text]) -> Result<NetPin, AllocError>
-    ensures { IfOk result (λ pin. pin ≡ pin_at active attrs.now) }
-{
-    let number = pin_number(alloc, first_value(attrs, "pinnumber"))?;
-    let kind = pin_kind(first_value(attrs, "pintype"));
-    Ok(NetPin {
-        active,
-        number,
-        kind,
-    })
-}
-
-fn net_pin(alloc: Global, part: &Part) -> Result<Option<NetPin>, AllocError>
-    ensures { IfOk result (λ pin. pin ≡ net_pin part.now) }
-{
-    match &part.shape {
-        Shape::Pin {
-            x1,
-            y1,
-            x2,
-            y2,
-            bus: false,
-            whichend,
-            ..
-        } => {
-            let first = Point { x: *x1, y: *y1 };
-            let second = Point { x: *x2, y: *y2 };
-            let active = active_end(first, second, *whichend);
-            let pin = pin_at(alloc, active, part.attrs.as_slice())?;
-            Ok(Some(pin))
-        }
-        _ => Ok(None),
-    }
-}
+use std::collections::BTreeMap;
 
 fn line_of(alloc: Global, value: &str) -> Result<Option<Line>, AllocError>
     ensures { IfOk result (λ line. line ≡ if_line (Some value.now)) }
@@ -113,8 +30,9 @@ fn line_of(alloc: Global, value: &str) -> Result<Option<Line>, AllocError>
 
 /// The refdes of a component (docs/RULES.md, "Packages").
 ///
-/// `None` exactly where the object is no component, has no attribute `refdes`, or has one with an LF.
-pub fn refdes_of(alloc: Global, object: &Object) -> Result<Option<Line>, AllocError>
+/// `None` exactly where the object is no component, has no attribute `refdes`, or has one with an
+/// LF.
+fn refdes_of(alloc: Global, object: &Object) -> Result<Option<Line>, AllocError>
     ensures { IfOk result (λ refdes. refdes ≡ refdes_of object.now) }
 {
     match &object.body {
@@ -142,79 +60,62 @@ fn member_of(refdes: Option<&Line>, pin: NetPin) -> Result<Option<Member>, Alloc
     }
 }
 
-fn joint_of(id: u32, place: u32, refdes: Option<&Line>, pin: NetPin) -> Result<Joint, AllocError>
+fn pin_conductor(
+    id: u32,
+    place: u32,
+    refdes: Option<&Line>,
+    pin: NetPin,
+) -> Result<SheetConductor, AllocError>
     ensures { IfOk result
-        (λ joint. flat_of joint ∷ [] ≡ flats_of_pins id (option_copied refdes.entry) place (pin ∷ [])) }
+        (λ c. flat_conductor c ≡ pin_conductor id (option_copied refdes.entry) place pin) }
 {
     let key = Key { id, place };
-    let conductor = Conductor::End { at: pin.active };
+    let shape = Conductor::End { at: pin.active };
     let member = member_of(refdes, pin)?;
-    Ok(Joint {
-        key,
-        conductor,
-        member,
-    })
+    Ok(SheetConductor { key, shape, member })
 }
 
 fn push_pins(
     alloc: Global,
-    joints: &mut Vec<Joint>,
+    conductors: &mut Vec<SheetConductor>,
     id: u32,
     refdes: Option<&Line>,
     parts: &[Part],
 ) -> Result<(), AllocError>
     requires { length parts.now ≤ 4294967295 }
     ensures { OnOk result
-        (GrowsBy joints.old.items joints.new.items
-        (flats_of_pins id (option_copied refdes.entry) 0 (net_pins parts.now))) }
+        (GrowsBy conductors.old.items conductors.new.items
+        (conductors_of_pins id (option_copied refdes.entry) 0 (net_pins parts.now))) }
 {
     let mut place: u32 = 0;
     for part in parts {
         if let Some(pin) = net_pin(alloc, part)? {
-            joints.push(joint_of(id, place, refdes, pin)?)?;
+            conductors.push(pin_conductor(id, place, refdes, pin)?)?;
             place += 1;
         }
     }
     Ok(())
 }
 
-fn push_component(
-    alloc: Global,
-    joints: &mut Vec<Joint>,
-    id: u32,
-    object: &Object,
-    component: &Component,
-) -> Result<(), AllocError>
-    requires { object.now.body ≡ bodies.Component component.now }
-    ensures { OnOk result (GrowsBy joints.old.items joints.new.items
-        (flats_of_object id object.now)) }
-{
-    let refdes = refdes_of(alloc, object)?;
-    match &component.embedded {
-        Some(parts) => push_pins(alloc, joints, id, refdes.as_ref(), parts.as_slice()),
-        None => Ok(()),
-    }
-}
-
 fn push_shape(
-    joints: &mut Vec<Joint>,
+    conductors: &mut Vec<SheetConductor>,
     id: u32,
     object: &Object,
     shape: &Shape,
 ) -> Result<(), AllocError>
     requires body { object.now.body ≡ bodies.Shape shape.now }
     requires plain { IsPlainObject object.now }
-    ensures { OnOk result (GrowsBy joints.old.items joints.new.items
-        (flats_of_object id object.now)) }
+    ensures { OnOk result (GrowsBy conductors.old.items conductors.new.items
+        (conductors_of_object id object.now)) }
 {
     match shape {
         Shape::Net { x1, y1, x2, y2, .. } => {
             let a = Point { x: *x1, y: *y1 };
             let b = Point { x: *x2, y: *y2 };
             let key = Key { id, place: 0 };
-            joints.push(Joint {
+            conductors.push(SheetConductor {
                 key,
-                conductor: Conductor::Segment { a, b },
+                shape: Conductor::Segment { a, b },
                 member: None,
             })?;
             Ok(())
@@ -223,45 +124,89 @@ fn push_shape(
     }
 }
 
-fn push_object(
-    alloc: Global,
-    joints: &mut Vec<Joint>,
-    id: u32,
-    object: &Object,
-) -> Result<(), AllocError>
-    requires { IsPlainObject object.now }
-    ensures { OnOk result (GrowsBy joints.old.items joints.new.items
-        (flats_of_object id object.now)) }
-{
-    match &object.body {
-        Body::Shape(shape) => push_shape(joints, id, object, shape),
-        Body::Component(component) => push_component(alloc, joints, id, object, component),
+/// What a sheet has, as far as its objects are taken in.
+#[derive(Debug, Drop)]
+pub struct SheetContents {
+    /// What joins, in order of keys.
+    pub conductors: Vec<SheetConductor>,
+    /// The attributes of packages, by refdes.
+    pub rows: BTreeMap<Line, PackageAttributes>,
+}
+
+impl SheetContents {
+    fn take_component(
+        &mut self,
+        alloc: Global,
+        id: u32,
+        object: &Object,
+        component: &Component,
+    ) -> Result<(), AllocError>
+        requires { object.now.body ≡ bodies.Component component.now }
+        ensures conductors { OnOk result
+            (GrowsBy self.old.conductors.items self.new.conductors.items
+            (conductors_of_object id object.now)) }
+        ensures rows { OnOk result
+            (TakesIn object.now (refdes_of object.now) self.old.rows self.new.rows) }
+    {
+        let refdes = refdes_of(alloc, object)?;
+        if let Some(parts) = &component.embedded {
+            push_pins(
+                alloc,
+                &mut self.conductors,
+                id,
+                refdes.as_ref(),
+                parts.as_slice(),
+            )?;
+        }
+        match refdes {
+            Some(refdes) => take_component(alloc, &mut self.rows, refdes, object),
+            None => Ok(()),
+        }
+    }
+
+    fn take(&mut self, alloc: Global, id: u32, object: &Object) -> Result<(), AllocError>
+        requires { IsPlainObject object.now }
+        ensures conductors { OnOk result
+            (GrowsBy self.old.conductors.items self.new.conductors.items
+            (conductors_of_object id object.now)) }
+        ensures rows { OnOk result
+            (TakesIn object.now (refdes_of object.now) self.old.rows self.new.rows) }
+    {
+        match &object.body {
+            Body::Shape(shape) => push_shape(&mut self.conductors, id, object, shape),
+            Body::Component(component) => self.take_component(alloc, id, object, component),
+        }
     }
 }
 
-fn joints_of_objects(alloc: Global, objects: &[Object]) -> Result<Vec<Joint>, AllocError>
+fn contents_of_objects(alloc: Global, objects: &[Object]) -> Result<SheetContents, AllocError>
     requires plain { All IsPlainObject objects.now }
     requires few { length objects.now ≤ 4294967295 }
-    ensures { IfOk result (λ joints. map flat_of joints.items ≡ flats_from 0 objects.now) }
+    ensures conductors { IfOk result
+        (λ s. map flat_conductor s.conductors.items ≡ conductors_from 0 objects.now) }
+    ensures rows { IfOk result (λ s. AreRowsOf objects.now s.rows) }
 {
-    let mut joints = Vec::new(alloc);
+    let mut contents = SheetContents {
+        conductors: Vec::new(alloc),
+        rows: BTreeMap::new(alloc),
+    };
     let mut id: u32 = 0;
     for object in objects {
-        push_object(alloc, &mut joints, id, object)?;
+        contents.take(alloc, id, object)?;
         id += 1;
     }
-    Ok(joints)
+    Ok(contents)
 }
 
-/// What joins on a plain sheet, in order of keys (docs/RULES.md, "Nets").
+/// What joins on a plain sheet, in order of keys, and the attributes of its packages
+/// (docs/RULES.md, "Nets" and "Packages").
 ///
 /// An object's id is its place among the objects of the sheet, counted from 0.
-pub fn joints_of(alloc: Global, sheet: &Sheet) -> Result<Vec<Joint>, AllocError>
+pub fn contents_of(alloc: Global, sheet: &Sheet) -> Result<SheetContents, AllocError>
     requires { IsPlain sheet.now }
-    ensures { IfOk result (λ joints. flattened sheet.now ≡ flattened_by joints.items) }
+    ensures conductors { IfOk result
+        (λ s. flattened sheet.now ≡ flattened_by s.conductors.items) }
+    ensures rows { IfOk result (λ s. AreRowsOf sheet.now.objects s.rows) }
 {
-    joints_of_objects(alloc, sheet.objects.as_slice())
+    contents_of_objects(alloc, sheet.objects.as_slice())
 }
-
-#[cfg(test)]
-pub mod tests;

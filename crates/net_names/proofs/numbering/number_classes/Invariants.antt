@@ -1,5 +1,5 @@
 use Rattle.std.proofs.Common.{◌≡◌, ◌++◌, ◌+◌, length}
-use Rattle.net_names.specs.Grouping.{numbered_from}
+use Rattle.net_names.specs.steps.Gathering.{numbered_from}
 use Rattle.net_names.proofs.numbering.number_classes.Given as goal
 
 abbrev pub invariant-loop-class : goal.invariant-loop-class

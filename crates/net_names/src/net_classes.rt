@@ -1,0 +1,177 @@
+// Classes of conductors that have no names, in order of their least pins.
+ghost use Rattle.std.specs.Prelude.{◌≡◌, IfOk, OnOk, option_copied, slice_get};
+ghost use Rattle.std.specs.Option.{option_cmp};
+ghost use Rattle.net_names.specs.NetClasses.{by_pin, has_pins};
+ghost use Rattle.net_names.specs.NetLists.{is_unnamed, is_unconnected};
+ghost use Rattle.net_names.specs.steps.Gathering.{as_net_class, with_class, in_order};
+
+use crate::class_pins::ClassPin;
+use crate::gathering::GrowingClass;
+use std::alloc::{AllocError, Global};
+use std::cmp::Ordering;
+use std::collections::BTreeSet;
+use std::marker::Model;
+
+/// The conductors of one net without a name. Classes are ordered by their least pins, the places
+/// of these last.
+#[derive(Debug, Drop)]
+pub struct NetClass {
+    /// Its pins, each pair of refdes and number once.
+    pub pins: BTreeSet<ClassPin>,
+    /// Whether it is a single drawn pin.
+    pub is_single_pin: bool,
+}
+
+impl Model for NetClass {
+    ghost use Rattle.std.specs.Prelude.{false, []};
+    ghost use Rattle.net_names.specs.NetClasses.{NetClassData};
+
+    ghost Value = { NetClassData };
+
+    ghost view = { λ c. record {
+      pins = c.pins.keys;
+      names = [];
+      global = false;
+      is_single_pin = c.is_single_pin;
+    } };
+}
+
+fn compare_pins(first: &ClassPin, second: &ClassPin) -> Ordering
+    ensures { result ≡ by_pin first.now second.now }
+{
+    first.cmp(second).then(first.place.cmp(&second.place))
+}
+
+fn least_pin(pins: &BTreeSet<ClassPin>) -> Option<&ClassPin>
+    ensures { option_copied result ≡ slice_get pins.now.keys 0 }
+{
+    pins.first()
+}
+
+fn compare_least(first: Option<&ClassPin>, second: Option<&ClassPin>) -> Ordering
+    ensures { result ≡ option_cmp by_pin (option_copied first.entry) (option_copied second.entry) }
+{
+    match (first, second) {
+        (None, None) => Ordering::Equal,
+        (None, Some(_)) => Ordering::Less,
+        (Some(_), None) => Ordering::Greater,
+        (Some(first), Some(second)) => compare_pins(first, second),
+    }
+}
+
+impl PartialEq for NetClass {
+    ghost use Rattle.std.specs.Cmp.{eq_by_cmp_equiv, partial_equiv_from_equiv};
+    ghost use Rattle.std.specs.Ordering.{eq_by_cmp};
+    ghost use Rattle.net_names.specs.NetLists.{by_least_pin};
+    ghost use Rattle.net_names.specs.steps.Orders.{by_least_pin_total};
+
+    ghost eq = { eq_by_cmp by_least_pin };
+
+    ghost laws = { partial_equiv_from_equiv (eq_by_cmp_equiv by_least_pin_total) };
+
+    fn eq(&self, other: &NetClass) -> bool {
+        self.cmp(other).is_eq()
+    }
+}
+
+impl Eq for NetClass {
+    ghost use Rattle.std.specs.Cmp.{eq_by_cmp_equiv};
+    ghost use Rattle.net_names.specs.steps.Orders.{by_least_pin_total};
+
+    ghost laws = { eq_by_cmp_equiv by_least_pin_total };
+}
+
+impl PartialOrd for NetClass {
+    ghost use Rattle.std.specs.Prelude.{Some};
+    ghost use Rattle.std.specs.Cmp.{partial_order_from_total};
+    ghost use Rattle.std.specs.Ordering.{as_partial_cmp};
+    ghost use Rattle.net_names.specs.NetLists.{by_least_pin};
+    ghost use Rattle.net_names.specs.steps.Orders.{by_least_pin_total};
+
+    ghost partial_cmp = { as_partial_cmp by_least_pin };
+
+    ghost laws = { partial_order_from_total by_least_pin_total };
+
+    fn partial_cmp(&self, other: &NetClass) -> Option<Ordering> {
+        Some(self.cmp(other))
+    }
+}
+
+impl Ord for NetClass {
+    ghost use Rattle.std.proofs.Common.{rules};
+    ghost use Rattle.std.specs.Cmp.Rules.{comparing};
+    ghost use Rattle.net_names.specs.NetLists.{by_least_pin};
+    ghost use Rattle.net_names.specs.steps.Orders.{by_least_pin_total};
+
+    ghost cmp = { by_least_pin };
+
+    ghost total = { by_least_pin_total };
+
+    ghost matches_partial_cmp = { Prim.search (comparing, rules) };
+
+    ghost matches_eq = { Prim.search (comparing, rules) };
+
+    fn cmp(&self, other: &NetClass) -> Ordering {
+        compare_least(least_pin(&self.pins), least_pin(&other.pins))
+    }
+}
+
+/// Classes that have members, in order: those that print as unnamed, and those that print as
+/// unconnected.
+#[derive(Debug, Drop)]
+pub struct NetClasses {
+    /// Of two and more conductors, or of a single one that is no drawn pin.
+    pub unnamed: BTreeSet<NetClass>,
+    /// Of a single drawn pin.
+    pub unconnected: BTreeSet<NetClass>,
+}
+
+fn net_class(growing: GrowingClass) -> NetClass
+    ensures { result ≡ as_net_class growing }
+{
+    let GrowingClass {
+        pins,
+        is_single_pin,
+        ..
+    } = growing;
+    NetClass {
+        pins,
+        is_single_pin,
+    }
+}
+
+impl NetClasses {
+    fn take(&mut self, class: NetClass) -> Result<(), AllocError>
+        ensures unnamed { OnOk result
+            (self.new.unnamed.keys ≡ with_class is_unnamed self.old.unnamed.keys class) }
+        ensures unconnected { OnOk result
+            (self.new.unconnected.keys
+            ≡ with_class is_unconnected self.old.unconnected.keys class) }
+    {
+        if class.pins.len() == 0 {
+            return Ok(());
+        }
+        if class.is_single_pin {
+            self.unconnected.insert(class)?;
+        } else {
+            self.unnamed.insert(class)?;
+        }
+        Ok(())
+    }
+}
+
+/// The classes that have members, in order.
+pub fn in_order(alloc: Global, growing: Vec<GrowingClass>) -> Result<NetClasses, AllocError>
+    ensures unnamed { IfOk result (λ o. o.unnamed.keys ≡ in_order is_unnamed growing.items) }
+    ensures unconnected { IfOk result
+        (λ o. o.unconnected.keys ≡ in_order is_unconnected growing.items) }
+{
+    let mut ordered = NetClasses {
+        unnamed: BTreeSet::new(alloc),
+        unconnected: BTreeSet::new(alloc),
+    };
+    for class in growing {
+        ordered.take(net_class(class))?;
+    }
+    Ok(ordered)
+}
