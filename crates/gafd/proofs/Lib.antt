@@ -1,4 +1,4 @@
-pub mod Files
-pub mod Results
-pub mod Spaces
-pub mod Texts
+mod OneOutcome
+mod Passing
+mod Reading
+mod Spaces

@@ -1,18 +1,45 @@
--- How the program passes on the faults of its parts (own).
-use Rattle.std.specs.Prelude.{◌≡◌}
-use Rattle.geda_read.specs.declared.ReadFault.{ReadFault}
-use Rattle.geda_read.specs.declared.ReadFault.TheVariants as read
-use Rattle.gafd.specs.declared.folder.FolderFault.{FolderFault}
-use Rattle.gafd.specs.declared.folder.FolderFault.TheVariants as folder
+-- The status and the line of each fault (own).
+use Rattle.std.specs.Prelude.{ℕ, List, ◌++◌, codes}
+use Rattle.std.specs.Fmt.{decimal}
+use Rattle.geda_grammar.specs.declared.kind.ReadKind.{ReadKind}
+use Rattle.geda_grammar.specs.declared.kind.ReadKind.TheVariants as kinds
 use Rattle.gafd.specs.declared.fault.RunFault.{RunFault}
 use Rattle.gafd.specs.declared.fault.RunFault.TheVariants as faults
 
--- what a fault of the folder becomes
-abbrev pub FromFolder : FolderFault → RunFault → Type 0
-FromFolder folder.Failed e = e ≡ faults.FolderFault
-FromFolder folder.NoMemory e = e ≡ faults.NoMemory
+-- the status with which the program ends
+abbrev pub status_of : RunFault → ℕ
+status_of (faults.Missing file) = 1
+status_of (faults.Refused file line kind) = 1
+status_of faults.Usage = 2
+status_of faults.FolderFault = 3
+status_of faults.OutputFault = 4
+status_of (faults.NotYet file) = 9
+status_of faults.NoMemory = 71
 
--- what a fault of the reader becomes
-abbrev pub FromReader : ReadFault → RunFault → Type 0
-FromReader read.NotYet e = e ≡ faults.NotYet
-FromReader read.NoMemory e = e ≡ faults.NoMemory
+-- the name of a kind, as it prints
+abbrev pub kind_name : ReadKind → List ℕ
+kind_name kinds.NoVersion = codes "NoVersion"
+kind_name kinds.BadFormat = codes "BadFormat"
+kind_name kinds.UnknownLetter = codes "UnknownLetter"
+kind_name kinds.FieldCount = codes "FieldCount"
+kind_name kinds.BadNumber = codes "BadNumber"
+kind_name kinds.OutOfRange = codes "OutOfRange"
+kind_name kinds.BadAngle = codes "BadAngle"
+kind_name kinds.CutShort = codes "CutShort"
+kind_name kinds.StrayBracket = codes "StrayBracket"
+kind_name kinds.NotAttribute = codes "NotAttribute"
+kind_name kinds.Nested = codes "Nested"
+kind_name kinds.NotUtf8 = codes "NotUtf8"
+kind_name kinds.TooLarge = codes "TooLarge"
+
+-- the line that the fault prints
+abbrev pub error_line : RunFault → List ℕ
+error_line (faults.Missing file) = codes "gafd: " ++ file ++ codes ": missing\n"
+error_line (faults.Refused file line kind) =
+    codes "gafd: " ++ file ++ codes ":" ++ decimal line
+    ++ codes ": " ++ kind_name kind ++ codes "\n"
+error_line faults.Usage = codes "gafd: usage\n"
+error_line faults.FolderFault = codes "gafd: folder fault\n"
+error_line faults.OutputFault = codes "gafd: output fault\n"
+error_line (faults.NotYet file) = codes "gafd: " ++ file ++ codes ": NotYet\n"
+error_line faults.NoMemory = codes "gafd: out of memory\n"

@@ -1,4 +1,7 @@
 pub mod Memory
 pub mod ListText
+pub mod Commands
 pub mod Faults
-pub mod Program
+pub mod Answers
+pub mod Runs
+pub mod steps

@@ -35,7 +35,8 @@ field (Some value) = flat value
 
 -- the refdes, device, value and footprint of a package, parted by tabs
 abbrev pub package_line : Package → List ℕ
-package_line p = word p.refdes ++ 9 ∷ (field p.device ++ 9 ∷ (field p.value ++ 9 ∷ field p.footprint))
+package_line p =
+    word p.refdes ++ 9 ∷ (field p.device ++ 9 ∷ (field p.value ++ 9 ∷ field p.footprint))
 
 -- a member: refdes, `-`, pin number
 abbrev pub member_text : Member → List ℕ

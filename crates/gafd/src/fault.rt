@@ -1,26 +1,42 @@
-// Why the program ends otherwise than with success.
+// Why the program ends otherwise than with an answer.
 ghost use Rattle.std.specs.Prelude.{◌≡◌};
-ghost use Rattle.gafd.specs.Faults.{FromFolder, FromReader};
+ghost use Rattle.gafd.specs.steps.Passing.{FromFolder};
 ghost use Rattle.gafd.specs.declared.fault.RunFault.TheVariants.{NoMemory, OutputFault};
 
 use crate::folder::FolderFault;
 use crate::sink::SinkFault;
-use geda_read::ReadFault;
+use geda_grammar::ReadKind;
+use geda_model::Name;
 use std::alloc::AllocError;
 
-/// Why the program ends otherwise than with success (docs/FORMATS.md, "Statuses").
-#[derive(Clone, Copy, Debug, PartialEq, Eq)]
+/// Why the program ends otherwise than with an answer (docs/FORMATS.md, "Statuses").
+#[derive(Debug, Drop)]
 pub enum RunFault {
     /// There is no such file.
-    Missing,
-    /// The words are no command.
+    Missing {
+        /// Its name.
+        file: Name,
+    },
+    /// The file is refused.
+    Refused {
+        /// Its name.
+        file: Name,
+        /// The line of its fault, from 1.
+        line: u32,
+        /// The kind of its fault.
+        kind: ReadKind,
+    },
+    /// The arguments ask for no command.
     Usage,
     /// The folder failed.
     FolderFault,
     /// The output failed.
     OutputFault,
-    /// The file is none that can be read yet.
-    NotYet,
+    /// The file is a sheet whose nets cannot be found yet.
+    NotYet {
+        /// Its name.
+        file: Name,
+    },
     /// Memory ran out.
     NoMemory,
 }
@@ -48,17 +64,6 @@ impl From<FolderFault> for RunFault {
         match fault {
             FolderFault::Failed => RunFault::FolderFault,
             FolderFault::NoMemory => RunFault::NoMemory,
-        }
-    }
-}
-
-impl From<ReadFault> for RunFault {
-    ghost from_gives = { FromReader };
-
-    fn from(fault: ReadFault) -> RunFault {
-        match fault {
-            ReadFault::NotYet => RunFault::NotYet,
-            ReadFault::NoMemory => RunFault::NoMemory,
         }
     }
 }

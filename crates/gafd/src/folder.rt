@@ -5,11 +5,15 @@ ghost use Rattle.geda_defs.specs.Causes.{HasCause};
 ghost use Rattle.geda_defs.specs.Contents.{Files, KeepsFiles, ReadsFile};
 ghost use Rattle.gafd.specs.declared.folder.FolderFault.TheVariants.{NoMemory};
 
-use crate::calls::is_listed;
-use geda_model::Name;
+use crate::failing_calls::is_listed;
+use geda_model::{MOST_FILE_BYTES, Name};
 use std::alloc::{AllocError, Global};
 use std::collections::BTreeMap;
 use std::marker::Model;
+
+/// The bytes that are read of a file at most: one more than a file may have, so that a longer one
+/// is told from the longest.
+pub const MOST_READ_BYTES: usize = MOST_FILE_BYTES + 1;
 
 /// Why a call of a folder failed.
 #[derive(Clone, Copy, Debug, PartialEq, Eq)]
@@ -36,8 +40,8 @@ pub trait Folder {
     /// How often a call failed. The count never falls, and stays at the end of its type.
     ghost faults: { Self → ℕ };
 
-    /// The bytes of a file, or of one of over 4,194,305 bytes just the first so many. `None` exactly
-    /// where there is no such file. All files stay.
+    /// The bytes of a file, or of one of over 4,194,305 bytes just the first so many. `None`
+    /// exactly where there is no such file. All files stay.
     ///
     /// `Failed` only where the count of faults rose.
     fn read(&mut self, alloc: Global, name: &str) -> Result<Option<Vec<u8>>, FolderFault>
@@ -77,7 +81,7 @@ fn find_file<'a>(files: &'a BTreeMap<Name, Vec<u8>>, name: &str) -> Option<&'a [
 fn first_bytes(bytes: &[u8]) -> &[u8]
     ensures { result.now ≡ take 4194305 bytes.now }
 {
-    match bytes.get(..4_194_305) {
+    match bytes.get(..MOST_READ_BYTES) {
         Some(first) => first,
         None => bytes,
     }
@@ -114,22 +118,26 @@ impl Folder for MemoryFolder {
     ghost use Rattle.std.specs.Prelude.{◌≡◌, ◌↔◌, Some, IsErrOf};
     ghost use Rattle.geda_defs.specs.Causes.{HasCause};
     ghost use Rattle.geda_defs.specs.Contents.{ReadsFile};
-    ghost use Rattle.gafd.specs.Memory.{FolderFails, file_in, next_call};
+    ghost use Rattle.gafd.specs.Memory.{FolderFails, file_in, folder_after_fault, folder_after_read};
 
     ghost files = { λ m. Some (file_in m.files) };
 
     ghost faults = { λ m. m.faults };
 
-    /// The bytes of a file, or of one of over 4,194,305 bytes just the first so many. `None` exactly
-    /// where there is no such file.
+    /// The bytes of a file, or of one of over 4,194,305 bytes just the first so many. `None`
+    /// exactly where there is no such file.
     ///
-    /// `Failed` exactly where the number of the call is in the list of those that fail.
+    /// `Failed` exactly where the number of the call is in the list of those that fail. The count
+    /// of calls rises by one, with `Failed` the count of faults too, and all else stays.
     fn read(&mut self, alloc: Global, name: &str) -> Result<Option<Vec<u8>>, FolderFault>
         ensures file { ReadsFile (Some (file_in self.old.files)) name.now (λ v. v.items) result }
         ensures same { self.new.files ≡ self.old.files }
         ensures cause { HasCause self.old.faults self.new.faults result FolderFault.Failed }
-        ensures calls { self.new.calls ≡ next_call self.old.calls }
         ensures failed { IsErrOf result FolderFault.Failed ↔ FolderFails self.old }
+        ensures after_fault { IsErrOf result FolderFault.Failed →
+            self.new ≡ folder_after_fault self.old }
+        ensures after_read { ¬ (IsErrOf result FolderFault.Failed) →
+            self.new ≡ folder_after_read self.old }
     {
         self.calls = self.calls.saturating_add(1);
         if is_listed(&self.failing, self.calls) {

@@ -1,46 +1,53 @@
-//! `gafd netlist FILE` prints the net list of a gEDA schematic in the folder that it runs in.
+//! `gafd netlist FILE` prints the net list of a gEDA schematic in the folder that it runs in, and
+//! `gafd export FILE` the canonical text of a schematic or of a symbol.
 //!
-//! `run` is all of the program, over any folder and sinks; `main` makes the real ones. Formats and
-//! statuses: docs/FORMATS.md. Definitions: specs/Program.antt, specs/ListText.antt.
+//! `run` is all of the program, over any folder and sinks; `main` makes the real ones. Commands and
+//! statuses: docs/FORMATS.md. Definitions: specs/Commands.antt, specs/Answers.antt and
+//! specs/Runs.antt.
 #![tactic(auto)]
 
-mod calls;
+mod answer;
+mod command;
+mod dir_folder;
+mod error_lines;
+mod failing_calls;
 mod fault;
 mod folder;
 mod list_text;
-mod outside;
 mod run;
 mod sink;
+mod std_sink;
 #[cfg(test)]
 mod tests;
 
-use outside::{DirFolder, StdSink};
+use dir_folder::DirFolder;
 use std::process::ExitCode;
 use std::rt::Env;
 use std::{env, io};
+use std_sink::StdSink;
 
-/// The words after the program's name. Words that are not UTF-8 are no command, as no words are.
-fn words<R: Env + AllocGlobal>(rt: &R) -> io::Result<Vec<String>> {
-    let mut words = Vec::new(rt.alloc());
+/// The arguments after the program's name. Those that are not UTF-8 ask for no command, as none do.
+fn arguments<R: Env + AllocGlobal>(rt: &R) -> io::Result<Vec<String>> {
+    let mut list = Vec::new(rt.alloc());
     match env::args(rt) {
         Ok(arguments) => {
-            for word in arguments.skip(1) {
-                words.push(word)?;
+            for argument in arguments.skip(1) {
+                list.push(argument)?;
             }
         }
         Err(fault) if fault.kind() == io::ErrorKind::InvalidData => {}
         Err(fault) => return Err(fault),
     }
-    Ok(words)
+    Ok(list)
 }
 
 fn main(rt: HostRuntime) -> ExitCode {
     let mut folder = DirFolder::new(&rt);
     let mut out = StdSink::new(rt.stdout());
     let mut err = StdSink::new(rt.stderr());
-    let status = match words(&rt) {
-        Ok(words) => run::run(rt.alloc(), &words, &mut folder, &mut out, &mut err),
-        Err(_) => run::say_out_of_memory(&mut err),
+    let status = match arguments(&rt) {
+        Ok(arguments) => run::run(rt.alloc(), &arguments, &mut folder, &mut out, &mut err),
+        Err(_) => error_lines::report_want_of_memory(&mut err),
     };
     ExitCode::from(status)
 }

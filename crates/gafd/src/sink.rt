@@ -3,7 +3,7 @@ ghost use Rattle.std.specs.Prelude.{ℕ, List, Option};
 ghost use Rattle.geda_defs.specs.Causes.{HasCause};
 ghost use Rattle.geda_defs.specs.Contents.{Writes};
 
-use crate::calls::is_listed;
+use crate::failing_calls::is_listed;
 use std::alloc::{AllocError, Global};
 use std::marker::Model;
 
@@ -81,10 +81,10 @@ impl MemorySink {
 }
 
 impl Sink for MemorySink {
-    ghost use Rattle.std.specs.Prelude.{◌≡◌, ◌↔◌, Some, IsErrOf, length};
+    ghost use Rattle.std.specs.Prelude.{◌≡◌, ◌↔◌, Some, IsErrOf, OnErr, OnOk, length};
     ghost use Rattle.geda_defs.specs.Causes.{HasCause};
     ghost use Rattle.geda_defs.specs.Contents.{Writes};
-    ghost use Rattle.gafd.specs.Memory.{SinkFails, next_call};
+    ghost use Rattle.gafd.specs.Memory.{SinkFails, sink_after_fault, sink_after_write};
 
     ghost written = { λ m. Some m.written };
 
@@ -92,13 +92,15 @@ impl Sink for MemorySink {
 
     /// Writes all the bytes of a piece. It takes no memory.
     ///
-    /// `Failed` exactly where the number of the call is in the list of those that fail, or the piece
-    /// has more bytes than there is room for. Nothing is written then.
+    /// `Failed` exactly where the number of the call is in the list of those that fail, or the
+    /// piece has more bytes than there is room for. The count of calls rises by one. With `Failed` the
+    /// count of faults does too, and all else stays; otherwise the room falls by the piece.
     fn write(&mut self, piece: &[u8]) -> Result<(), SinkFault>
         ensures bytes { Writes (Some self.old.written) (Some self.new.written) piece.now result }
         ensures cause { HasCause self.old.faults self.new.faults result SinkFault.Failed }
-        ensures calls { self.new.calls ≡ next_call self.old.calls }
         ensures failed { IsErrOf result SinkFault.Failed ↔ SinkFails self.old (length piece.now) }
+        ensures after_write { OnOk result (self.new ≡ sink_after_write self.old piece.now) }
+        ensures after_fault { OnErr result (self.new ≡ sink_after_fault self.old) }
     {
         self.calls = self.calls.saturating_add(1);
         if is_listed(&self.failing, self.calls) {

@@ -1,0 +1,63 @@
+-- How faults are passed on, from the reader to the end of a run.
+use Rattle.std.proofs.Common.{◌≡◌, ◌⊎◌, ℕ, List, Option, Some, None, Ok, Err, take, inl, inr, refl, sym, subst}
+use Rattle.std.specs.declared.option.Option.{Option}
+use Rattle.geda_defs.specs.Causes.{HasCause}
+use Rattle.geda_defs.specs.Contents.{Files, Writes}
+use Rattle.geda_grammar.specs.declared.kind.ReadKind.{ReadKind}
+use Rattle.geda_grammar.specs.Faults.{FileKind, IsFault}
+use Rattle.geda_read.specs.declared.fault.ReadFault.{ReadFault}
+use Rattle.geda_read.specs.declared.fault.ReadFault.TheVariants as read
+use Rattle.gafd.specs.declared.command.Command.{Command}
+use Rattle.gafd.specs.declared.fault.RunFault.{RunFault}
+use Rattle.gafd.specs.declared.fault.RunFault.TheVariants as faults
+use Rattle.gafd.specs.declared.sink.SinkFault.{SinkFault}
+use Rattle.gafd.specs.declared.sink.SinkFault.TheVariants as sink
+use Rattle.gafd.specs.Answers.{AnswerData, ComesTo, Outcome, ReadAs}
+use Rattle.gafd.specs.Runs.{Counts, Ends, EndsWith, HoldsAfter, IsQuiet, Stream}
+use Rattle.gafd.specs.steps.Passing.{AnswerOf, ComesOf, IsRefusalOf, NamesFile, Reports}
+
+-- a fault of the reader
+pub refusal : {V : Type 0} (file : FileKind V) (Comes : V → Outcome → Type 0) (name bytes : List ℕ) (fault : ReadFault) (e : RunFault) → ((kind : ReadKind) (line : ℕ) → fault ≡ read.At kind line → IsFault file bytes kind line) → IsRefusalOf name fault e → ComesOf (ReadAs file Comes name bytes) (Err e)
+refusal file Comes name bytes (read.At kind line) e has is = subst (λ (f : RunFault). ComesOf (ReadAs file Comes name bytes) (Err f)) (sym is) (inr (line, kind, has kind line refl, refl))
+refusal file Comes name bytes read.NoMemory e has is = subst (λ (f : RunFault). ComesOf (ReadAs file Comes name bytes) (Err f)) (sym is) tt
+
+-- what holds of bytes, as an answer of a command
+pub answer_from : (counts : Counts) (P Q : Outcome → Type 0) (outcome : Outcome) → (P outcome → Q outcome) → ComesOf P outcome → AnswerOf counts Q outcome
+answer_from counts P Q (Ok answer) f h = f h
+answer_from counts P Q (Err (faults.Missing file)) f h = f h
+answer_from counts P Q (Err (faults.Refused file line kind)) f h = f h
+answer_from counts P Q (Err faults.Usage) f h = f h
+answer_from counts P Q (Err faults.FolderFault) f h = absurd h
+answer_from counts P Q (Err faults.OutputFault) f h = h
+answer_from counts P Q (Err (faults.NotYet file)) f h = f h
+answer_from counts P Q (Err faults.NoMemory) f h = tt
+
+-- what a write that failed left
+first_part : {E : Type 0} (old new : Option (List ℕ)) (piece : List ℕ) (e : E) → Writes old new piece (Err e) → (n : ℕ) × HoldsAfter old new (take n piece)
+first_part None new piece e writes = (0, tt)
+first_part (Some old) None piece e writes = absurd writes
+first_part (Some old) (Some new) piece e writes = writes
+
+-- a run whose answer did not go out whole ends with a fault of the output
+pub failed_write : (files : Option Files) (asked : Option Command) (command : Command) (folder : Counts) (out : Stream) (answer : AnswerData) (piece : List ℕ) (e : SinkFault) → asked ≡ Some command → ComesTo files (Some command) (Ok answer) → piece ≡ answer.text → Writes out.old out.new piece (Err e) → HasCause {T = Unit {0}} out.faults.old out.faults.new (Err e) sink.Failed → EndsWith files asked folder out (Err faults.OutputFault)
+failed_write files asked command folder out answer piece sink.Failed is comes same writes has =
+    (answer, subst (λ (a : Option Command). ComesTo files a (Ok answer)) (sym is) comes, (has.cause refl, subst (λ (text : List ℕ). (n : ℕ) × HoldsAfter out.old out.new (take n text)) same (first_part out.old out.new piece sink.Failed writes)))
+
+module _ (files : Option Files) (command : Option Command) (folder : Counts) (out err : Stream) (fault : RunFault) (status : ℕ) where
+  -- before a line that names a file, nothing went out
+  is_quiet : (f : RunFault) → EndsWith files command folder out (Err f) → NamesFile f → IsQuiet out
+  is_quiet (faults.Missing file) h named = h.1
+  is_quiet (faults.Refused file line kind) h named = h.1
+  is_quiet (faults.NotYet file) h named = h.1
+  is_quiet faults.Usage h named = absurd named
+  is_quiet faults.FolderFault h named = absurd named
+  is_quiet faults.OutputFault h named = absurd named
+  is_quiet faults.NoMemory h named = h
+
+  -- a run ends with the fault that is reported
+  pub end_reported : EndsWith files command folder out (Err fault) → Reports err fault status → Ends files command folder out err status
+  end_reported h r = record { outcome = Err r.reported; cause = go r.reported r.same; said = r.said; status_is = r.status_is }
+    where
+      go : (f : RunFault) → (f ≡ fault) ⊎ ((f ≡ faults.NoMemory) × NamesFile fault) → EndsWith files command folder out (Err f)
+      go f (inl same) = subst (λ (g : RunFault). EndsWith files command folder out (Err g)) (sym same) h
+      go f (inr (same, named)) = subst (λ (g : RunFault). EndsWith files command folder out (Err g)) (sym same) (is_quiet fault h named)

@@ -1,0 +1,62 @@
+-- Steps of the code; no public clause cites them.
+-- How faults are passed on from one function to the next (own).
+use Rattle.std.specs.Prelude.{◌≡◌, ◌⊎◌, ℕ, List, Result, Ok, Err, Some, None, ⊤}
+use Rattle.std.specs.declared.option.Option.{Option}
+use Rattle.geda_defs.specs.Contents.{Files}
+use Rattle.geda_read.specs.declared.fault.ReadFault.{ReadFault}
+use Rattle.geda_read.specs.declared.fault.ReadFault.TheVariants as read
+use Rattle.gafd.specs.declared.command.Command.{Command}
+use Rattle.gafd.specs.declared.fault.RunFault.{RunFault}
+use Rattle.gafd.specs.declared.fault.RunFault.TheVariants as faults
+use Rattle.gafd.specs.declared.folder.FolderFault.{FolderFault}
+use Rattle.gafd.specs.declared.folder.FolderFault.TheVariants as folder
+use Rattle.gafd.specs.Answers.{Outcome, ComesTo}
+use Rattle.gafd.specs.Runs.{Counts, Failed, Stream, SaidLine}
+use Rattle.gafd.specs.Faults.{error_line, status_of}
+
+-- what a fault of the folder becomes
+abbrev pub FromFolder : FolderFault → RunFault → Type 0
+FromFolder folder.Failed e = e ≡ faults.FolderFault
+FromFolder folder.NoMemory e = e ≡ faults.NoMemory
+
+-- what a fault of the reader becomes
+abbrev pub IsRefusalOf : List ℕ → ReadFault → RunFault → Type 0
+IsRefusalOf file (read.At kind line) e = e ≡ faults.Refused file line kind
+IsRefusalOf file read.NoMemory e = e ≡ faults.NoMemory
+
+-- the command that is asked for, or the fault that there is none
+abbrev pub IsAsked : Option Command → Result Command RunFault → Type 0
+IsAsked asked (Ok command) = asked ≡ Some command
+IsAsked asked (Err faults.Usage) = asked ≡ None
+IsAsked asked (Err faults.NoMemory) = ⊤
+IsAsked asked (Err other) = ⊥
+
+-- an outcome that is come to, or want of memory
+abbrev pub ComesOf : (Outcome → Type 0) → Outcome → Type 0
+ComesOf Comes (Err faults.NoMemory) = ⊤
+ComesOf Comes (Err faults.FolderFault) = ⊥
+ComesOf Comes (Err faults.OutputFault) = ⊥
+ComesOf Comes outcome = Comes outcome
+
+-- or a fault of the folder
+abbrev pub AnswerOf : Counts → (Outcome → Type 0) → Outcome → Type 0
+AnswerOf counts Comes (Err faults.FolderFault) = Failed counts
+AnswerOf counts Comes outcome = ComesOf Comes outcome
+
+-- what a command comes to over the files that a folder tells
+abbrev pub Over : Option Files → Command → Outcome → Type 0
+Over files command outcome = ComesTo files (Some command) outcome
+
+-- the line of the fault names a file
+abbrev pub NamesFile : RunFault → Type 0
+NamesFile (faults.Missing file) = ⊤
+NamesFile (faults.Refused file line kind) = ⊤
+NamesFile (faults.NotYet file) = ⊤
+NamesFile other = ⊥
+
+-- a fault is reported as it is, or as want of memory where its line names a file
+pub record Reports (err : Stream) (fault : RunFault) (status : ℕ) : Type 0 where
+  pub reported : RunFault
+  pub same : (reported ≡ fault) ⊎ ((reported ≡ faults.NoMemory) × NamesFile fault)
+  pub said : SaidLine err (error_line reported)
+  pub status_is : status ≡ status_of reported

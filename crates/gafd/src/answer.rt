@@ -1,0 +1,152 @@
+// What each command answers.
+ghost use Rattle.std.specs.Prelude.{◌≡◌, true, false};
+ghost use Rattle.geda_defs.specs.Contents.{KeepsFiles};
+ghost use Rattle.geda_grammar.specs.Faults.{sheet_file};
+ghost use Rattle.gafd.specs.Answers.{NetListOf, ReadAs, TextOf, is_symbol_name};
+ghost use Rattle.gafd.specs.Runs.{counts};
+ghost use Rattle.gafd.specs.steps.Passing.{AnswerOf, ComesOf, IsRefusalOf, Over};
+
+use crate::command::Command;
+use crate::fault::RunFault;
+use crate::folder::Folder;
+use crate::list_text::list_text;
+use attr_rules::is_plain;
+use geda_model::{Name, Sheet};
+use geda_read::{ReadFault, read_sheet, read_symbol};
+use geda_write::{sheet_text, symbol_text};
+use net_names::plain_nets;
+use std::alloc::Global;
+use std::marker::Model;
+
+/// What goes out, and the status with which the program then ends.
+#[derive(Debug, Drop)]
+pub struct Answer {
+    /// The bytes that go out.
+    pub text: Vec<u8>,
+    /// The status.
+    pub status: u8,
+}
+
+impl Model for Answer {
+    ghost use Rattle.gafd.specs.Answers.{AnswerData};
+
+    ghost Value = { AnswerData };
+
+    ghost view = { λ a. record { text = a.text.items; status = a.status } };
+}
+
+impl Answer {
+    ghost use Rattle.std.specs.Prelude.{◌≡◌};
+
+    fn done(text: Vec<u8>) -> Answer
+        ensures { result ≡ record { text = text.items; status = 0 } }
+    {
+        Answer { text, status: 0 }
+    }
+}
+
+/// The fault of a file that the reader refuses.
+fn refused(file: Name, fault: ReadFault) -> RunFault
+    ensures { IsRefusalOf file fault result }
+{
+    match fault {
+        ReadFault::At { read: kind, line } => RunFault::Refused { file, line, kind },
+        ReadFault::NoMemory => RunFault::NoMemory,
+    }
+}
+
+/// The list text of the nets of a sheet.
+fn sheet_nets(alloc: Global, file: Name, sheet: &Sheet) -> Result<Answer, RunFault>
+    ensures { ComesOf (NetListOf file sheet.now) result }
+{
+    if !is_plain(sheet) {
+        return Err(RunFault::NotYet { file });
+    }
+    let nets = plain_nets(alloc, sheet)?;
+    Ok(Answer::done(list_text(alloc, &nets)?))
+}
+
+/// The list text of the sheet that these bytes spell.
+fn nets_of(alloc: Global, file: Name, bytes: &[u8]) -> Result<Answer, RunFault>
+    ensures { ComesOf (ReadAs sheet_file (NetListOf file) file bytes.now) result }
+{
+    match read_sheet(alloc, bytes) {
+        Ok(sheet) => sheet_nets(alloc, file, &sheet),
+        Err(fault) => Err(refused(file, fault)),
+    }
+}
+
+/// The canonical text of the sheet that these bytes spell.
+fn sheet_export(alloc: Global, file: Name, bytes: &[u8]) -> Result<Answer, RunFault>
+    ensures { ComesOf (TextOf false file bytes.now) result }
+{
+    match read_sheet(alloc, bytes) {
+        Ok(sheet) => Ok(Answer::done(sheet_text(alloc, &sheet)?)),
+        Err(fault) => Err(refused(file, fault)),
+    }
+}
+
+/// The canonical text of the symbol that these bytes spell.
+fn symbol_export(alloc: Global, file: Name, bytes: &[u8]) -> Result<Answer, RunFault>
+    ensures { ComesOf (TextOf true file bytes.now) result }
+{
+    match read_symbol(alloc, bytes) {
+        Ok(symbol) => Ok(Answer::done(symbol_text(alloc, &symbol)?)),
+        Err(fault) => Err(refused(file, fault)),
+    }
+}
+
+fn is_symbol_name(name: &Name) -> bool
+    ensures { result ≡ is_symbol_name name.now }
+{
+    name.as_str().as_bytes().ends_with(b".sym")
+}
+
+/// The canonical text of what these bytes spell.
+fn text_of(alloc: Global, file: Name, bytes: &[u8]) -> Result<Answer, RunFault>
+    ensures { ComesOf (TextOf (is_symbol_name file) file bytes.now) result }
+{
+    if is_symbol_name(&file) {
+        symbol_export(alloc, file, bytes)
+    } else {
+        sheet_export(alloc, file, bytes)
+    }
+}
+
+fn netlist<F: Folder>(alloc: Global, file: Name, folder: &mut F) -> Result<Answer, RunFault>
+    ensures answer { AnswerOf (counts (F.faults folder.old) (F.faults folder.new))
+        (Over (F.files folder.old) (Command.Netlist file)) result }
+    ensures files { KeepsFiles (F.files folder.old) (F.files folder.new) }
+{
+    match folder.read(alloc, file.as_str())? {
+        Some(bytes) => nets_of(alloc, file, &bytes),
+        None => Err(RunFault::Missing { file }),
+    }
+}
+
+fn export<F: Folder>(alloc: Global, file: Name, folder: &mut F) -> Result<Answer, RunFault>
+    ensures answer { AnswerOf (counts (F.faults folder.old) (F.faults folder.new))
+        (Over (F.files folder.old) (Command.Export file)) result }
+    ensures files { KeepsFiles (F.files folder.old) (F.files folder.new) }
+{
+    match folder.read(alloc, file.as_str())? {
+        Some(bytes) => text_of(alloc, file, &bytes),
+        None => Err(RunFault::Missing { file }),
+    }
+}
+
+/// What a command answers. All files stay.
+pub fn answer_of<F: Folder>(
+    alloc: Global,
+    command: Command,
+    folder: &mut F,
+) -> Result<Answer, RunFault>
+    ensures answer { AnswerOf (counts (F.faults folder.old) (F.faults folder.new))
+        (Over (F.files folder.old) command) result }
+    ensures files { KeepsFiles (F.files folder.old) (F.files folder.new) }
+{
+    match command {
+        Command::Netlist(file) => netlist(alloc, file, folder),
+        Command::Export(file) => export(alloc, file, folder),
+    }
+}

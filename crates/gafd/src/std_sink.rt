@@ -1,0 +1,50 @@
+// The streams of the process. They tell no contents.
+ghost use Rattle.std.specs.Prelude.{None};
+
+use crate::sink::{Sink, SinkFault};
+use std::io::Write;
+
+/// A stream of the process, or any writer.
+#[derive(Drop)]
+pub struct StdSink<W: Write + Drop> {
+    inner: W,
+    faults: u64,
+}
+
+impl<W: Write + Drop> StdSink<W> {
+    /// A sink that writes to this writer.
+    pub fn new(inner: W) -> StdSink<W> {
+        StdSink { inner, faults: 0 }
+    }
+}
+
+impl<W: Write + Drop> Sink for StdSink<W> {
+    ghost written = { λ _. None };
+
+    ghost faults = { λ s. s.faults };
+
+    fn write(&mut self, piece: &[u8]) -> Result<(), SinkFault> {
+        match self.inner.write_all(piece) {
+            Ok(()) => Ok(()),
+            Err(_) => {
+                self.faults = self.faults.saturating_add(1);
+                Err(SinkFault::Failed)
+            }
+        }
+    }
+}
+
+#[cfg(test)]
+mod tests {
+    use super::*;
+    use std::test::Fail;
+
+    #[test]
+    fn a_writer_gets_the_bytes(rt: HostRuntime) -> Result<(), Fail> {
+        let mut sink = StdSink::new(Vec::new(rt.alloc()));
+        assert_eq!(rt; sink.write(b"one"), Ok(()));
+        assert_eq!(rt; sink.write(b" two"), Ok(()));
+        assert_eq!(rt; sink.inner.as_slice(), b"one two".as_slice());
+        Ok(())
+    }
+}
