@@ -1,0 +1,21 @@
+//! The rules as tables of cases, over the public calls of all crates below the program: tests alone.
+//! Each table has the words of its rule in docs/RULES.md or docs/FORMATS.md; what is wanted was
+//! worked out by hand.
+#![tactic(auto)]
+
+#[cfg(test)]
+mod attributes;
+#[cfg(test)]
+mod drawings;
+#[cfg(test)]
+mod faults;
+#[cfg(test)]
+mod lines;
+#[cfg(test)]
+mod nets;
+#[cfg(test)]
+mod spellings;
+#[cfg(test)]
+mod texts;
+#[cfg(test)]
+mod touching;
