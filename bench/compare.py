@@ -1,8 +1,13 @@
 #!/usr/bin/env python3
-"""Draws random sheets and compares what the built program prints with the rules, told again in Python.
+"""Draws random plain sheets and compares what the built program prints with the rules of
+docs/RULES.md, told again in Python.
 
 Usage: compare.py [SEED [SHEETS]]. It stops at the first sheet that differs, and prints it.
+The sheets have all letters, bus pins, and spellings that are not canonical. bench/grammar.py takes
+the rules from here for files that it reads itself.
 """
+import bisect
+import collections
 import pathlib
 import random
 import subprocess
@@ -10,69 +15,10 @@ import sys
 import tempfile
 
 PROGRAM = pathlib.Path(__file__).resolve().parent.parent / "crates" / "gafd" / "out" / "gafd"
+UNREAD = ("slot", "net", "source", "graphical")
 
 
-def block(contents):
-    """A block of attached texts."""
-    texts = "".join(f"T 0 0 5 10 1 1 0 0 {c.count(chr(10)) + 1}\n{c}\n" for c in contents)
-    return f"{{\n{texts}}}\n" if contents else ""
-
-
-class Drawing:
-    """A random sheet: its text, its conductors with their members, and its packages."""
-
-    def __init__(self, rng):
-        self.rng = rng
-        self.text = "v 20130925 2\n"
-        self.conductors = []
-        self.packages = {}
-        for _ in range(rng.randint(0, 14)):
-            rng.choice([self.wire, self.wire, self.component, self.component, self.words])()
-
-    def point(self):
-        return (self.rng.randint(-2, 2) * 100, self.rng.randint(-2, 2) * 100)
-
-    def wire(self):
-        a, b = self.point(), self.point()
-        b = self.rng.choice([b, (b[0], a[1]), (a[0], b[1])])
-        self.text += f"N {a[0]} {a[1]} {b[0]} {b[1]} 4\n"
-        self.conductors.append(((a, b), None))
-
-    def words(self):
-        self.text += "T 0 0 9 10 1 0 0 0 2\nhello\nrefdes=Q\n"
-
-    def component(self):
-        rng = self.rng
-        free = {"device": rng.choice([None, "X", "Y Z"]), "refdes": rng.choice([None] * 4 + ["Z9"])}
-        own = {
-            "refdes": rng.choice([None, "R1", "R2", "R10", "R 3", "U1", "r\n1"]),
-            "value": rng.choice([None, "10k", "a\tb"]),
-        }
-        parts, pins = self.pins()
-        for name, value in free.items():
-            parts += f"T 0 0 8 10 0 0 0 0 1\n{name}={value}\n" if value else ""
-        attached = block([f"{name}={value}" for name, value in own.items() if value])
-        self.text += f"C 0 0 1 0 0 EMBEDDED{rng.choice(['', 'a.sym'])}\n[\n{parts}]\n{attached}"
-        refdes = own["refdes"] or free["refdes"]
-        refdes = None if refdes and "\n" in refdes else refdes
-        for active, number in pins:
-            self.conductors.append(((active,), (refdes, number) if refdes else None))
-        if refdes:
-            package = self.packages.setdefault(refdes, {})
-            for name, value in (("device", free["device"]), ("value", own["value"])):
-                if value:
-                    package.setdefault(name, value)
-
-    def pins(self):
-        text, pins = "", []
-        for _ in range(self.rng.randint(0, 3)):
-            a, b, whichend = self.point(), self.point(), self.rng.randint(0, 1)
-            number = self.rng.choice([None, "1", "2", "10", "a b", "A"])
-            text += f"P {a[0]} {a[1]} {b[0]} {b[1]} 1 0 {whichend}\n"
-            text += block([f"pinnumber={number}"] if number else [])
-            pins.append(((a, b)[whichend], number if number and " " not in number else "?"))
-        return text, pins
-
+# The rules.
 
 def is_inside(point, ends):
     """Strictly inside a horizontal or vertical segment."""
@@ -91,12 +37,46 @@ def touch(a, b):
 
 
 def classes(conductors):
-    """The classes of touching, as lists of places."""
+    """The classes of touching, as lists of places: all pairs are looked at."""
     found = []
     for place, (ends, _) in enumerate(conductors):
         near = [c for c in found if any(touch(ends, conductors[k][0]) for k in c)]
         found = [c for c in found if c not in near] + [sum(near, []) + [place]]
     return found
+
+
+def classes_by_ends(conductors):
+    """The same for many conductors: by the ends at each point and along each line."""
+    above = list(range(len(conductors)))
+
+    def root(place):
+        while above[place] != place:
+            above[place] = above[above[place]]
+            place = above[place]
+        return place
+
+    at, rows, columns = {}, collections.defaultdict(set), collections.defaultdict(set)
+    for place, (ends, _) in enumerate(conductors):
+        for x, y in ends:
+            above[root(at.setdefault((x, y), place))] = root(place)
+            rows[y].add(x)
+            columns[x].add(y)
+    rows = {y: sorted(xs) for y, xs in rows.items()}
+    columns = {x: sorted(ys) for x, ys in columns.items()}
+    for place, (ends, _) in enumerate(conductors):
+        (ax, ay), (bx, by) = ends[0], ends[-1]
+        if ay == by:
+            line, low, high, point = rows[ay], min(ax, bx), max(ax, bx), lambda x: (x, ay)
+        elif ax == bx:
+            line, low, high, point = columns[ax], min(ay, by), max(ay, by), lambda y: (ax, y)
+        else:
+            continue
+        for end in line[bisect.bisect_right(line, low) : bisect.bisect_left(line, high)]:
+            above[root(at[point(end)])] = root(place)
+    found = collections.defaultdict(list)
+    for place in range(len(conductors)):
+        found[root(place)].append(place)
+    return list(found.values())
 
 
 def word(text):
@@ -107,15 +87,17 @@ def flat(text):
     return "".join(" " if c in "\t\r\n" else c for c in text)
 
 
-def list_text(drawing):
+def list_text(conductors, packages):
+    """The list text: conductors in order of keys, each with its ends and its member, if it is a pin
+    of a component with a refdes; packages by refdes."""
     unnamed, unconnected = [], []
-    for places in classes(drawing.conductors):
-        pins = sorted(drawing.conductors[k][1] + (k,) for k in places if drawing.conductors[k][1])
+    for places in (classes if len(conductors) < 100 else classes_by_ends)(conductors):
+        pins = sorted(conductors[k][1] + (k,) for k in places if conductors[k][1])
         if pins:
-            single = len(places) == 1 and len(drawing.conductors[places[0]][0]) == 1
+            single = len(places) == 1 and len(conductors[places[0]][0]) == 1
             (unconnected if single else unnamed).append(pins)
-    lines = [f"parts {len(drawing.packages)}"]
-    for refdes, package in sorted(drawing.packages.items()):
+    lines = [f"parts {len(packages)}"]
+    for refdes, package in sorted(packages.items()):
         values = [flat(package.get(name, "-")) for name in ("device", "value", "footprint")]
         lines.append("\t".join([word(refdes), *values]))
     lines.append(f"nets {len(unnamed) + len(unconnected)}")
@@ -127,16 +109,200 @@ def list_text(drawing):
     return "".join(f"{line}\n" for line in lines)
 
 
+# The rules on a sheet that bench/grammar.py has read: items with letter, values, following lines,
+# attached texts and parts.
+
+def values_of(texts, name):
+    """The values of the attributes of a name among texts."""
+    for text in texts:
+        start, _, value = b"\n".join(text.following).decode().partition("=")
+        if start == name and value and not value.startswith(" "):
+            yield value
+
+
+def value_of(item, name):
+    """An object's attribute: the first attached one, else the first inherited one."""
+    free = [part for part in item.parts or [] if part.letter == b"T"]
+    return next(values_of(item.texts, name), next(values_of(free, name), None))
+
+
+def is_plain(item):
+    if item.letter == b"N":
+        return next(values_of(item.texts, "netname"), None) is None
+    if item.letter != b"C":
+        return True
+    return item.parts is not None and all(value_of(item, name) is None for name in UNREAD)
+
+
+def number_of(pin):
+    number = next(values_of(pin.texts, "pinnumber"), "?")
+    is_word = len(number.encode()) <= 200 and not any(ord(c) <= 32 or ord(c) == 127 for c in number)
+    return number if is_word else "?"
+
+
+def text_of_sheet(items):
+    """The list text of a sheet as bytes, or None where it is not plain."""
+    if not all(is_plain(item) for item in items):
+        return None
+    conductors, packages = [], {}
+    for item in items:
+        if item.letter == b"N":
+            x1, y1, x2, y2, _ = item.values
+            conductors.append((((x1, y1), (x2, y2)), None))
+        if item.letter != b"C":
+            continue
+        refdes = value_of(item, "refdes")
+        refdes = None if refdes is None or "\n" in refdes else refdes
+        for part in item.parts:
+            if part.letter == b"P" and part.values[5] == 0:
+                end = part.values[2:4] if part.values[6] == 1 else part.values[:2]
+                conductors.append(((tuple(end),), refdes and (refdes, number_of(part))))
+        if refdes:
+            package = packages.setdefault(refdes, {})
+            for name in ("device", "value", "footprint"):
+                value = value_of(item, name)
+                if value is not None:
+                    package.setdefault(name, value)
+    return list_text(conductors, packages).encode()
+
+
+# Random sheets.
+
+class Drawing:
+    """A random sheet: its text, its conductors with their members, and its packages. They are known
+    as they are drawn, and not read again."""
+
+    def __init__(self, rng):
+        self.rng = rng
+        self.strays = rng.choice([0, 0, 0.3])
+        self.text = "v 20130925 2\n"
+        self.conductors = []
+        self.packages = {}
+        draw = [self.wire, self.wire, self.component, self.component, self.words, self.other]
+        for _ in range(rng.choice([0, 4, 8, 12, 14, 80])):
+            rng.choice(draw)()
+
+    def stray(self, *choices):
+        """One of these, or now and then another spelling of the first, which is canonical."""
+        return self.rng.choice(choices) if self.rng.random() < self.strays else choices[0]
+
+    def field(self, field):
+        digits = field.removeprefix("-")
+        if not digits.isdigit() or len(digits) > 6:
+            return field
+        sign = "-" if digits == "0" else field[: len(field) - len(digits)]
+        return self.stray(field, f"{sign}0{digits}", f"{sign}000{digits}")
+
+    def line(self, fields, following=()):
+        """The line of an object or a bracket, in one of its spellings, and its following lines."""
+        spelled = [self.field(field) for field in fields.split()]
+        line = self.stray("", " ", "\t") + spelled[0]
+        for field in spelled[1:]:
+            line += self.stray(" ", "  ", "\t", " \t") + field
+        self.text += self.stray("", " \r\n", "\n") + line + self.stray("\n", "\r\n", " \n")
+        for content in following:
+            self.text += content + self.stray("\n", "\r\n")
+
+    def content(self, content):
+        """A text of the sheet, a symbol or a block."""
+        lines = content.split("\n")
+        self.line(f"T 0 0 5 10 1 1 0 0 {len(lines)}", lines)
+
+    def block(self, contents):
+        """A block of attached texts."""
+        if contents or self.rng.random() < self.strays:
+            self.line("{")
+            for content in contents:
+                self.content(content)
+            self.line("}")
+
+    def point(self):
+        return (self.rng.randint(-2, 2) * 100, self.rng.randint(-2, 2) * 100)
+
+    def wire(self):
+        a, b = self.point(), self.point()
+        b = self.rng.choice([b, (b[0], a[1]), (a[0], b[1])])
+        self.line(f"N {a[0]} {a[1]} {b[0]} {b[1]} 4")
+        self.block(self.rng.choice([[], [], [], ["netname"], ["net=X"], ["netname= X", "slot=1"]]))
+        self.conductors.append(((a, b), None))
+
+    def words(self):
+        self.content("hello\nrefdes=Q")
+
+    def other(self):
+        """An object that joins nothing, wherever it lies."""
+        a, b = self.point(), self.point()
+        ends = f"{a[0]} {a[1]} {b[0]} {b[1]}"
+        stroke, fill = "0 1 0 -1 -1", "0 -1 -1 -1 -1 -1"
+        shapes = [
+            (f"U {ends} 10 0", []),
+            (f"P {ends} 1 0 0", []),
+            (f"P {ends} 1 1 1", []),
+            (f"L {ends} 3 {stroke}", []),
+            (f"B {ends} 3 {stroke} {fill}", []),
+            (f"V {a[0]} {a[1]} 50 3 {stroke} {fill}", []),
+            (f"A {a[0]} {a[1]} 50 0 90 3 {stroke}", []),
+            (f"H 3 {stroke} {fill} 2", ["M 0,0", "z"]),
+            (f"G {a[0]} {a[1]} 100 100 0 0 0", ["N 0 0 100 0 4"]),
+            (f"G {a[0]} {a[1]} 100 100 0 0 1", ["logo.png", "N 0 0 100 0 4", "."]),
+        ]
+        self.line(*self.rng.choice(shapes))
+        self.block(self.rng.choice([[], [], ["netname=X"], ["slot=1", "net=Y:1"]]))
+
+    def component(self):
+        rng = self.rng
+        free = {"device": rng.choice([None, "X", "Y Z"]), "refdes": rng.choice([None] * 4 + ["Z9"])}
+        own = {
+            "refdes": rng.choice([None, "R1", "R2", "R10", "R 3", "U1", "r\n1"]),
+            "value": rng.choice([None, "10k", "a\tb"]),
+        }
+        name, angle, mirror = rng.choice(["", "a.sym"]), rng.choice([0, 90]), rng.randint(0, 1)
+        self.line(f"C 0 0 1 {angle} {mirror} EMBEDDED{name}")
+        self.line("[")
+        pins = self.pins()
+        for name, value in free.items():
+            if value:
+                self.content(f"{name}={value}")
+        self.line("]")
+        self.block([f"{name}={value}" for name, value in own.items() if value])
+        refdes = own["refdes"] or free["refdes"]
+        refdes = None if refdes and "\n" in refdes else refdes
+        for active, number in pins:
+            self.conductors.append(((active,), (refdes, number) if refdes else None))
+        if refdes:
+            package = self.packages.setdefault(refdes, {})
+            for name, value in (("device", free["device"]), ("value", own["value"])):
+                if value:
+                    package.setdefault(name, value)
+
+    def pins(self):
+        pins = []
+        for _ in range(self.rng.randint(0, 3)):
+            a, b, whichend = self.point(), self.point(), self.rng.randint(0, 1)
+            number = self.rng.choice([None, "1", "2", "10", "a b", "A"])
+            kind = self.rng.choice([0, 0, 0, 1])
+            if self.rng.random() < 0.2:
+                self.line(f"N {a[0]} {a[1]} {b[0]} {b[1]} 4")
+            self.line(f"P {a[0]} {a[1]} {b[0]} {b[1]} 1 {kind} {whichend}")
+            self.block([f"pinnumber={number}"] if number else [])
+            if kind == 0:
+                pins.append(((a, b)[whichend], number if number and " " not in number else "?"))
+        return pins
+
+
 def main():
     seed, sheets = (int(w) for w in (sys.argv[1:] + ["1", "1000"][len(sys.argv) - 1 :]))
     rng = random.Random(seed)
     with tempfile.TemporaryDirectory() as folder:
         for _ in range(sheets):
             drawing = Drawing(rng)
-            pathlib.Path(folder, "random.sch").write_text(drawing.text)
-            run = subprocess.run([PROGRAM, "netlist", "random.sch"], cwd=folder, capture_output=True, text=True)
-            if run.returncode != 0 or run.stdout != list_text(drawing):
-                sys.exit(f"{drawing.text}\nprinted:\n{run.stdout}{run.stderr}\nwanted:\n{list_text(drawing)}")
+            wanted = list_text(drawing.conductors, drawing.packages)
+            pathlib.Path(folder, "random.sch").write_bytes(drawing.text.encode())
+            words = [PROGRAM, "netlist", "random.sch"]
+            run = subprocess.run(words, cwd=folder, capture_output=True)
+            if run.returncode != 0 or run.stdout != wanted.encode():
+                printed = (run.stdout + run.stderr).decode(errors="replace")
+                sys.exit(f"{drawing.text}\nprinted:\n{printed}\nwanted:\n{wanted}")
     print(f"{sheets} sheets are the same")
 
 
