@@ -7,7 +7,7 @@ use crate::fault::RunFault;
 use geda_model::{Name, NameFault};
 use std::alloc::Global;
 
-/// What the program can do (docs/FORMATS.md, "Commands").
+/// What the program can do (docs/FORMATS.md, "Command lines").
 #[derive(Debug, Drop)]
 pub enum Command {
     /// Prints the net list of a sheet.

@@ -2,7 +2,7 @@
 //! object, which fault other bytes have and at which line, and the one text that is written.
 //!
 //! Lines are counted from 1. A file is rows (specs/Rows.antt), and rows spell objects
-//! (specs/Grammar.antt). Rules: docs/RULES.md, "Spelling", "Faults". The laws are functions
+//! (specs/Grammar.antt). Rules: docs/RULES.md, "Grammar", "Faults". The laws are functions
 //! without a body: what they promise holds of every list of bytes.
 #![tactic(auto)]
 

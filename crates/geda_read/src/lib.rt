@@ -1,6 +1,6 @@
 //! The reader of gEDA schematic and symbol files: every spelling of a sheet, a symbol or one
 //! object, or the first line at fault and why. Lines count from 1.
-//! Rules: docs/RULES.md, "Spelling", "Faults". Definitions: geda_grammar.
+//! Rules: docs/RULES.md, "Grammar", "Faults". Definitions: geda_grammar.
 #![tactic(auto)]
 
 mod fault;

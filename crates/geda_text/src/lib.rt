@@ -1,6 +1,6 @@
 //! Lines, fields and numbers in the bytes of a file. Lines count from 1; a field is a run of bytes
 //! that are neither space nor tab. Nothing here takes memory.
-//! Format: docs/FORMATS.md, "Sheet files". Definitions: specs/Lines.antt.
+//! Format: docs/FORMATS.md, "Lines and fields". Definitions: specs/Lines.antt.
 #![tactic(auto)]
 
 mod cutter;

@@ -104,7 +104,7 @@ fn line_in(alloc: Global, line: &[u8]) -> Result<SheetLine, LineFault>
 /// `Refused` exactly where it says none of these, with the kind that holds first of:
 /// `UnknownLetter`, where the first field is no letter and no bracket; `FieldCount`, where the
 /// letter takes more or fewer fields; and the kind of the first wrong field from the left.
-/// `NoMemory` where memory ran out. Rules: docs/RULES.md, "Spelling", "Faults".
+/// `NoMemory` where memory ran out. Rules: docs/RULES.md, "Grammar", "Faults".
 #[tactic(auto, using(crate::proofs::LineLaws::line_read))]
 pub fn sheet_line(alloc: Global, line: &[u8]) -> Result<SheetLine, LineFault>
     ensures read { IsLineRead line.now result }

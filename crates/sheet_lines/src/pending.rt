@@ -124,7 +124,7 @@ impl Pending {
     /// The shape with one more line: with others to come, or whole.
     ///
     /// `Refused(NotUtf8)` exactly where the line is not UTF-8, and with no other kind. `NoMemory`
-    /// where memory ran out. A whole shape is in its ranges. Rule: docs/RULES.md, "Spelling".
+    /// where memory ran out. A whole shape is in its ranges. Rule: docs/RULES.md, "Grammar".
     #[tactic(auto, using(crate::proofs::Following::added, crate::proofs::Following::not_added))]
     pub fn with(self, alloc: Global, line: &[u8]) -> Result<Progress, LineFault>
         requires { IsCutLine line.now }
