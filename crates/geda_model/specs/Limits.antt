@@ -21,6 +21,18 @@ most_objects = 100000
 abbrev pub most_file_bytes : ℕ
 most_file_bytes = 4194304
 
+-- the bytes of the texts of all sheets and symbols of a project
+abbrev pub most_project_text : ℕ
+most_project_text = 67108864
+
+-- the sheets of a project
+abbrev pub most_sheets : ℕ
+most_sheets = 1024
+
+-- the symbols of a project's library
+abbrev pub most_symbols : ℕ
+most_symbols = 8192
+
 -- the bytes of a name
 abbrev pub most_name_bytes : ℕ
 most_name_bytes = 100

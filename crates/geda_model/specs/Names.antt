@@ -18,6 +18,12 @@ pub record IsName (bytes : List ℕ) : Type 0 where
   pub first : slice_index bytes 0 ≢ 46
   pub name_bytes : list_all is_name_byte bytes ≡ true
 
+-- the same of a name, as a test
+abbrev pub is_name : List ℕ → Bool
+is_name bytes =
+    nat_le 1 (length bytes) && (nat_le (length bytes) most_name_bytes
+    && (not (slice_index bytes 0 == 46) && list_all is_name_byte bytes))
+
 -- any byte but LF
 abbrev pub IsLineByte : ℕ → Type 0
 IsLineByte b = b ≢ 10

@@ -4,7 +4,7 @@ use std::marker::Model;
 /// A list of values, in order. Contracts see it as its list.
 #[derive(Debug, Drop)]
 pub struct Items<T: Drop> {
-    list: Vec<T>,
+    pub(crate) list: Vec<T>,
 }
 
 impl<T: Drop> Model for Items<T> {
@@ -30,5 +30,12 @@ impl<T: Drop> Items<T> {
         ensures { result.now ≡ self.now }
     {
         self.list.as_slice()
+    }
+
+    /// The list itself. It takes no memory.
+    pub fn into_vec(self) -> Vec<T>
+        ensures { result.items ≡ self }
+    {
+        self.list
     }
 }

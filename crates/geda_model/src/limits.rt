@@ -15,6 +15,15 @@ pub const MOST_OBJECTS: usize = 100000;
 /// The bytes of a file.
 pub const MOST_FILE_BYTES: usize = 4194304;
 
+/// The bytes of the texts of all sheets and symbols of a project.
+pub const MOST_PROJECT_TEXT: usize = 67108864;
+
+/// The sheets of a project.
+pub const MOST_SHEETS: usize = 1024;
+
+/// The symbols of a project's library.
+pub const MOST_SYMBOLS: usize = 8192;
+
 /// The bytes of a name.
 pub const MOST_NAME_BYTES: usize = 100;
 

@@ -1,12 +1,15 @@
 // Names of sheets, symbols and sessions.
-ghost use Rattle.std.specs.Prelude.{[], ◌≡◌, ◌↔◌, ◌≤◌, IfOk, OnOk, IsErrOf, IsTrue, length};
+ghost use Rattle.std.specs.Prelude.{[], ◌≡◌, ◌↔◌, ◌≤◌, IfOk, OnOk, IsErrOf, IsTrue, length, true, false};
 ghost use Rattle.std.specs.List.{list_all};
-ghost use Rattle.geda_model.specs.Names.{IsName, is_name_byte};
+ghost use Rattle.std.specs.String.{string_bytes, string_capacity};
+ghost use Rattle.geda_model.specs.Limits.{most_name_bytes};
+ghost use Rattle.geda_model.specs.Names.{IsName, is_name, is_name_byte};
 ghost use Rattle.geda_model.specs.declared.name.NameFault.TheVariants.{NoMemory};
 
 use crate::limits::MOST_NAME_BYTES;
 use std::alloc::{AllocError, Global};
 use std::cmp::Ordering;
+use std::hash::{Hash, Hasher};
 use std::marker::Model;
 
 /// Why a text gives no `Name`, `Word` or `Line`.
@@ -58,7 +61,8 @@ fn are_name_bytes(bytes: &[u8]) -> bool
 }
 
 fn is_name(bytes: &[u8]) -> bool
-    ensures { IsTrue result ↔ IsName bytes.now }
+    ensures name { IsTrue result ↔ IsName bytes.now }
+    ensures test { result ≡ is_name bytes.now }
 {
     if bytes.is_empty() || bytes.len() > MOST_NAME_BYTES {
         return false;
@@ -76,7 +80,9 @@ impl Name {
     pub fn new(alloc: Global, text: &str) -> Result<Name, NameFault>
         ensures same { IfOk result (λ name. name ≡ text.now) }
         ensures name { OnOk result (IsName text.now) }
+        ensures accepted { OnOk result (is_name text.now ≡ true) }
         ensures refused { IsErrOf result NameFault.NotAName → ¬ IsName text.now }
+        ensures rejected { IsErrOf result NameFault.NotAName → is_name text.now ≡ false }
     {
         if !is_name(text.as_bytes()) {
             return Err(NameFault::NotAName);
@@ -91,6 +97,17 @@ impl Name {
         ensures name { IsName self.now }
     {
         self.text.as_str()
+    }
+}
+
+impl Clone for Name {
+    ghost use Rattle.std.specs.Prelude.{◌≡◌};
+
+    ghost is_clone = { λ x y. y ≡ x };
+
+    fn clone(&self) -> Result<Name, AllocError> {
+        let text = self.text.clone()?;
+        Ok(Name { text })
     }
 }
 
@@ -148,5 +165,45 @@ impl Ord for Name {
 
     fn cmp(&self, other: &Name) -> Ordering {
         self.as_str().cmp(other.as_str())
+    }
+}
+
+impl Hash for Name {
+    ghost use Rattle.std.specs.Hash as fed;
+    ghost use Rattle.std.proofs.Common.{rules};
+    ghost use Rattle.std.specs.Cmp.Rules.{hashing};
+
+    ghost hash_input = { fed.str };
+
+    ghost respects_eq = { Prim.search (hashing, rules) };
+
+    fn hash<H: Hasher>(&self, state: &mut H) {
+        self.as_str().hash(state);
+    }
+}
+
+/// Memory for one more name.
+#[derive(Debug, Drop)]
+pub(crate) struct Room {
+    text: String,
+    ghost is_empty: { string_bytes text ≡ [] },
+    ghost has_room: { most_name_bytes ≤ string_capacity text },
+}
+
+impl Room {
+    /// Takes the memory.
+    pub(crate) fn new(alloc: Global) -> Result<Room, AllocError> {
+        let text = String::with_capacity(alloc, MOST_NAME_BYTES)?;
+        Ok(Room { text })
+    }
+
+    /// A second copy of the name. It takes no memory.
+    pub(crate) fn name(self, name: &Name) -> Name
+        ensures { result ≡ name.now }
+    {
+        let Room { mut text } = self;
+        let source = &name.text;
+        text.push_str(source.as_str()).unwrap();
+        Name { text }
     }
 }

@@ -34,6 +34,24 @@ impl Model for Component {
     ghost invariant = { λ c. ComponentIsInRange (record { x = c.x; y = c.y; selectable = c.selectable; angle = c.angle; mirror = c.mirror; basename = c.basename; embedded = c.embedded }) };
 }
 
+impl Clone for Component {
+    ghost use Rattle.std.specs.Prelude.{◌≡◌};
+
+    ghost is_clone = { λ x y. y ≡ x };
+
+    fn clone(&self) -> Result<Component, AllocError> {
+        Ok(Component {
+            x: self.x,
+            y: self.y,
+            selectable: self.selectable,
+            angle: self.angle,
+            mirror: self.mirror,
+            basename: self.basename.clone()?,
+            embedded: self.embedded.clone()?,
+        })
+    }
+}
+
 /// What an object is.
 #[derive(Debug, Drop)]
 pub enum Body {
@@ -41,6 +59,19 @@ pub enum Body {
     Shape(Shape),
     /// A placed symbol, letter `C`.
     Component(Component),
+}
+
+impl Clone for Body {
+    ghost use Rattle.std.specs.Prelude.{◌≡◌};
+
+    ghost is_clone = { λ x y. y ≡ x };
+
+    fn clone(&self) -> Result<Body, AllocError> {
+        match self {
+            Body::Shape(shape) => Ok(Body::Shape(shape.clone()?)),
+            Body::Component(component) => Ok(Body::Component(component.clone()?)),
+        }
+    }
 }
 
 /// An object of a sheet, with its attached texts.
@@ -60,6 +91,29 @@ impl Model for Object {
     ghost view = { λ o. record { body = o.body; attrs = o.attrs } };
 
     ghost invariant = { λ o. ObjectIsInRange (record { body = o.body; attrs = o.attrs }) };
+}
+
+impl Clone for Object {
+    ghost use Rattle.std.specs.Prelude.{◌≡◌};
+
+    ghost is_clone = { λ x y. y ≡ x };
+
+    fn clone(&self) -> Result<Object, AllocError> {
+        let body = self.body.clone()?;
+        let attrs = self.attrs.clone()?;
+        Ok(Object { body, attrs })
+    }
+}
+
+impl Object {
+    ghost use Rattle.std.specs.Prelude.{◌≡◌, IfOk};
+
+    /// An equal object.
+    pub fn copy(&self, alloc: Global) -> Result<Object, AllocError>
+        ensures { IfOk result (λ object. object ≡ self.now) }
+    {
+        self.clone()
+    }
 }
 
 /// The objects of a sheet in order, each in its ranges, at most 4,294,967,295.
@@ -109,6 +163,25 @@ impl Objects {
         ensures in_range { AreObjectsInRange self.now }
     {
         self.list.as_slice()
+    }
+
+    /// The objects themselves, in order. It takes no memory.
+    pub fn into_vec(self) -> Vec<Object>
+        ensures objects { result.items ≡ self }
+        ensures in_range { AreObjectsInRange self }
+    {
+        self.list
+    }
+}
+
+impl Clone for Objects {
+    ghost use Rattle.std.specs.Prelude.{◌≡◌};
+
+    ghost is_clone = { λ x y. y ≡ x };
+
+    fn clone(&self) -> Result<Objects, AllocError> {
+        let list = self.list.clone()?;
+        Ok(Objects { list })
     }
 }
 
@@ -169,4 +242,29 @@ impl Model for Symbol {
     ghost view = { λ s. record { head = s.head; parts = s.parts } };
 
     ghost invariant = { λ s. SymbolIsInRange (record { head = s.head; parts = s.parts }) };
+}
+
+impl Clone for Symbol {
+    ghost use Rattle.std.specs.Prelude.{◌≡◌};
+
+    ghost is_clone = { λ x y. y ≡ x };
+
+    fn clone(&self) -> Result<Symbol, AllocError> {
+        let parts = self.parts.clone()?;
+        Ok(Symbol {
+            head: self.head,
+            parts,
+        })
+    }
+}
+
+impl Symbol {
+    ghost use Rattle.std.specs.Prelude.{◌≡◌, IfOk};
+
+    /// An equal symbol.
+    pub fn copy(&self, alloc: Global) -> Result<Symbol, AllocError>
+        ensures { IfOk result (λ symbol. symbol ≡ self.now) }
+    {
+        self.clone()
+    }
 }

@@ -155,6 +155,157 @@ pub enum Shape {
     },
 }
 
+impl Clone for Shape {
+    ghost use Rattle.std.specs.Prelude.{◌≡◌};
+
+    ghost is_clone = { λ x y. y ≡ x };
+
+    fn clone(&self) -> Result<Shape, AllocError> {
+        match self {
+            Shape::Straight {
+                x1,
+                y1,
+                x2,
+                y2,
+                color,
+                stroke,
+            } => Ok(Shape::Straight {
+                x1: *x1,
+                y1: *y1,
+                x2: *x2,
+                y2: *y2,
+                color: *color,
+                stroke: *stroke,
+            }),
+            Shape::Picture {
+                x,
+                y,
+                width,
+                height,
+                angle,
+                mirrored,
+                file,
+                embedded,
+            } => Ok(Shape::Picture {
+                x: *x,
+                y: *y,
+                width: *width,
+                height: *height,
+                angle: *angle,
+                mirrored: *mirrored,
+                file: file.clone()?,
+                embedded: embedded.clone()?,
+            }),
+            Shape::Rect {
+                x,
+                y,
+                width,
+                height,
+                color,
+                stroke,
+                fill,
+            } => Ok(Shape::Rect {
+                x: *x,
+                y: *y,
+                width: *width,
+                height: *height,
+                color: *color,
+                stroke: *stroke,
+                fill: *fill,
+            }),
+            Shape::Circle {
+                x,
+                y,
+                radius,
+                color,
+                stroke,
+                fill,
+            } => Ok(Shape::Circle {
+                x: *x,
+                y: *y,
+                radius: *radius,
+                color: *color,
+                stroke: *stroke,
+                fill: *fill,
+            }),
+            Shape::Arc {
+                x,
+                y,
+                radius,
+                start,
+                sweep,
+                color,
+                stroke,
+            } => Ok(Shape::Arc {
+                x: *x,
+                y: *y,
+                radius: *radius,
+                start: *start,
+                sweep: *sweep,
+                color: *color,
+                stroke: *stroke,
+            }),
+            Shape::Net {
+                x1,
+                y1,
+                x2,
+                y2,
+                color,
+            } => Ok(Shape::Net {
+                x1: *x1,
+                y1: *y1,
+                x2: *x2,
+                y2: *y2,
+                color: *color,
+            }),
+            Shape::Bus {
+                x1,
+                y1,
+                x2,
+                y2,
+                color,
+                ripper,
+            } => Ok(Shape::Bus {
+                x1: *x1,
+                y1: *y1,
+                x2: *x2,
+                y2: *y2,
+                color: *color,
+                ripper: *ripper,
+            }),
+            Shape::Pin {
+                x1,
+                y1,
+                x2,
+                y2,
+                color,
+                bus,
+                whichend,
+            } => Ok(Shape::Pin {
+                x1: *x1,
+                y1: *y1,
+                x2: *x2,
+                y2: *y2,
+                color: *color,
+                bus: *bus,
+                whichend: *whichend,
+            }),
+            Shape::Path {
+                color,
+                stroke,
+                fill,
+                content,
+            } => Ok(Shape::Path {
+                color: *color,
+                stroke: *stroke,
+                fill: *fill,
+                content: content.clone()?,
+            }),
+            Shape::Text(text) => Ok(Shape::Text(text.clone()?)),
+        }
+    }
+}
+
 /// A shape of a symbol, with its attached texts.
 #[derive(Debug, Drop)]
 pub struct Part {
@@ -172,6 +323,18 @@ impl Model for Part {
     ghost view = { λ p. record { shape = p.shape; attrs = p.attrs } };
 
     ghost invariant = { λ p. PartIsInRange (record { shape = p.shape; attrs = p.attrs }) };
+}
+
+impl Clone for Part {
+    ghost use Rattle.std.specs.Prelude.{◌≡◌};
+
+    ghost is_clone = { λ x y. y ≡ x };
+
+    fn clone(&self) -> Result<Part, AllocError> {
+        let shape = self.shape.clone()?;
+        let attrs = self.attrs.clone()?;
+        Ok(Part { shape, attrs })
+    }
 }
 
 /// The parts of a symbol in order, each in its ranges, at most 4,294,967,295.
@@ -221,5 +384,16 @@ impl Parts {
         ensures in_range { ArePartsInRange self.now }
     {
         self.list.as_slice()
+    }
+}
+
+impl Clone for Parts {
+    ghost use Rattle.std.specs.Prelude.{◌≡◌};
+
+    ghost is_clone = { λ x y. y ≡ x };
+
+    fn clone(&self) -> Result<Parts, AllocError> {
+        let list = self.list.clone()?;
+        Ok(Parts { list })
     }
 }

@@ -46,6 +46,13 @@ impl Block {
     {
         self.text.as_str()
     }
+
+    /// The text itself. It takes no memory.
+    pub fn into_string(self) -> String
+        ensures { string_bytes result ≡ self }
+    {
+        self.text
+    }
 }
 
 impl Clone for Block {
@@ -136,6 +143,26 @@ impl Model for Text {
     ghost invariant = { λ t. IsText (record { x = t.x; y = t.y; color = t.color; size = t.size; visible = t.visible; show = t.show; angle = t.angle; align = t.align; content = t.content }) };
 }
 
+impl Clone for Text {
+    ghost use Rattle.std.specs.Prelude.{◌≡◌};
+
+    ghost is_clone = { λ x y. y ≡ x };
+
+    fn clone(&self) -> Result<Text, AllocError> {
+        Ok(Text {
+            x: self.x,
+            y: self.y,
+            color: self.color,
+            size: self.size,
+            visible: self.visible,
+            show: self.show,
+            angle: self.angle,
+            align: self.align,
+            content: self.content.clone()?,
+        })
+    }
+}
+
 /// Texts in order, each in its ranges.
 #[derive(Debug, Drop)]
 pub struct Texts {
@@ -182,5 +209,16 @@ impl Texts {
         ensures in_range { All IsText self.now }
     {
         self.list.as_slice()
+    }
+}
+
+impl Clone for Texts {
+    ghost use Rattle.std.specs.Prelude.{◌≡◌};
+
+    ghost is_clone = { λ x y. y ≡ x };
+
+    fn clone(&self) -> Result<Texts, AllocError> {
+        let list = self.list.clone()?;
+        Ok(Texts { list })
     }
 }
