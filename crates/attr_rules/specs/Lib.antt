@@ -1,6 +1,7 @@
 pub mod Splits
 pub mod Attributes
-pub mod Plain
+pub mod Libraries
+pub mod Components
 pub mod Kinds
 pub mod PinLists
 pub mod Slots

@@ -51,8 +51,9 @@ fn digits_value(digits: &[u8]) -> u32
     value
 }
 
+/// The value of a text of 1 to 4 digits. `None` exactly for any other text. It takes no memory.
 #[tactic(auto, unfolding(crate::specs::Slots::short_number))]
-fn short_number(text: &str) -> Option<u32>
+pub fn short_number(text: &str) -> Option<u32>
     ensures { result ≡ short_number text.now }
 {
     let digits = text.as_bytes();

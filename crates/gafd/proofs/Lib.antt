@@ -2,3 +2,7 @@ mod OneOutcome
 mod Passing
 mod Reading
 mod Spaces
+mod LibraryLemmas
+mod GatheringLemmas
+mod OpeningLemmas
+mod TextLemmas

@@ -1,7 +1,7 @@
 -- How faults are passed on, from the reader to the end of a run.
-use Rattle.std.proofs.Common.{◌≡◌, ◌⊎◌, ℕ, List, Option, Some, None, Ok, Err, take, inl, inr, refl, sym, subst}
+use Rattle.std.proofs.Common.{◌≡◌, ◌⊎◌, ℕ, ◌≤◌, List, Option, Some, None, Result, Ok, Err, take, inl, inr, refl, sym, subst, arith}
 use Rattle.std.specs.declared.option.Option.{Option}
-use Rattle.geda_defs.specs.Causes.{HasCause}
+use Rattle.geda_defs.specs.Causes.{HasCause, HasRisen}
 use Rattle.geda_defs.specs.Contents.{Files, Writes}
 use Rattle.geda_grammar.specs.declared.kind.ReadKind.{ReadKind}
 use Rattle.geda_grammar.specs.Faults.{FileKind, IsFault}
@@ -12,25 +12,42 @@ use Rattle.gafd.specs.declared.fault.RunFault.{RunFault}
 use Rattle.gafd.specs.declared.fault.RunFault.TheVariants as faults
 use Rattle.gafd.specs.declared.sink.SinkFault.{SinkFault}
 use Rattle.gafd.specs.declared.sink.SinkFault.TheVariants as sink
-use Rattle.gafd.specs.Answers.{AnswerData, ComesTo, Outcome, ReadAs}
-use Rattle.gafd.specs.Runs.{Counts, Ends, EndsWith, HoldsAfter, IsQuiet, Stream}
+use Rattle.gafd.specs.ProjectFiles.{ReadAs}
+use Rattle.gafd.specs.Answers.{AnswerData, ComesTo}
+use Rattle.gafd.specs.Runs.{Counts, counts, Ends, EndsWith, HoldsAfter, IsQuiet, Stream}
 use Rattle.gafd.specs.steps.Passing.{AnswerOf, ComesOf, IsRefusalOf, NamesFile, Reports}
 
 -- a fault of the reader
-pub refusal : {V : Type 0} (file : FileKind V) (Comes : V → Outcome → Type 0) (name bytes : List ℕ) (fault : ReadFault) (e : RunFault) → ((kind : ReadKind) (line : ℕ) → fault ≡ read.At kind line → IsFault file bytes kind line) → IsRefusalOf name fault e → ComesOf (ReadAs file Comes name bytes) (Err e)
-refusal file Comes name bytes (read.At kind line) e has is = subst (λ (f : RunFault). ComesOf (ReadAs file Comes name bytes) (Err f)) (sym is) (inr (line, kind, has kind line refl, refl))
-refusal file Comes name bytes read.NoMemory e has is = subst (λ (f : RunFault). ComesOf (ReadAs file Comes name bytes) (Err f)) (sym is) tt
+pub refusal : {V A : Type 0} (file : FileKind V) (Comes : V → Result A RunFault → Type 0) (name bytes : List ℕ) (fault : ReadFault) (e : RunFault) → ((kind : ReadKind) (line : ℕ) → fault ≡ read.At kind line → IsFault file bytes kind line) → IsRefusalOf name fault e → ComesOf (ReadAs file Comes name bytes) (Err e)
+refusal {A = A} file Comes name bytes (read.At kind line) e has is = subst (λ (f : RunFault). ComesOf {A = A} (ReadAs file Comes name bytes) (Err f)) (sym is) (inr (line, kind, has kind line refl, refl))
+refusal {A = A} file Comes name bytes read.NoMemory e has is = subst (λ (f : RunFault). ComesOf {A = A} (ReadAs file Comes name bytes) (Err f)) (sym is) tt
 
--- what holds of bytes, as an answer of a command
-pub answer_from : (counts : Counts) (P Q : Outcome → Type 0) (outcome : Outcome) → (P outcome → Q outcome) → ComesOf P outcome → AnswerOf counts Q outcome
-answer_from counts P Q (Ok answer) f h = f h
-answer_from counts P Q (Err (faults.Missing file)) f h = f h
-answer_from counts P Q (Err (faults.Refused file line kind)) f h = f h
-answer_from counts P Q (Err faults.Usage) f h = f h
+-- what is come to, as an answer of a call that a folder is lent to
+pub answer_from : {A : Type 0} (counts : Counts) (P Q : Result A RunFault → Type 0) (outcome : Result A RunFault) → ((r : Result A RunFault) → P r → Q r) → ComesOf P outcome → AnswerOf counts Q outcome
+answer_from counts P Q (Ok answer) f h = f (Ok answer) h
+answer_from counts P Q (Err (faults.Missing file)) f h = f (Err (faults.Missing file)) h
+answer_from counts P Q (Err (faults.Refused file line kind)) f h = f (Err (faults.Refused file line kind)) h
+answer_from counts P Q (Err faults.ProjectFull) f h = f (Err faults.ProjectFull) h
+answer_from counts P Q (Err faults.Usage) f h = f (Err faults.Usage) h
 answer_from counts P Q (Err faults.FolderFault) f h = absurd h
 answer_from counts P Q (Err faults.OutputFault) f h = h
-answer_from counts P Q (Err (faults.NotYet file)) f h = f h
+answer_from counts P Q (Err (faults.NotYet file)) f h = f (Err (faults.NotYet file)) h
 answer_from counts P Q (Err faults.NoMemory) f h = tt
+
+-- a count that has risen later on has risen from before
+risen : (before between now : ℕ) → before ≤ between → HasRisen between now → HasRisen before now
+risen before between now later h = omega arith
+
+-- a fault that a later call met, as that of a whole
+pub fault_later : {A B : Type 0} (before between now : ℕ) (P : Result A RunFault → Type 0) (Q : Result B RunFault → Type 0) (e : RunFault) → before ≤ between → (P (Err e) → Q (Err e)) → AnswerOf (counts between now) P (Err e) → AnswerOf (counts before now) Q (Err e)
+fault_later before between now P Q (faults.Missing file) later f h = f h
+fault_later before between now P Q (faults.Refused file line kind) later f h = f h
+fault_later before between now P Q faults.ProjectFull later f h = f h
+fault_later before between now P Q faults.Usage later f h = f h
+fault_later before between now P Q faults.FolderFault later f h = risen before between now later h
+fault_later before between now P Q faults.OutputFault later f h = h
+fault_later before between now P Q (faults.NotYet file) later f h = f h
+fault_later before between now P Q faults.NoMemory later f h = tt
 
 -- what a write that failed left
 first_part : {E : Type 0} (old new : Option (List ℕ)) (piece : List ℕ) (e : E) → Writes old new piece (Err e) → (n : ℕ) × HoldsAfter old new (take n piece)
@@ -49,6 +66,7 @@ module _ (files : Option Files) (command : Option Command) (folder : Counts) (ou
   is_quiet (faults.Missing file) h named = h.1
   is_quiet (faults.Refused file line kind) h named = h.1
   is_quiet (faults.NotYet file) h named = h.1
+  is_quiet faults.ProjectFull h named = absurd named
   is_quiet faults.Usage h named = absurd named
   is_quiet faults.FolderFault h named = absurd named
   is_quiet faults.OutputFault h named = absurd named

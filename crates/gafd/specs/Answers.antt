@@ -3,15 +3,14 @@ use Rattle.std.specs.Prelude.{◌≡◌, ◌⊎◌, ℕ, Bool, true, false, List
 use Rattle.std.specs.declared.option.Option.{Option}
 use Rattle.std.specs.List.{ends_with}
 use Rattle.geda_defs.specs.Contents.{Files}
-use Rattle.geda_model.specs.Sheets.{SheetData}
-use Rattle.geda_grammar.specs.declared.kind.ReadKind.{ReadKind}
-use Rattle.geda_grammar.specs.Spelling.{Spells}
-use Rattle.geda_grammar.specs.Faults.{FileKind, IsFault, sheet_file, symbol_file}
+use Rattle.geda_model.specs.Projects.{ProjectData}
+use Rattle.geda_grammar.specs.Faults.{sheet_file, symbol_file}
 use Rattle.geda_grammar.specs.Canonical.{sheet_text, symbol_text}
-use Rattle.attr_rules.specs.Plain.{IsPlain}
 use Rattle.net_names.specs.declared.nets.Nets.{Nets}
-use Rattle.net_names.specs.NetLists.{IsNetListOfPlainSheet}
+use Rattle.net_names.specs.ListedParts.{HasNoSources}
+use Rattle.net_names.specs.NetLists.{IsNetListOf}
 use Rattle.gafd.specs.ListText.{list_text}
+use Rattle.gafd.specs.ProjectFiles.{FileComesTo, GathersTo, ProjectFiles, ReadAs}
 use Rattle.gafd.specs.declared.command.Command.{Command}
 use Rattle.gafd.specs.declared.command.Command.TheVariants.{Netlist, Export}
 use Rattle.gafd.specs.declared.fault.RunFault.{RunFault}
@@ -30,27 +29,23 @@ Outcome = Result AnswerData RunFault
 abbrev pub done : List ℕ → Outcome
 done text = Ok (record { text = text; status = 0 })
 
--- what a file of a folder comes to, given what its bytes come to; there may be no such file
-abbrev pub FileComesTo :
-    (List ℕ → Outcome → Type 0) → List ℕ → Option (List ℕ) → Outcome → Type 0
-FileComesTo BytesComeTo name None outcome = outcome ≡ Err (faults.Missing name)
-FileComesTo BytesComeTo name (Some bytes) outcome = BytesComeTo bytes outcome
+-- the net list of a project; that of one with sheets below others cannot be told yet
+abbrev pub NetListOf : List ℕ → ProjectData → Outcome → Type 0
+NetListOf name project outcome =
+    (HasNoSources project
+    × ((nets : Nets) × IsNetListOf project nets × (outcome ≡ done (list_text nets))))
+    ⊎ (¬ (HasNoSources project) × (outcome ≡ Err (faults.NotYet name)))
 
--- what bytes of a kind of file come to, given what the values come to that such bytes spell; bytes
--- that spell none have a fault
-abbrev pub ReadAs : {V : Type 0} →
-    FileKind V → (V → Outcome → Type 0) → List ℕ → List ℕ → Outcome → Type 0
-ReadAs {V = V} file ComesTo name bytes outcome =
-    ((value : V) × Spells file.Spell bytes value × ComesTo value outcome)
-    ⊎ ((line : ℕ) × (kind : ReadKind) × IsFault file bytes kind line
-    × (outcome ≡ Err (faults.Refused name line kind)))
+-- what a project comes to that is gathered, or the fault that is met
+abbrev pub NetListAfter : List ℕ → Result ProjectData RunFault → Outcome → Type 0
+NetListAfter name (Ok project) outcome = NetListOf name project outcome
+NetListAfter name (Err fault) outcome = outcome ≡ Err fault
 
--- the net list of a plain sheet; that of another cannot be told yet
-abbrev pub NetListOf : List ℕ → SheetData → Outcome → Type 0
-NetListOf name sheet outcome =
-    (IsPlain sheet
-    × ((nets : Nets) × IsNetListOfPlainSheet sheet nets × (outcome ≡ done (list_text nets))))
-    ⊎ (¬ (IsPlain sheet) × (outcome ≡ Err (faults.NotYet name)))
+-- what a sheet comes to with its symbols
+abbrev pub NetlistOf : ProjectFiles → List ℕ → Outcome → Type 0
+NetlistOf files name outcome =
+    (gathered : Result ProjectData RunFault) × GathersTo files name gathered
+    × NetListAfter name gathered outcome
 
 -- a file with this name is a symbol
 abbrev pub is_symbol_name : List ℕ → Bool
@@ -62,18 +57,17 @@ TextOf true = ReadAs symbol_file (λ symbol outcome. outcome ≡ done (symbol_te
 TextOf false = ReadAs sheet_file (λ sheet outcome. outcome ≡ done (sheet_text sheet))
 
 -- what a command comes to
-abbrev pub CommandComesTo : Files → Command → Outcome → Type 0
-CommandComesTo files (Netlist name) =
-    FileComesTo (ReadAs sheet_file (NetListOf name) name) name (files name)
+abbrev pub CommandComesTo : ProjectFiles → Command → Outcome → Type 0
+CommandComesTo files (Netlist name) = NetlistOf files name
 CommandComesTo files (Export name) =
-    FileComesTo (TextOf (is_symbol_name name) name) name (files name)
+    FileComesTo (TextOf (is_symbol_name name) name) name (files.sheets name)
 
 -- something holds of the files that a folder tells; where it tells none, of some files
-abbrev pub OfFiles : Option Files → (Files → Type 0) → Type 0
-OfFiles None P = (files : Files) × P files
-OfFiles (Some files) P = P files
+abbrev pub OfFiles : Option Files → (ProjectFiles → Type 0) → Type 0
+OfFiles None P = (files : ProjectFiles) × P files
+OfFiles (Some files) P = P (record { sheets = files; symbols = files })
 
 -- what the arguments come to: what their command comes to, or a fault of usage
 abbrev pub ComesTo : Option Files → Option Command → Outcome → Type 0
 ComesTo files None outcome = outcome ≡ Err faults.Usage
-ComesTo files (Some command) outcome = OfFiles files (λ told. CommandComesTo told command outcome)
+ComesTo files (Some command) outcome = OfFiles files (λ known. CommandComesTo known command outcome)

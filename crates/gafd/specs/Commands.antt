@@ -1,18 +1,10 @@
 -- Which command the arguments of a command line ask for (own).
-use Rattle.std.specs.Prelude.{ℕ, Bool, not, ◌==◌, ◌&&◌, if◌then◌else◌, List, [], ◌∷◌, Option, Some, None, length, nat_le, slice_index, codes, option_and_then, String, string_bytes}
+use Rattle.std.specs.Prelude.{ℕ, Bool, not, ◌==◌, ◌&&◌, if◌then◌else◌, List, [], ◌∷◌, Option, Some, None, slice_index, codes, option_and_then, String, string_bytes}
 use Rattle.std.specs.declared.alloc.Global.{Global}
-use Rattle.std.specs.List.{list_all}
 use Rattle.std.specs.Str.{bytes_eq}
-use Rattle.geda_model.specs.Limits.{most_name_bytes}
-use Rattle.geda_model.specs.Names.{is_name_byte}
+use Rattle.geda_model.specs.Names.{is_name}
 use Rattle.gafd.specs.declared.command.Command.{Command}
 use Rattle.gafd.specs.declared.command.Command.TheVariants.{Netlist, Export}
-
--- the argument is a Name
-abbrev pub is_name : List ℕ → Bool
-is_name argument =
-    nat_le 1 (length argument) && (nat_le (length argument) most_name_bytes
-    && (not (slice_index argument 0 == 46) && list_all is_name_byte argument))
 
 -- the argument names a file: it is a Name that does not begin with `-`
 abbrev pub is_file_name : List ℕ → Bool

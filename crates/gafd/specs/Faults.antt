@@ -10,6 +10,7 @@ use Rattle.gafd.specs.declared.fault.RunFault.TheVariants as faults
 abbrev pub status_of : RunFault → ℕ
 status_of (faults.Missing file) = 1
 status_of (faults.Refused file line kind) = 1
+status_of faults.ProjectFull = 1
 status_of faults.Usage = 2
 status_of faults.FolderFault = 3
 status_of faults.OutputFault = 4
@@ -38,6 +39,7 @@ error_line (faults.Missing file) = codes "gafd: " ++ file ++ codes ": missing\n"
 error_line (faults.Refused file line kind) =
     codes "gafd: " ++ file ++ codes ":" ++ decimal line
     ++ codes ": " ++ kind_name kind ++ codes "\n"
+error_line faults.ProjectFull = codes "gafd: ProjectFull\n"
 error_line faults.Usage = codes "gafd: usage\n"
 error_line faults.FolderFault = codes "gafd: folder fault\n"
 error_line faults.OutputFault = codes "gafd: output fault\n"

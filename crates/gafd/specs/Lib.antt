@@ -2,6 +2,7 @@ pub mod Memory
 pub mod ListText
 pub mod Commands
 pub mod Faults
+pub mod ProjectFiles
 pub mod Answers
 pub mod Runs
 pub mod steps

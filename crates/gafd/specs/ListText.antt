@@ -3,7 +3,7 @@ use Rattle.std.specs.Prelude.{ℕ, Bool, ◌==◌, ◌||◌, if◌then◌else◌
 use Rattle.std.specs.List.{flat_map}
 use Rattle.std.specs.Fmt.{decimal}
 use Rattle.geda_defs.specs.Lines.{spaced, ended}
-use Rattle.net_names.specs.declared.nets.Member.{Member}
+use Rattle.link_classes.specs.declared.member.Member.{Member}
 use Rattle.net_names.specs.declared.nets.Net.{Net}
 use Rattle.net_names.specs.declared.nets.Package.{Package}
 use Rattle.net_names.specs.declared.nets.Nets.{Nets}

@@ -1,20 +1,20 @@
 // What each command answers.
 ghost use Rattle.std.specs.Prelude.{◌≡◌, true, false};
 ghost use Rattle.geda_defs.specs.Contents.{KeepsFiles};
-ghost use Rattle.geda_grammar.specs.Faults.{sheet_file};
-ghost use Rattle.gafd.specs.Answers.{NetListOf, ReadAs, TextOf, is_symbol_name};
+ghost use Rattle.net_names.specs.ListedParts.{HasOneSheet};
+ghost use Rattle.gafd.specs.Answers.{NetListOf, TextOf, is_symbol_name};
 ghost use Rattle.gafd.specs.Runs.{counts};
-ghost use Rattle.gafd.specs.steps.Passing.{AnswerOf, ComesOf, IsRefusalOf, Over};
+ghost use Rattle.gafd.specs.steps.Passing.{AnswerOf, ComesOf, Over};
 
 use crate::command::Command;
-use crate::fault::RunFault;
+use crate::fault::{RunFault, refused};
 use crate::folder::Folder;
+use crate::gathering::gather;
 use crate::list_text::list_text;
-use attr_rules::is_plain;
-use geda_model::{Name, Sheet};
-use geda_read::{ReadFault, read_sheet, read_symbol};
+use geda_model::{Name, Project};
+use geda_read::{read_sheet, read_symbol};
 use geda_write::{sheet_text, symbol_text};
-use net_names::plain_nets;
+use net_names::{has_no_sources, plain_nets};
 use std::alloc::Global;
 use std::marker::Model;
 
@@ -45,35 +45,16 @@ impl Answer {
     }
 }
 
-/// The fault of a file that the reader refuses.
-fn refused(file: Name, fault: ReadFault) -> RunFault
-    ensures { IsRefusalOf file fault result }
+/// The list text of the nets of a project of one sheet, which came from this file.
+fn nets_of(alloc: Global, file: Name, project: &Project) -> Result<Answer, RunFault>
+    requires { HasOneSheet project.now.parts }
+    ensures { ComesOf (NetListOf file project.now.parts) result }
 {
-    match fault {
-        ReadFault::At { read: kind, line } => RunFault::Refused { file, line, kind },
-        ReadFault::NoMemory => RunFault::NoMemory,
-    }
-}
-
-/// The list text of the nets of a sheet.
-fn sheet_nets(alloc: Global, file: Name, sheet: &Sheet) -> Result<Answer, RunFault>
-    ensures { ComesOf (NetListOf file sheet.now) result }
-{
-    if !is_plain(sheet) {
+    if !has_no_sources(alloc, project)? {
         return Err(RunFault::NotYet { file });
     }
-    let nets = plain_nets(alloc, sheet)?;
+    let nets = plain_nets(alloc, project)?;
     Ok(Answer::done(list_text(alloc, &nets)?))
-}
-
-/// The list text of the sheet that these bytes spell.
-fn nets_of(alloc: Global, file: Name, bytes: &[u8]) -> Result<Answer, RunFault>
-    ensures { ComesOf (ReadAs sheet_file (NetListOf file) file bytes.now) result }
-{
-    match read_sheet(alloc, bytes) {
-        Ok(sheet) => sheet_nets(alloc, file, &sheet),
-        Err(fault) => Err(refused(file, fault)),
-    }
 }
 
 /// The canonical text of the sheet that these bytes spell.
@@ -118,10 +99,8 @@ fn netlist<F: Folder>(alloc: Global, file: Name, folder: &mut F) -> Result<Answe
         (Over (F.files folder.old) (Command.Netlist file)) result }
     ensures files { KeepsFiles (F.files folder.old) (F.files folder.new) }
 {
-    match folder.read(alloc, file.as_str())? {
-        Some(bytes) => nets_of(alloc, file, &bytes),
-        None => Err(RunFault::Missing { file }),
-    }
+    let project = gather(alloc, &file, folder)?;
+    nets_of(alloc, file, &project)
 }
 
 fn export<F: Folder>(alloc: Global, file: Name, folder: &mut F) -> Result<Answer, RunFault>

@@ -18,7 +18,7 @@ fn status_of(fault: &RunFault) -> u8
     ensures { result ≡ status_of fault.now }
 {
     match fault {
-        RunFault::Missing { .. } | RunFault::Refused { .. } => 1,
+        RunFault::Missing { .. } | RunFault::Refused { .. } | RunFault::ProjectFull => 1,
         RunFault::Usage => 2,
         RunFault::FolderFault => 3,
         RunFault::OutputFault => 4,
@@ -73,6 +73,7 @@ fn error_line(alloc: Global, fault: &RunFault) -> Result<CowStr<'static>, AllocE
             let file = file.as_str();
             Ok(CowStr::Owned(format!(in alloc; "gafd: {file}: NotYet\n")?))
         }
+        RunFault::ProjectFull => Ok(CowStr::Borrowed("gafd: ProjectFull\n")),
         RunFault::Usage => Ok(CowStr::Borrowed("gafd: usage\n")),
         RunFault::FolderFault => Ok(CowStr::Borrowed("gafd: folder fault\n")),
         RunFault::OutputFault => Ok(CowStr::Borrowed("gafd: output fault\n")),

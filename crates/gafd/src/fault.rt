@@ -1,13 +1,14 @@
 // Why the program ends otherwise than with an answer.
 ghost use Rattle.std.specs.Prelude.{◌≡◌};
-ghost use Rattle.gafd.specs.steps.Passing.{FromFolder};
+ghost use Rattle.gafd.specs.steps.Passing.{FromFolder, IsRefusalOf};
 ghost use Rattle.gafd.specs.declared.fault.RunFault.TheVariants.{NoMemory, OutputFault};
 
 use crate::folder::FolderFault;
 use crate::sink::SinkFault;
 use geda_grammar::ReadKind;
 use geda_model::Name;
-use std::alloc::AllocError;
+use geda_read::ReadFault;
+use std::alloc::{AllocError, AllocFailed};
 
 /// Why the program ends otherwise than with an answer (docs/FORMATS.md, "Statuses").
 #[derive(Debug, Drop)]
@@ -26,13 +27,15 @@ pub enum RunFault {
         /// The kind of its fault.
         kind: ReadKind,
     },
+    /// The project has more symbols, or more text, than a project may have.
+    ProjectFull,
     /// The arguments ask for no command.
     Usage,
     /// The folder failed.
     FolderFault,
     /// The output failed.
     OutputFault,
-    /// The file is a sheet whose nets cannot be found yet.
+    /// The sheet has sheets below it, so that its nets cannot be found yet.
     NotYet {
         /// Its name.
         file: Name,
@@ -45,6 +48,14 @@ impl From<AllocError> for RunFault {
     ghost from_gives = { λ _ e. e ≡ NoMemory };
 
     fn from(_: AllocError) -> RunFault {
+        RunFault::NoMemory
+    }
+}
+
+impl<T: Drop> From<AllocFailed<T>> for RunFault {
+    ghost from_gives = { λ _ e. e ≡ NoMemory };
+
+    fn from(_: AllocFailed<T>) -> RunFault {
         RunFault::NoMemory
     }
 }
@@ -65,5 +76,15 @@ impl From<FolderFault> for RunFault {
             FolderFault::Failed => RunFault::FolderFault,
             FolderFault::NoMemory => RunFault::NoMemory,
         }
+    }
+}
+
+/// The fault of a file that the reader refuses.
+pub fn refused(file: Name, fault: ReadFault) -> RunFault
+    ensures { IsRefusalOf file fault result }
+{
+    match fault {
+        ReadFault::At { read: kind, line } => RunFault::Refused { file, line, kind },
+        ReadFault::NoMemory => RunFault::NoMemory,
     }
 }

@@ -9,11 +9,20 @@
 mod answer;
 mod command;
 mod dir_folder;
+#[cfg(test)]
+mod drawings;
 mod error_lines;
 mod failing_calls;
 mod fault;
 mod folder;
+mod gathering;
+#[cfg(test)]
+mod list_tests;
 mod list_text;
+#[cfg(test)]
+mod net_tests;
+mod opening;
+mod project_text;
 mod run;
 mod sink;
 mod std_sink;

@@ -12,42 +12,12 @@ use std::test::Fail;
 
 const EMPTY: &str = "v 20130925 2\n";
 
-/// What a test draws: the line of a net, a component with one pin, whose active end comes first, or
-/// any lines.
-#[derive(Clone, Copy)]
-enum Drawn {
-    Wire(&'static str),
-    Pin(&'static str, &'static str, &'static str),
-    Lines(&'static str),
-}
-
-use Drawn::{Lines, Pin, Wire};
-
-fn put_pin(sheet: &mut String, active: &str, far: &str, refdes: &str) -> Result<(), AllocError> {
-    writeln!(
-        sheet,
-        "C {active} 1 0 0 EMBEDDEDk.sym\n[\nP {active} {far} 1 0 0"
-    )?;
-    writeln!(sheet, "{{\nT {active} 5 8 0 1 0 0 1\npinnumber=1\n}}\n]")?;
-    writeln!(sheet, "{{\nT {active} 5 10 1 1 0 0 1\nrefdes={refdes}\n}}")
-}
-
-fn sheet_of(alloc: Global, drawn: &[Drawn]) -> Result<String, AllocError> {
-    let mut sheet = String::from_str(alloc, EMPTY)?;
-    for one in drawn {
-        match *one {
-            Wire(ends) => writeln!(sheet, "N {ends} 4")?,
-            Pin(active, far, refdes) => put_pin(&mut sheet, active, far, refdes)?,
-            Lines(lines) => sheet.push_str(lines)?,
-        }
+fn folder_of(alloc: Global, files: &[File], failing: Vec<u64>) -> Result<MemoryFolder, Fail> {
+    let mut map = BTreeMap::new(alloc);
+    for file in files {
+        map.insert(Name::new(alloc, file.0)?, file.1.to_vec(alloc)?)?;
     }
-    Ok(sheet)
-}
-
-fn folder_of(alloc: Global, file: File, failing: Vec<u64>) -> Result<MemoryFolder, Fail> {
-    let mut files = BTreeMap::new(alloc);
-    files.insert(Name::new(alloc, file.0)?, file.1.to_vec(alloc)?)?;
-    Ok(MemoryFolder::new(files, failing))
+    Ok(MemoryFolder::new(map, failing))
 }
 
 fn arguments_of(alloc: Global, arguments: &[&str]) -> Result<Vec<String>, AllocError> {
@@ -58,23 +28,24 @@ fn arguments_of(alloc: Global, arguments: &[&str]) -> Result<Vec<String>, AllocE
     Ok(list)
 }
 
-/// The one file of a folder: its name and its bytes.
+/// A file of a folder: its name and its bytes.
 #[derive(Clone, Copy)]
-struct File<'a>(&'a str, &'a [u8]);
+pub struct File<'a>(pub &'a str, pub &'a [u8]);
 
 /// What a run does: its status, and what goes to the output and to the errors.
 #[derive(Clone, Copy)]
-struct Outcome<'a>(u8, &'a str, &'a str);
+pub struct Outcome<'a>(pub u8, pub &'a str, pub &'a str);
 
-fn expect<R: Abort>(
+/// Compares what a run over files does.
+pub fn expect<R: Abort>(
     rt: &R,
     alloc: Global,
-    file: File,
+    files: &[File],
     arguments: &[&str],
     wanted: Outcome,
 ) -> Result<(), Fail> {
     let arguments = arguments_of(alloc, arguments)?;
-    let mut folder = folder_of(alloc, file, Vec::new(alloc))?;
+    let mut folder = folder_of(alloc, files, Vec::new(alloc))?;
     let mut out = MemorySink::new(alloc, 10_000, Vec::new(alloc))?;
     let mut err = MemorySink::new(alloc, 1_000, Vec::new(alloc))?;
     let status = run(alloc, &arguments, &mut folder, &mut out, &mut err);
@@ -106,7 +77,7 @@ fn each_status_has_its_line(rt: HostRuntime) -> Result<(), Fail> {
     ];
     for (arguments, wanted) in cases {
         let file = File("one.sch", EMPTY.as_bytes());
-        expect(&rt, rt.alloc(), file, arguments, wanted)?;
+        expect(&rt, rt.alloc(), &[file], arguments, wanted)?;
     }
     Ok(())
 }
@@ -158,30 +129,14 @@ fn a_refused_file_has_its_line_and_kind(rt: HostRuntime) -> Result<(), Fail> {
         expect(
             &rt,
             rt.alloc(),
-            File(name, bytes),
+            &[File(name, bytes)],
             &["export", name],
             wanted,
         )?;
     }
     let line = Outcome(1, "", "gafd: one.sch:1: BadFormat\n");
     let file = File(sheet, b"v 20130925 3\n");
-    expect(&rt, rt.alloc(), file, &["netlist", sheet], line)
-}
-
-#[test]
-fn a_sheet_that_is_not_plain_has_no_net_list_yet(rt: HostRuntime) -> Result<(), Fail> {
-    let cases = [
-        "v 20130925 2\nC 0 0 1 0 0 a.sym\n",
-        "v 20130925 2\nN 0 0 100 0 4\n{\nT 0 0 5 10 1 1 0 0 1\nnetname=a\n}\n",
-    ];
-    for text in cases {
-        let file = File("one.sch", text.as_bytes());
-        let not_yet = Outcome(9, "", "gafd: one.sch: NotYet\n");
-        expect(&rt, rt.alloc(), file, &["netlist", "one.sch"], not_yet)?;
-        let exported = Outcome(0, text, "");
-        expect(&rt, rt.alloc(), file, &["export", "one.sch"], exported)?;
-    }
-    Ok(())
+    expect(&rt, rt.alloc(), &[file], &["netlist", sheet], line)
 }
 
 #[test]
@@ -206,7 +161,7 @@ fn export_prints_the_canonical_text(rt: HostRuntime) -> Result<(), Fail> {
     for (name, text, canonical) in cases {
         let file = File(name, text.as_bytes());
         let exported = Outcome(0, canonical, "");
-        expect(&rt, rt.alloc(), file, &["export", name], exported)?;
+        expect(&rt, rt.alloc(), &[file], &["export", name], exported)?;
     }
     Ok(())
 }
@@ -233,6 +188,13 @@ fn exported<F: Folder>(
     Ok((status, err))
 }
 
+/// The same of a file in memory.
+fn exported_in_memory(alloc: Global, name: &str, bytes: &[u8]) -> Result<(u8, MemorySink), Fail> {
+    let files = [File(name, bytes)];
+    let mut memory = folder_of(alloc, &files, Vec::new(alloc))?;
+    exported(alloc, name, &mut memory)
+}
+
 #[test]
 fn a_file_has_at_most_4194304_bytes(rt: HostRuntime) -> Result<(), Fail> {
     let alloc = rt.alloc();
@@ -250,8 +212,7 @@ fn a_file_has_at_most_4194304_bytes(rt: HostRuntime) -> Result<(), Fail> {
         let found = real.read(alloc, name);
         let (real_status, real_err) = exported(alloc, name, &mut real)?;
         fs::remove_file(&rt, name)?;
-        let mut memory = folder_of(alloc, File(name, &bytes), Vec::new(alloc))?;
-        let (memory_status, memory_err) = exported(alloc, name, &mut memory)?;
+        let (memory_status, memory_err) = exported_in_memory(alloc, name, &bytes)?;
         assert_eq!(rt;
             found.map(|file| file.map(|bytes| bytes.len())),
             Ok(Some(read)),
@@ -284,7 +245,7 @@ fn first_call(alloc: Global, fails: bool) -> Result<Vec<u64>, AllocError> {
 fn failing(alloc: Global, name: &str, calls: [bool; 3]) -> Result<(u8, usize, usize), Fail> {
     let arguments = arguments_of(alloc, &["netlist", name])?;
     let file = File("one.sch", EMPTY.as_bytes());
-    let mut folder = folder_of(alloc, file, first_call(alloc, calls[0])?)?;
+    let mut folder = folder_of(alloc, &[file], first_call(alloc, calls[0])?)?;
     let mut out = MemorySink::new(alloc, 100, first_call(alloc, calls[1])?)?;
     let mut err = MemorySink::new(alloc, 100, first_call(alloc, calls[2])?)?;
     let status = run(alloc, &arguments, &mut folder, &mut out, &mut err);
@@ -309,123 +270,6 @@ fn a_failing_call_gives_its_status(rt: HostRuntime) -> Result<(), Fail> {
             wanted,
             "{name} {calls:?}"
         );
-    }
-    Ok(())
-}
-
-/// Compares the list text of what is drawn.
-fn expect_text<R: Abort>(
-    rt: &R,
-    alloc: Global,
-    drawn: &[Drawn],
-    parts: &str,
-    nets: &str,
-) -> Result<(), Fail> {
-    let sheet = sheet_of(alloc, drawn)?;
-    let text = format!(in alloc; "{parts}{nets}")?;
-    let wanted = Outcome(0, text.as_str(), "");
-    let file = File("one.sch", sheet.as_bytes());
-    expect(rt, alloc, file, &["netlist", "one.sch"], wanted)
-}
-
-#[test]
-fn conductors_that_touch_are_one_net(rt: HostRuntime) -> Result<(), Fail> {
-    let a1 = Pin("0 500", "-100 500", "A1");
-    let a2 = Pin("1000 500", "1100 500", "A2");
-    let a3 = Pin("500 0", "500 -100", "A3");
-    let a4 = Pin("500 1000", "500 1100", "A4");
-    let across = Wire("0 500 1000 500");
-    let parts = "parts 4\nA1\t-\t-\t-\nA2\t-\t-\t-\nA3\t-\t-\t-\nA4\t-\t-\t-\n";
-    let cases: [(&[Drawn], &str); 4] = [
-        // Two wires that cross join nothing.
-        (
-            &[a1, a2, a3, a4, across, Wire("500 0 500 1000")],
-            "nets 2\nunnamed_net1\tA1-1 A2-1\nunnamed_net2\tA3-1 A4-1\n",
-        ),
-        // A wire that ends on another joins it.
-        (
-            &[a1, a2, a3, a4, across, Wire("500 0 500 500")],
-            "nets 2\nunnamed_net1\tA1-1 A2-1 A3-1\nunconnected_pin-1\tA4-1\n",
-        ),
-        // A third wire whose end is at a crossing joins both.
-        (
-            &[
-                a1,
-                a2,
-                a3,
-                a4,
-                across,
-                Wire("500 0 500 1000"),
-                Wire("500 500 700 700"),
-            ],
-            "nets 1\nunnamed_net1\tA1-1 A2-1 A3-1 A4-1\n",
-        ),
-        // A wire of length zero joins what is at its point.
-        (
-            &[a1, a2, a3, a4, Wire("0 500 0 500")],
-            "nets 4\nunnamed_net1\tA1-1\nunconnected_pin-1\tA2-1\nunconnected_pin-2\tA3-1\nunconnected_pin-3\tA4-1\n",
-        ),
-    ];
-    for (drawn, nets) in cases {
-        expect_text(&rt, rt.alloc(), drawn, parts, nets)?;
-    }
-    Ok(())
-}
-
-#[test]
-fn pins_join_at_ends_and_inside_straight_wires(rt: HostRuntime) -> Result<(), Fail> {
-    let a1 = Pin("0 0", "-100 0", "A1");
-    let a2 = Pin("1000 1000", "1100 1000", "A2");
-    let a3 = Pin("500 500", "500 600", "A3");
-    let parts = "parts 3\nA1\t-\t-\t-\nA2\t-\t-\t-\nA3\t-\t-\t-\n";
-    let cases: [(&[Drawn], &str); 3] = [
-        (
-            &[a1, a2, a3, Wire("0 0 1000 1000")],
-            "nets 2\nunnamed_net1\tA1-1 A2-1\nunconnected_pin-1\tA3-1\n",
-        ),
-        (
-            &[a1, a2, a3, Wire("0 500 1000 500")],
-            "nets 3\nunnamed_net1\tA3-1\nunconnected_pin-1\tA1-1\nunconnected_pin-2\tA2-1\n",
-        ),
-        // End on end.
-        (
-            &[a1, a2, Pin("0 0", "100 0", "A3")],
-            "nets 2\nunnamed_net1\tA1-1 A3-1\nunconnected_pin-1\tA2-1\n",
-        ),
-    ];
-    for (drawn, nets) in cases {
-        expect_text(&rt, rt.alloc(), drawn, parts, nets)?;
-    }
-    Ok(())
-}
-
-const SYMBOL: &str = "C 0 0 1 0 0 EMBEDDED\n[\nP 0 0 100 0 1 0 0\n]\n";
-
-#[test]
-fn a_package_is_all_components_with_one_refdes(rt: HostRuntime) -> Result<(), Fail> {
-    let block = "{\nT 0 0 5 10 1 1 0 0 1\nrefdes=U1\nT 0 0 5 10 1 1 0 0 1\ndevice=A B\n}\n";
-    let value =
-        "{\nT 0 0 5 10 1 1 0 0 1\nrefdes=U1\nT 0 0 5 10 1 1 0 0 1\nvalue=a\tb\nT 0 0 5 10 1 1 0 0 1\ndevice=C\n}\n";
-    let lines = "{\nT 0 0 5 10 1 1 0 0 2\nrefdes=R1\nR2\n}\n";
-    let cases: [(&[Drawn], &str, &str); 4] = [
-        // One refdes twice: the first device, the only value, and one member.
-        (
-            &[Lines(SYMBOL), Lines(block), Lines(SYMBOL), Lines(value)],
-            "parts 1\nU1\tA B\ta b\t-\n",
-            "nets 1\nunnamed_net1\tU1-?\n",
-        ),
-        // No refdes, and one of two lines.
-        (&[Lines(SYMBOL)], "parts 0\n", "nets 0\n"),
-        (&[Lines(SYMBOL), Lines(lines)], "parts 0\n", "nets 0\n"),
-        // Spaces of a refdes print as `_`.
-        (
-            &[Pin("0 0", "100 0", "a b")],
-            "parts 1\na_b\t-\t-\t-\n",
-            "nets 1\nunconnected_pin-1\ta_b-1\n",
-        ),
-    ];
-    for (drawn, parts, nets) in cases {
-        expect_text(&rt, rt.alloc(), drawn, parts, nets)?;
     }
     Ok(())
 }

@@ -1,90 +1,107 @@
--- The definitions, evaluated on small sheets.
-use Rattle.std.proofs.Common.{◌≡◌, ℕ, ℤ, pos, true, false, List, [], ◌∷◌, Some, None, refl, ap, get_or, arith, inl}
+-- Some net lists, computed from their definitions.
+use Rattle.std.proofs.Common.{◌≡◌, ℕ, pos, true, false, List, [], ◌∷◌, Option, Some, None, refl}
 use Rattle.std.specs.Prelude.{codes}
 use Rattle.std.specs.Fmt.{digits}
 use Rattle.std.specs.Str.{is_utf8, chars}
 use lib.Utf8.{encode}
 use Rattle.attr_rules.specs.Attributes.{attr, attrs}
 use Rattle.attr_rules.specs.Splits.{split_of}
-use Rattle.attr_rules.specs.Kinds.{kind_of}
-use Rattle.geda_model.specs.declared.shape.Shape.TheVariants as shapes
+use Rattle.attr_rules.specs.declared.kinds.PinKind.{PinKind}
+use Rattle.attr_rules.specs.declared.kinds.PinKind.TheVariants as kinds
+use Rattle.geda_geom.specs.declared.conductor.Conductor.{Conductor}
+use Rattle.geda_geom.specs.declared.conductor.Conductor.TheVariants.{End}
 use Rattle.geda_model.specs.declared.object.Body.TheVariants as bodies
 use Rattle.geda_model.specs.Data.{TextData}
-use Rattle.geda_model.specs.Sheets.{ObjectData, SheetData}
-use Rattle.attr_rules.specs.declared.kinds.PinKind.TheVariants as kinds
-use Rattle.net_names.specs.declared.nets.Member.{Member}
+use Rattle.link_classes.specs.declared.member.Member.{Member}
+use Rattle.link_classes.specs.Flattening.{FlatConductor, Flattened}
+use Rattle.net_names.specs.declared.nets.Net.{Net}
+use Rattle.net_names.specs.declared.nets.NetSort.{NetSort}
 use Rattle.net_names.specs.declared.nets.NetSort.TheVariants as sorts
-use Rattle.geda_geom.specs.declared.conductor.Conductor.TheVariants.{End}
-use Rattle.net_names.specs.Flattening.{FlatConductor, AreTouching}
-use Rattle.net_names.specs.Sheets.{flattened}
-use Rattle.net_names.specs.Packages.{packages_of}
+use Rattle.net_names.specs.ListedParts.{ListedPart}
+use Rattle.net_names.specs.Packages.{packages_by}
 use Rattle.net_names.specs.NetLists.{nets_by}
+
+abbrev member : List ℕ → PinKind → Member
+member refdes kind = record { refdes = refdes; pin = codes "1"; kind = kind }
+
+-- a pin 1 with these names
+abbrev pin : List ℕ → PinKind → Option Conductor → List (List ℕ) → List (List ℕ) → FlatConductor
+pin refdes kind shape global_names drawn_names = record {
+  way = record { route = []; sheet = [] };
+  id = 0;
+  place = 0;
+  shape = shape;
+  global_names = global_names;
+  drawn_names = drawn_names;
+  member = Some (member refdes kind);
+}
+
+-- a drawn passive pin 1 with these names
+abbrev drawn : List ℕ → List (List ℕ) → FlatConductor
+drawn refdes names = pin refdes kinds.Pas (Some (End (record { x = pos 0; y = pos 0 }))) [] names
+
+abbrev untied : List FlatConductor → Flattened
+untied conductors = record { conductors = conductors; ties = [] }
+
+-- a net of passive pins that is no global one
+abbrev net : List ℕ → NetSort → List Member → Net
+net name sort members = record { name = name; sort = sort; global = false; members = members }
+
+-- members stand by refdes, and a class of one drawn pin is unconnected
+members_in_order : nets_by (untied (drawn (codes "A2") [] ∷ drawn (codes "A1") [] ∷ drawn (codes "A3") [] ∷ [])) (0 ∷ 0 ∷ 2 ∷ []) ≡
+    net (codes "unnamed_net1") sorts.Unnamed (member (codes "A1") kinds.Pas ∷ member (codes "A2") kinds.Pas ∷ [])
+    ∷ net (codes "unconnected_pin-1") sorts.Unconnected (member (codes "A3") kinds.Pas ∷ []) ∷ []
+unfolding digits
+members_in_order = refl
+
+-- a name with fewer `/` comes first
+slashes_count : nets_by (untied (drawn (codes "A1") (codes "a/X" ∷ []) ∷ drawn (codes "A2") (codes "Y" ∷ []) ∷ [])) (0 ∷ 0 ∷ []) ≡
+    net (codes "Y") sorts.Named (member (codes "A1") kinds.Pas ∷ member (codes "A2") kinds.Pas ∷ []) ∷ []
+slashes_count = refl
+
+-- of names with as many `/`, that which is first by bytes; a single drawn pin with a name is named
+bytes_count : nets_by (untied (drawn (codes "A1") (codes "B" ∷ codes "A" ∷ []) ∷ [])) (0 ∷ []) ≡
+    net (codes "A") sorts.Named (member (codes "A1") kinds.Pas ∷ []) ∷ []
+bytes_count = refl
+
+-- named nets stand by the bytes of their names
+names_in_order : nets_by (untied (drawn (codes "A1") (codes "b" ∷ []) ∷ drawn (codes "A2") (codes "a/c" ∷ []) ∷ [])) (0 ∷ 1 ∷ []) ≡
+    net (codes "a/c") sorts.Named (member (codes "A2") kinds.Pas ∷ [])
+    ∷ net (codes "b") sorts.Named (member (codes "A1") kinds.Pas ∷ []) ∷ []
+names_in_order = refl
+
+-- no unnamed net takes a name that is there, and no unconnected one
+taken_names_stay : nets_by (untied (drawn (codes "A1") (codes "unnamed_net1" ∷ codes "unconnected_pin-1" ∷ []) ∷ drawn (codes "A2") [] ∷ drawn (codes "A3") [] ∷ drawn (codes "A4") [] ∷ [])) (0 ∷ 1 ∷ 1 ∷ 3 ∷ []) ≡
+    net (codes "unconnected_pin-1") sorts.Named (member (codes "A1") kinds.Pas ∷ [])
+    ∷ net (codes "unnamed_net2") sorts.Unnamed (member (codes "A2") kinds.Pas ∷ member (codes "A3") kinds.Pas ∷ [])
+    ∷ net (codes "unconnected_pin-2") sorts.Unconnected (member (codes "A4") kinds.Pas ∷ []) ∷ []
+unfolding digits
+taken_names_stay = refl
+
+-- a hidden pin by itself is a net under its global name; one without a name is unnamed
+hidden_pins : nets_by (untied (pin (codes "U1") kinds.Pwr None (codes "Vcc" ∷ []) [] ∷ pin (codes "U2") kinds.Pwr None [] [] ∷ [])) (0 ∷ 1 ∷ []) ≡
+    record { name = codes "Vcc"; sort = sorts.Named; global = true; members = member (codes "U1") kinds.Pwr ∷ [] }
+    ∷ net (codes "unnamed_net1") sorts.Unnamed (member (codes "U2") kinds.Pwr ∷ []) ∷ []
+unfolding digits
+hidden_pins = refl
 
 abbrev text : List ℕ → TextData
 text content = record { x = pos 0; y = pos 0; color = pos 5; size = pos 8; visible = 0; show = 0; angle = 0; align = 0; content = content }
 
--- a component of one passive pin, whose active end is at a point
-abbrev one : ℤ → ℤ → List ℕ → ObjectData
-one x y refdes = record {
-  body = bodies.Component (record { x = x; y = y; selectable = true; angle = 0; mirror = false; basename = codes "k"; embedded = Some (record { shape = shapes.Pin x y (pos 9) (pos 9) (pos 1) false 0; attrs = text (codes "pinnumber=1") ∷ text (codes "pintype=pas") ∷ [] } ∷ []) });
-  attrs = text refdes ∷ [];
+-- a part without a library symbol, with one attribute
+abbrev part : List ℕ → List ℕ → ListedPart
+part refdes value = record {
+  refdes = refdes;
+  object = record {
+    body = bodies.Component (record { x = pos 0; y = pos 0; selectable = true; angle = 0; mirror = false; basename = codes "k"; embedded = None });
+    attrs = text value ∷ [];
+  };
+  library = None;
 }
 
-abbrev wire : ℤ → ℤ → ℤ → ℤ → ObjectData
-wire x1 y1 x2 y2 = record { body = bodies.Shape (shapes.Net x1 y1 x2 y2 (pos 4)); attrs = [] }
-
--- two pins on one wire, and a third pin on none
-abbrev three_pins : SheetData
-three_pins = record {
-  head = record { date = 20130925; format = 2 };
-  objects = one (pos 0) (pos 0) (codes "refdes=A2") ∷ one (pos 100) (pos 0) (codes "refdes=A1") ∷ wire (pos 0) (pos 0) (pos 100) (pos 0) ∷ one (pos 500) (pos 0) (codes "refdes=A3") ∷ [];
-}
-
-abbrev member : List ℕ → Member
-member refdes = record { refdes = refdes; pin = codes "1"; kind = kinds.Pas }
-
--- members stand by refdes, and a class of one pin is unconnected
-nets_of_three_pins : nets_by (flattened three_pins) (0 ∷ 0 ∷ 0 ∷ 3 ∷ []) ≡
-    record { name = codes "unnamed_net1"; sort = sorts.Unnamed; global = false; members = member (codes "A1") ∷ member (codes "A2") ∷ [] }
-    ∷ record { name = codes "unconnected_pin-1"; sort = sorts.Unconnected; global = false; members = member (codes "A3") ∷ [] } ∷ []
-unfolding attr attrs split_of digits is_utf8 kind_of chars encode
-nets_of_three_pins = refl
-
--- two components with one refdes are one package, and the first device counts
-abbrev valued : List ℕ → List ℕ → ObjectData
-valued refdes value = record {
-  body = bodies.Component (record { x = pos 0; y = pos 0; selectable = true; angle = 0; mirror = false; basename = codes "k"; embedded = Some [] });
-  attrs = text refdes ∷ text value ∷ [];
-}
-
-packages_of_three : packages_of (valued (codes "refdes=U2") (codes "device=A") ∷ valued (codes "refdes=U1") (codes "value=B") ∷ valued (codes "refdes=U2") (codes "device=C") ∷ []) ≡
+-- two parts with one refdes are one package, and the first device counts
+packages_of_three : packages_by (part (codes "U2") (codes "device=A") ∷ part (codes "U1") (codes "value=B") ∷ part (codes "U2") (codes "device=C") ∷ []) ≡
     record { refdes = codes "U1"; device = None; value = Some (codes "B"); footprint = None }
     ∷ record { refdes = codes "U2"; device = Some (codes "A"); value = None; footprint = None } ∷ []
 unfolding attr attrs split_of is_utf8 chars encode
 packages_of_three = refl
-
--- a pin by itself, with the names of what it is
-abbrev named : ℕ → List ℕ → List (List ℕ) → FlatConductor
-named id refdes names = record { route = []; sheet = []; id = id; place = 0; shape = Some (End (record { x = pos 0; y = pos 0 })); global_names = []; drawn_names = names; member = Some (member refdes) }
-
--- a name is a net's own, and no unnamed net takes a name that is there
-nets_with_names : nets_by (record { conductors = named 0 (codes "A1") (codes "unnamed_net1" ∷ []) ∷ named 1 (codes "A2") [] ∷ named 2 (codes "A3") [] ∷ []; ties = [] }) (0 ∷ 1 ∷ 1 ∷ []) ≡
-    record { name = codes "unnamed_net1"; sort = sorts.Named; global = false; members = member (codes "A1") ∷ [] }
-    ∷ record { name = codes "unnamed_net2"; sort = sorts.Unnamed; global = false; members = member (codes "A2") ∷ member (codes "A3") ∷ [] } ∷ []
-unfolding digits
-nets_with_names = refl
-
--- a pin at one point of a sheet of this name
-abbrev on_sheet : List ℕ → FlatConductor
-on_sheet name = record { route = []; sheet = name; id = 0; place = 0; shape = Some (End (record { x = pos 0; y = pos 0 })); global_names = []; drawn_names = []; member = None }
-
--- pins at one point of one sheet touch
-one_sheet_touches : AreTouching (on_sheet (codes "a")) (on_sheet (codes "a"))
-one_sheet_touches = record { route = refl; sheet = refl; touch = inl (refl, refl) }
-
-two_letters : (n : ℕ) → n ≡ 97 → n ≡ 98 → ⊥
-two_letters n e f = omega arith
-
--- at one point of two sheets they do not, though both sheets are roots
-two_sheets_stay_apart : AreTouching (on_sheet (codes "a")) (on_sheet (codes "b")) → ⊥
-two_sheets_stay_apart t = two_letters 97 refl (ap (λ (name : List ℕ). get_or name 0 0) t.sheet)

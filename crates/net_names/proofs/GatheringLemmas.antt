@@ -1,19 +1,40 @@
--- A class that takes in the conductors of one label becomes the class of that label.
-use Rattle.std.proofs.Common.{◌≡◌, ℕ, ◌+◌, ◌==◌, ◌&&◌, ◌<◌, Bool, true, false, cond, List, [], ◌∷◌, Option, Some, None, length, get_or, set, map, drop, filter, filter_map, flat_map, fold, refl, sym, ap, ◌∙◌, arith, inl, inr}
+-- A class that takes in the conductors of one label becomes the class of that label, with the least
+-- of its names alone.
+use Rattle.std.proofs.Common.{◌≡◌, ℕ, ◌+◌, ◌==◌, ◌&&◌, ◌||◌, ◌<◌, false, cond, List, [], ◌∷◌, Option, Some, None, Ordering, length, get_or, set, map, drop, filter, filter_map, flat_map, fold, refl, sym, ap, ◌∙◌, arith, inl, inr}
+use Rattle.std.specs.declared.cmp.Ordering.TheVariants.{Less, Equal, Greater}
 use Rattle.std.specs.List.{list_any}
+use Rattle.std.specs.Ordering.{match_ordering}
 use Rattle.std.specs.BTreeSet.{insert_key}
+use Rattle.std.specs.Prelude.{slice_get}
+use Rattle.std.proofs.Math.Bool.{or_assoc, or-false}
 use Rattle.std.proofs.lemmas.Bool.{cases_eq, eq-eqb, ne_eqb}
 use Rattle.std.proofs.lemmas.List.{drop_more, get_or-set_same, get_or-set_other, length-set}
-use Rattle.net_names.specs.declared.conductors.SheetConductor.{SheetConductor}
-use Rattle.net_names.specs.Flattening.{names_of}
-use Rattle.net_names.specs.steps.SheetConductors.{flat_conductor}
-use Rattle.net_names.specs.NetClasses.{Labelled, labelled_from, ClassPinData, class_pin_of, by_member, is_drawn_pin, is_single_pin, has_global_name, net_class}
-use Rattle.net_names.specs.steps.Gathering.{GrowingClassData, empty_class, with_pin, with_conductor, joined_at, gathered_from, as_net_class}
+use Rattle.std.proofs.lemmas.List.Sums.{fold-append}
+use Rattle.link_classes.specs.declared.conductors.SheetConductor.{SheetConductor}
+use Rattle.link_classes.specs.Flattening.{Way, flat_on, names_of}
+use Rattle.net_names.specs.Order.{once_in_order}
+use Rattle.net_names.specs.NetClasses.{Labelled, labelled_from, ClassPinData, class_pin_of, by_member, NetClassData, is_drawn_pin, is_single_pin, has_global_name, net_class}
+use Rattle.net_names.specs.NetLists.{by_name}
+use Rattle.net_names.specs.steps.Gathering.{GrowingClassData, empty_class, with_pin, lesser, with_conductor, joined_at, gathered_from, one_or_none, as_net_class}
+
+-- a class that has the least of its names alone
+abbrev pub with_least : NetClassData → NetClassData
+with_least c = record {
+  pins = c.pins;
+  names = one_or_none (slice_get (once_in_order by_name c.names) 0);
+  global = c.global;
+  is_single_pin = c.is_single_pin;
+}
 
 -- a class with one more labelled conductor
 abbrev pub with_labelled : GrowingClassData → Labelled → GrowingClassData
-with_labelled g l =
-    record { pins = with_pin g.pins (class_pin_of l); is_empty = false; is_single_pin = g.is_empty && is_drawn_pin l.conductor.shape }
+with_labelled g l = record {
+  pins = with_pin g.pins (class_pin_of l);
+  is_empty = false;
+  is_single_pin = g.is_empty && is_drawn_pin l.conductor.shape;
+  global = g.global || has_global_name l;
+  least = fold lesser (fold lesser g.least l.conductor.global_names) l.conductor.drawn_names;
+}
 
 -- the class after several of them
 abbrev pub grown : GrowingClassData → List Labelled → GrowingClassData
@@ -41,44 +62,47 @@ grown_single [] = refl
 grown_single (l ∷ []) = refl
 grown_single (l ∷ m ∷ ls) = stays_false (with_labelled (with_labelled empty_class l) m) ls refl refl
 
--- it is the class of these, where no conductor has a name
-pub grown_class : (ls : List Labelled) → flat_map (λ l. names_of l.conductor) ls ≡ [] → list_any has_global_name ls ≡ false
-    → as_net_class (grown empty_class ls) ≡ net_class ls
-grown_class ls e f = rw (grown_pins empty_class ls, grown_single ls, e, f) refl
+-- it is global where one of them is
+pub grown_global : (g : GrowingClassData) (ls : List Labelled) → (grown g ls).global ≡ (g.global || list_any has_global_name ls)
+grown_global g [] = sym (or-false g.global)
+grown_global g (l ∷ ls) = grown_global (with_labelled g l) ls ∙ or_assoc g.global (has_global_name l) (list_any has_global_name ls)
 
-kept_names : (b : Bool) (l : Labelled) (ls : List Labelled) → names_of l.conductor ≡ [] → flat_map (λ m. names_of m.conductor) ls ≡ []
-    → flat_map (λ m. names_of m.conductor) (cond b (l ∷ ls) ls) ≡ []
-kept_names true l ls e f = rw (e, f) refl
-kept_names false l ls e f = f
+-- its least name is the lesser one of all names of them
+grown_least : (g : GrowingClassData) (ls : List Labelled) → (grown g ls).least ≡ fold lesser g.least (flat_map (λ l. names_of l.conductor) ls)
+grown_least g [] = refl
+grown_least g (l ∷ ls) =
+    let later = flat_map (λ (m : Labelled). names_of m.conductor) ls in
+    grown_least (with_labelled g l) ls
+    ∙ ap (λ (least : Option (List ℕ)). fold lesser least later) (sym (fold-append lesser g.least l.conductor.global_names l.conductor.drawn_names))
+    ∙ sym (fold-append lesser g.least (names_of l.conductor) later)
 
-kept_global : (b : Bool) (l : Labelled) (ls : List Labelled) → has_global_name l ≡ false → list_any has_global_name ls ≡ false
-    → list_any has_global_name (cond b (l ∷ ls) ls) ≡ false
-kept_global true l ls e f = rw (e, f) refl
-kept_global false l ls e f = f
+first_insert : (names : List (List ℕ)) (name : List ℕ) → slice_get (insert_key by_name names name) 0 ≡ lesser (slice_get names 0) name
+first_insert [] name = refl
+first_insert (least ∷ names) name = by (by_name name least)
+  where
+    by : (r : Ordering) → slice_get (match_ordering r (name ∷ least ∷ names) (least ∷ names) (least ∷ insert_key by_name names name)) 0 ≡ match_ordering r (Some name) (Some least) (Some least)
+    by Less = refl
+    by Equal = refl
+    by Greater = refl
 
--- conductors have no names, whichever are kept
-pub no_names : (p : Labelled → Bool) (place : ℕ) (conductors : List SheetConductor) (labels : List ℕ)
-    → flat_map (λ l. names_of l.conductor) (filter p (labelled_from place (map flat_conductor conductors) labels)) ≡ []
-no_names p place [] labels = refl
-no_names p place (j ∷ js) [] = refl
-no_names p place (j ∷ js) (label ∷ labels) =
-    let l : Labelled = record { place = place; label = label; conductor = flat_conductor j } in
-    kept_names (p l) l (filter p (labelled_from (place + 1) (map flat_conductor js) labels)) refl (no_names p (place + 1) js labels)
+-- the least name is the first one of the names in order
+pub least_first : (kept names : List (List ℕ)) → fold lesser (slice_get kept 0) names ≡ slice_get (fold (insert_key by_name) kept names) 0
+least_first kept [] = refl
+least_first kept (name ∷ names) =
+    ap (λ (least : Option (List ℕ)). fold lesser least names) (sym (first_insert kept name)) ∙ least_first (insert_key by_name kept name) names
 
--- and so no global one
-pub no_global : (p : Labelled → Bool) (place : ℕ) (conductors : List SheetConductor) (labels : List ℕ)
-    → list_any has_global_name (filter p (labelled_from place (map flat_conductor conductors) labels)) ≡ false
-no_global p place [] labels = refl
-no_global p place (j ∷ js) [] = refl
-no_global p place (j ∷ js) (label ∷ labels) =
-    let l : Labelled = record { place = place; label = label; conductor = flat_conductor j } in
-    kept_global (p l) l (filter p (labelled_from (place + 1) (map flat_conductor js) labels)) refl (no_global p (place + 1) js labels)
+-- it is the class of these, with the least of its names alone
+pub grown_class : (ls : List Labelled) → as_net_class (grown empty_class ls) ≡ with_least (net_class ls)
+grown_class ls =
+    let least : (grown empty_class ls).least ≡ slice_get (once_in_order by_name (flat_map (λ l. names_of l.conductor) ls)) 0 =
+    grown_least empty_class ls ∙ least_first [] (flat_map (λ l. names_of l.conductor) ls) in
+    rw (grown_pins empty_class ls, grown_single ls, grown_global empty_class ls, least) refl
 
 -- one conductor changes the class of its label alone
-grown_at : (growing : List GrowingClassData) (place : ℕ) (j : SheetConductor) (label r : ℕ) (ls : List Labelled) → r < length growing
+grown_at : (way : Way) (growing : List GrowingClassData) (place : ℕ) (j : SheetConductor) (label r : ℕ) (ls : List Labelled) → r < length growing
     → grown (get_or (set growing label (with_conductor (get_or growing label empty_class) place j)) r empty_class) ls
-    ≡ grown (get_or growing r empty_class) (cond (label == r) (record { place = place; label = label; conductor = flat_conductor j } ∷ ls) ls)
-grown_at growing place j label r ls h = elim (cases_eq label r) [
+    ≡ grown (get_or growing r empty_class) (cond (label == r) (record { place = place; label = label; conductor = flat_on way j } ∷ ls) ls)
+grown_at way growing place j label r ls h = elim (cases_eq label r) [
   | inl e ↦ rw (e, get_or-set_same growing r (with_conductor (get_or growing r empty_class) place j) empty_class h, eq-eqb r r refl) refl
   | inr ne ↦ rw (get_or-set_other growing label r (with_conductor (get_or growing label empty_class) place j) empty_class (λ x. ne (sym x)), ne_eqb label r ne) refl
 ]
@@ -88,15 +112,15 @@ gathered_length growing place [] labels = refl
 gathered_length growing place (j ∷ js) labels = gathered_length (joined_at growing place j labels) (place + 1) js labels ∙ length-set growing _ _
 
 -- the class of a label has taken in the conductors of that label, in their order
-pub gathered_at : (growing : List GrowingClassData) (place : ℕ) (conductors : List SheetConductor) (labels : List ℕ) (r : ℕ) → r < length growing
+pub gathered_at : (way : Way) (growing : List GrowingClassData) (place : ℕ) (conductors : List SheetConductor) (labels : List ℕ) (r : ℕ) → r < length growing
     → place + length conductors ≡ length labels
     → get_or (gathered_from growing place conductors labels) r empty_class
-    ≡ grown (get_or growing r empty_class) (filter (λ l. l.label == r) (labelled_from place (map flat_conductor conductors) (drop place labels)))
-gathered_at growing place [] labels r h e = refl
-gathered_at growing place (j ∷ js) labels r h e =
+    ≡ grown (get_or growing r empty_class) (filter (λ l. l.label == r) (labelled_from place (map (flat_on way) conductors) (drop place labels)))
+gathered_at way growing place [] labels r h e = refl
+gathered_at way growing place (j ∷ js) labels r h e =
     let label = get_or labels place 0 in
     let within : place < length labels = omega arith in
     let same : length (joined_at growing place j labels) ≡ length growing = length-set growing _ _ in
-    gathered_at (joined_at growing place j labels) (place + 1) js labels r (omega arith) (omega arith)
-    ∙ grown_at growing place j label r (filter (λ l. l.label == r) (labelled_from (place + 1) (map flat_conductor js) (drop (place + 1) labels))) h
-    ∙ sym (ap (λ (ls : List ℕ). grown (get_or growing r empty_class) (filter (λ l. l.label == r) (labelled_from place (map flat_conductor (j ∷ js)) ls))) (drop_more labels place 0 within))
+    gathered_at way (joined_at growing place j labels) (place + 1) js labels r (omega arith) (omega arith)
+    ∙ grown_at way growing place j label r (filter (λ l. l.label == r) (labelled_from (place + 1) (map (flat_on way) js) (drop (place + 1) labels))) h
+    ∙ sym (ap (λ (ls : List ℕ). grown (get_or growing r empty_class) (filter (λ l. l.label == r) (labelled_from place (map (flat_on way) (j ∷ js)) ls))) (drop_more labels place 0 within))

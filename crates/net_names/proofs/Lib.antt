@@ -1,11 +1,12 @@
 pub mod OnceLaws
-pub mod LabelLemmas
-pub mod TouchLemmas
-pub mod UnionLemmas
-pub mod PairLemmas
 pub mod GatheringLemmas
+pub mod NumberingLemmas
 pub mod ListingLemmas
-pub mod SheetLemmas
+pub mod PartLemmas
 pub mod PackageLemmas
+pub mod SheetLemmas
+pub mod SourceLemmas
+pub mod NetListLemmas
 pub mod Uniqueness
 pub mod Cases
+pub mod PartCases

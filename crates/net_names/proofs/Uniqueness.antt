@@ -2,12 +2,12 @@
 use Rattle.std.proofs.Common.{◌≡◌, ℕ, ◌<◌, List, get_or, sym, ap, ◌∙◌, arith}
 use Rattle.std.proofs.lemmas.List.{ext_get_or}
 use Rattle.geda_defs.specs.Classes.{AreClasses}
-use Rattle.geda_model.specs.Sheets.{SheetData}
+use Rattle.geda_model.specs.Projects.{ProjectData}
+use Rattle.link_classes.specs.Flattening.{Flattened}
 use Rattle.net_names.specs.declared.nets.Net.{Net}
 use Rattle.net_names.specs.declared.nets.Nets.{Nets}
 use Rattle.net_names.specs.declared.nets.Package.{Package}
-use Rattle.net_names.specs.Flattening.{Flattened}
-use Rattle.net_names.specs.NetLists.{AreNetsOf, IsNetListOfPlainSheet, nets_by}
+use Rattle.net_names.specs.NetLists.{AreNetsOf, IsNetListOf, nets_by}
 
 same_labels : (R : ℕ → ℕ → Type 0) (count : ℕ) (xs ys : List ℕ) → AreClasses R count xs → AreClasses R count ys → xs ≡ ys
 same_labels R count xs ys p q =
@@ -24,5 +24,5 @@ both_parts a b p q =
     let second : record { packages = b.packages; nets = a.nets } ≡ b = ap (λ (nets : List Net). record { packages = b.packages; nets = nets }) q in
     first ∙ second
 
-pub same_lists : (sheet : SheetData) (a b : Nets) → IsNetListOfPlainSheet sheet a → IsNetListOfPlainSheet sheet b → a ≡ b
-same_lists sheet a b p q = both_parts a b (p.packages ∙ sym q.packages) (same_nets _ a.nets b.nets p.nets q.nets)
+pub same_lists : (p : ProjectData) (a b : Nets) → IsNetListOf p a → IsNetListOf p b → a ≡ b
+same_lists p a b f g = both_parts a b (f.packages ∙ sym g.packages) (same_nets _ a.nets b.nets f.nets g.nets)

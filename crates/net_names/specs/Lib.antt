@@ -1,6 +1,7 @@
 pub mod Order
-pub mod Flattening
-pub mod Sheets
+pub mod Instances
+pub mod ListedParts
+pub mod Conductors
 pub mod Packages
 pub mod NetClasses
 pub mod NetLists

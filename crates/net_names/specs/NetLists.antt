@@ -7,15 +7,15 @@ use Rattle.std.specs.List.{flat_map, list_any, range_with_len}
 use Rattle.std.specs.Str.{bytes_eq}
 use Rattle.std.specs.Fmt.{decimal}
 use Rattle.std.specs.Ordering.{nat_cmp, on, then_cmp}
-use Rattle.geda_model.specs.Sheets.{SheetData}
+use Rattle.geda_model.specs.Projects.{ProjectData}
 use Rattle.geda_defs.specs.Classes.{AreClasses}
 use Rattle.net_names.specs.declared.nets.Net.{Net}
 use Rattle.net_names.specs.declared.nets.NetSort.{NetSort}
 use Rattle.net_names.specs.declared.nets.NetSort.TheVariants as sorts
 use Rattle.net_names.specs.declared.nets.Nets.{Nets}
 use Rattle.net_names.specs.Order.{once_in_order, by_bytes}
-use Rattle.net_names.specs.Flattening.{Flattened, Linked, names_of}
-use Rattle.net_names.specs.Sheets.{flattened}
+use Rattle.link_classes.specs.Flattening.{Flattened, Linked, names_of}
+use Rattle.net_names.specs.Conductors.{flattened}
 use Rattle.net_names.specs.Packages.{packages_of}
 use Rattle.net_names.specs.NetClasses.{labelled_from, ClassPinData, by_pin, NetClassData, net_classes}
 
@@ -105,7 +105,7 @@ AreNetsOf p nets =
     × AreClasses (Linked p) (length p.conductors) labels
     × (nets ≡ nets_by p labels)
 
--- the net list of a plain sheet by itself; on other sheets slots, names and sheets below join too
-pub record IsNetListOfPlainSheet (sheet : SheetData) (list : Nets) : Type 0 where
-  pub packages : list.packages ≡ packages_of sheet.objects
-  pub nets : AreNetsOf (flattened sheet) list.nets
+-- the net list of a project without sheets below others
+pub record IsNetListOf (p : ProjectData) (list : Nets) : Type 0 where
+  pub packages : list.packages ≡ packages_of p
+  pub nets : AreNetsOf (flattened p) list.nets

@@ -1,7 +1,7 @@
 -- Steps of the code; no public clause cites them.
+pub mod Orders
 pub mod SheetConductors
 pub mod PackageRows
-pub mod Touching
-pub mod Unions
+pub mod Sources
 pub mod Gathering
-pub mod Orders
+pub mod Numbering

@@ -1,5 +1,5 @@
 // The pins of a class, ordered by what is printed of them.
-use crate::nets::Member;
+use link_classes::Member;
 use std::cmp::Ordering;
 use std::marker::Model;
 

@@ -1,11 +1,15 @@
 // The conductors of each class, gathered in one pass.
-ghost use Rattle.std.specs.Prelude.{◌≡◌, length, replicate, IfOk, OnOk, Some};
+ghost use Rattle.std.specs.Prelude.{◌≡◌, length, replicate, IfOk, OnOk, option_copied};
+ghost use Rattle.std.specs.List.{fold};
 ghost use Rattle.net_names.specs.NetClasses.{is_drawn_pin};
 ghost use Rattle.net_names.specs.steps.Gathering.{ArePlaces, empty_class, with_conductor, gathered};
+ghost use Rattle.net_names.specs.steps.Gathering.{lesser};
 
 use crate::class_pins::ClassPin;
-use crate::conductors::SheetConductor;
+use crate::names::{CountedName, lesser};
 use geda_geom::Conductor;
+use geda_model::{Block, Items};
+use link_classes::SheetConductor;
 use std::alloc::{AllocError, Global};
 use std::collections::BTreeSet;
 use std::marker::Model;
@@ -19,6 +23,10 @@ pub struct GrowingClass {
     pub is_empty: bool,
     /// Whether it is a single drawn pin.
     pub is_single_pin: bool,
+    /// Whether it has a global name.
+    pub global: bool,
+    /// The least of its names.
+    pub least: Option<CountedName>,
 }
 
 impl Model for GrowingClass {
@@ -26,17 +34,35 @@ impl Model for GrowingClass {
 
     ghost Value = { GrowingClassData };
 
-    ghost view = { λ g.
-        record { pins = g.pins.keys; is_empty = g.is_empty; is_single_pin = g.is_single_pin } };
+    ghost view = { λ g. record {
+      pins = g.pins.keys;
+      is_empty = g.is_empty;
+      is_single_pin = g.is_single_pin;
+      global = g.global;
+      least = g.least;
+    } };
 }
 
-fn is_drawn_pin(shape: &Conductor) -> bool
-    ensures { result ≡ is_drawn_pin (Some shape.now) }
+fn is_drawn_pin(shape: Option<&Conductor>) -> bool
+    ensures { result ≡ is_drawn_pin (option_copied shape.entry) }
 {
     match shape {
-        Conductor::Segment { .. } => false,
-        Conductor::End { .. } => true,
+        None => false,
+        Some(shape) => match shape {
+            Conductor::Segment { .. } => false,
+            Conductor::End { .. } => true,
+        },
     }
+}
+
+fn least_with(least: Option<CountedName>, names: Items<Block>) -> Option<CountedName>
+    ensures { result ≡ fold lesser least names }
+{
+    let mut least = least;
+    for name in names.into_vec() {
+        least = Some(lesser(least, name));
+    }
+    least
 }
 
 impl GrowingClass {
@@ -48,6 +74,8 @@ impl GrowingClass {
             pins: BTreeSet::new(alloc),
             is_empty: true,
             is_single_pin: false,
+            global: false,
+            least: None,
         }
     }
 
@@ -56,9 +84,18 @@ impl GrowingClass {
     pub fn join(&mut self, place: usize, conductor: SheetConductor) -> Result<(), AllocError>
         ensures { OnOk result (self.new ≡ with_conductor self.old place conductor) }
     {
-        self.is_single_pin = self.is_empty && is_drawn_pin(&conductor.shape);
+        let SheetConductor {
+            shape,
+            global_names,
+            drawn_names,
+            member,
+            ..
+        } = conductor;
+        self.is_single_pin = self.is_empty && is_drawn_pin(shape.as_ref());
         self.is_empty = false;
-        if let Some(member) = conductor.member {
+        self.global = self.global || global_names.as_slice().len() != 0;
+        self.least = least_with(least_with(self.least.take(), global_names), drawn_names);
+        if let Some(member) = member {
             self.pins.insert(ClassPin { place, member })?;
         }
         Ok(())

@@ -1,15 +1,14 @@
 // Laws of net lists.
 ghost use Rattle.std.specs.Prelude.{◌≡◌, ℕ, List};
-ghost use Rattle.geda_model.specs.Sheets.{SheetData};
+ghost use Rattle.geda_model.specs.Projects.{ProjectData};
 ghost use Rattle.net_names.specs.declared.nets.Nets.{Nets};
 ghost use Rattle.net_names.specs.NetClasses.{ClassPinData, NetClassData, by_member};
-ghost use Rattle.net_names.specs.NetLists.{IsNetListOfPlainSheet, by_least_pin, by_name};
+ghost use Rattle.net_names.specs.NetLists.{IsNetListOf, by_least_pin, by_name};
 ghost use Rattle.net_names.specs.Order.{IsOnceInOrder, by_bytes, once_in_order};
 
-/// The law that a plain sheet has one net list.
+/// The law that a project without sheets below others has one net list.
 pub fn one_net_list()
-    ensures { (sheet : SheetData) (a b : Nets)
-        → IsNetListOfPlainSheet sheet a → IsNetListOfPlainSheet sheet b → a ≡ b }
+    ensures { (p : ProjectData) (a b : Nets) → IsNetListOf p a → IsNetListOf p b → a ≡ b }
 {}
 
 /// The law of lists in which each member stands once, for each order that a net list uses: members

@@ -1,22 +1,22 @@
 // The nets of the conductors of a sheet, given the label of each.
 ghost use Rattle.std.specs.Prelude.{◌≡◌, length, IfOk};
-ghost use Rattle.net_names.specs.NetLists.{AreNetsOf, nets_by};
+ghost use Rattle.link_classes.specs.Flattening.{Way, flattened_on};
+ghost use Rattle.net_names.specs.NetLists.{nets_by};
 ghost use Rattle.net_names.specs.steps.Gathering.{ArePlaces};
-ghost use Rattle.net_names.specs.steps.SheetConductors.{flattened_by};
 
-use crate::classes::classes;
-use crate::conductors::SheetConductor;
 use crate::gathering::gathered;
+use crate::named::listed;
 use crate::net_classes::{NetClasses, in_order};
 use crate::nets::{NetList, NetSort};
-use crate::numbering::number_classes;
+use crate::numbering::{number_classes, taken_names};
 use geda_model::Items;
+use link_classes::SheetConductor;
 use std::alloc::{AllocError, Global};
 
-/// The nets of conductors whose classes have these labels, in order: the unnamed ones, then the
-/// unconnected ones, each numbered by the least pin.
+/// The nets of conductors whose classes have these labels, in order: the named ones by the bytes of
+/// the name, then the unnamed ones, then the unconnected ones, each numbered by the least pin.
 ///
-/// A class without members is no net.
+/// A class without members is no net. Rules: docs/RULES.md, "Names of nets".
 pub fn nets_by(
     alloc: Global,
     conductors: Vec<SheetConductor>,
@@ -24,29 +24,33 @@ pub fn nets_by(
 ) -> Result<NetList, AllocError>
     requires len { length labels.now ≡ length conductors.items }
     requires in_range { ArePlaces labels.now (length conductors.items) }
-    ensures { IfOk result (λ nets. nets ≡ nets_by (flattened_by conductors.items) labels.now) }
+    ensures { IfOk result (λ nets. (way : Way)
+        → nets ≡ nets_by (flattened_on way conductors.items) labels.now) }
 {
+    let taken_unnamed = taken_names(alloc, conductors.as_slice(), "unnamed_net")?;
+    let taken_unconnected = taken_names(alloc, conductors.as_slice(), "unconnected_pin-")?;
     let growing = gathered(alloc, conductors, labels)?;
     let NetClasses {
+        named,
         unnamed,
         unconnected,
     } = in_order(alloc, growing)?;
-    let mut nets = Vec::new(alloc);
-    number_classes(alloc, &mut nets, "unnamed_net", NetSort::Unnamed, unnamed)?;
+    let mut nets = listed(alloc, named)?;
+    number_classes(
+        alloc,
+        &mut nets,
+        "unnamed_net",
+        NetSort::Unnamed,
+        unnamed,
+        taken_unnamed,
+    )?;
     number_classes(
         alloc,
         &mut nets,
         "unconnected_pin-",
         NetSort::Unconnected,
         unconnected,
+        taken_unconnected,
     )?;
     Ok(Items::from_vec(nets))
-}
-
-/// The nets of conductors, in order: those of the classes of conductors that touch.
-pub fn joined_nets(alloc: Global, conductors: Vec<SheetConductor>) -> Result<NetList, AllocError>
-    ensures { IfOk result (AreNetsOf (flattened_by conductors.items)) }
-{
-    let labels = classes(alloc, conductors.as_slice())?;
-    nets_by(alloc, conductors, labels.as_slice())
 }

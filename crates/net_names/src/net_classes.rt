@@ -1,29 +1,35 @@
-// Classes of conductors that have no names, in order of their least pins.
+// Classes of conductors: those with a name as nets, the others in order of their least pins.
 ghost use Rattle.std.specs.Prelude.{◌≡◌, IfOk, OnOk, option_copied, slice_get};
 ghost use Rattle.std.specs.Option.{option_cmp};
 ghost use Rattle.net_names.specs.NetClasses.{by_pin, has_pins};
 ghost use Rattle.net_names.specs.NetLists.{is_unnamed, is_unconnected};
-ghost use Rattle.net_names.specs.steps.Gathering.{as_net_class, with_class, in_order};
+ghost use Rattle.net_names.specs.steps.Gathering.{as_nameless, as_net_class, with_class, in_order};
+ghost use Rattle.net_names.specs.steps.Gathering.{with_named, named_in_order};
 
 use crate::class_pins::ClassPin;
 use crate::gathering::GrowingClass;
+use crate::named::{NamedNet, net_of};
+use crate::names::CountedName;
+use crate::nets::NetSort;
 use std::alloc::{AllocError, Global};
 use std::cmp::Ordering;
 use std::collections::BTreeSet;
 use std::marker::Model;
 
-/// The conductors of one net without a name. Classes are ordered by their least pins, the places
-/// of these last.
+/// The conductors of one net, without its names. Classes are ordered by their least pins, the
+/// places of these last.
 #[derive(Debug, Drop)]
 pub struct NetClass {
     /// Its pins, each pair of refdes and number once.
     pub pins: BTreeSet<ClassPin>,
+    /// Whether it has a global name.
+    pub global: bool,
     /// Whether it is a single drawn pin.
     pub is_single_pin: bool,
 }
 
 impl Model for NetClass {
-    ghost use Rattle.std.specs.Prelude.{false, []};
+    ghost use Rattle.std.specs.Prelude.{[]};
     ghost use Rattle.net_names.specs.NetClasses.{NetClassData};
 
     ghost Value = { NetClassData };
@@ -31,7 +37,7 @@ impl Model for NetClass {
     ghost view = { λ c. record {
       pins = c.pins.keys;
       names = [];
-      global = false;
+      global = c.global;
       is_single_pin = c.is_single_pin;
     } };
 }
@@ -116,39 +122,55 @@ impl Ord for NetClass {
     }
 }
 
-/// Classes that have members, in order: those that print as unnamed, and those that print as
-/// unconnected.
+/// Classes that have members, in order: the nets of those with a name, those that print as unnamed,
+/// and those that print as unconnected.
 #[derive(Debug, Drop)]
 pub struct NetClasses {
+    /// With a name.
+    pub named: BTreeSet<NamedNet>,
     /// Of two and more conductors, or of a single one that is no drawn pin.
     pub unnamed: BTreeSet<NetClass>,
     /// Of a single drawn pin.
     pub unconnected: BTreeSet<NetClass>,
 }
 
-fn net_class(growing: GrowingClass) -> NetClass
-    ensures { result ≡ as_net_class growing }
+fn name_and_class(growing: GrowingClass) -> (Option<CountedName>, NetClass)
+    ensures name { result.0 ≡ growing.least }
+    ensures class { result.1 ≡ as_nameless growing }
 {
     let GrowingClass {
         pins,
         is_single_pin,
+        global,
+        least,
         ..
     } = growing;
-    NetClass {
-        pins,
-        is_single_pin,
-    }
+    (
+        least,
+        NetClass {
+            pins,
+            global,
+            is_single_pin,
+        },
+    )
 }
 
 impl NetClasses {
-    fn take(&mut self, class: NetClass) -> Result<(), AllocError>
-        ensures unnamed { OnOk result
-            (self.new.unnamed.keys ≡ with_class is_unnamed self.old.unnamed.keys class) }
-        ensures unconnected { OnOk result
-            (self.new.unconnected.keys
-            ≡ with_class is_unconnected self.old.unconnected.keys class) }
+    fn take(&mut self, alloc: Global, growing: GrowingClass) -> Result<(), AllocError>
+        ensures named { OnOk result
+            (self.new.named.keys ≡ with_named self.old.named.keys (as_net_class growing)) }
+        ensures unnamed { OnOk result (self.new.unnamed.keys
+            ≡ with_class is_unnamed self.old.unnamed.keys (as_net_class growing)) }
+        ensures unconnected { OnOk result (self.new.unconnected.keys
+            ≡ with_class is_unconnected self.old.unconnected.keys (as_net_class growing)) }
     {
-        if class.pins.len() == 0 {
+        if growing.pins.len() == 0 {
+            return Ok(());
+        }
+        let (name, class) = name_and_class(growing);
+        if let Some(name) = name {
+            let net = net_of(alloc, name.text, NetSort::Named, class)?;
+            self.named.insert(NamedNet { net })?;
             return Ok(());
         }
         if class.is_single_pin {
@@ -162,16 +184,18 @@ impl NetClasses {
 
 /// The classes that have members, in order.
 pub fn in_order(alloc: Global, growing: Vec<GrowingClass>) -> Result<NetClasses, AllocError>
+    ensures named { IfOk result (λ o. o.named.keys ≡ named_in_order growing.items) }
     ensures unnamed { IfOk result (λ o. o.unnamed.keys ≡ in_order is_unnamed growing.items) }
     ensures unconnected { IfOk result
         (λ o. o.unconnected.keys ≡ in_order is_unconnected growing.items) }
 {
     let mut ordered = NetClasses {
+        named: BTreeSet::new(alloc),
         unnamed: BTreeSet::new(alloc),
         unconnected: BTreeSet::new(alloc),
     };
     for class in growing {
-        ordered.take(net_class(class))?;
+        ordered.take(alloc, class)?;
     }
     Ok(ordered)
 }

@@ -1,17 +1,6 @@
 // The net list as a value.
-use attr_rules::PinKind;
-use geda_model::{Block, Items, Line, Word};
-
-/// A pin of a package in a net.
-#[derive(Debug, Drop)]
-pub struct Member {
-    /// The printed refdes of the package.
-    pub refdes: Line,
-    /// The number of the pin.
-    pub pin: Word,
-    /// The kind of the first pin of that refdes and number in the net.
-    pub kind: PinKind,
-}
+use geda_model::{Block, Items, Line};
+use link_classes::Member;
 
 /// Members in order of the bytes of the refdes, then of the number, each pair once.
 pub type Members = Items<Member>;

@@ -1,61 +1,112 @@
-// Nets without names, numbered from 1 in the order of their classes.
-ghost use Rattle.std.specs.Prelude.{◌≡◌, ◌++◌, IfOk, OnOk, decimal, map};
-ghost use Rattle.net_names.specs.NetLists.{net_of};
-ghost use Rattle.net_names.specs.steps.Gathering.{numbered_from};
+// Nets without names, numbered from 1 in the order of their classes. Numbers whose texts are names
+// of conductors are skipped.
+ghost use Rattle.std.specs.Prelude.{◌≡◌, ◌==◌, ◌++◌, ◌+◌, ◌<◌, ◌^◌};
+ghost use Rattle.std.specs.Prelude.{IfOk, OnOk, decimal, length, map};
+ghost use Rattle.std.specs.List.{flat_map, fold, starts_with};
+ghost use Rattle.link_classes.specs.Flattening.{Way, flat_on, names_of};
+ghost use Rattle.net_names.specs.steps.Numbering.{AreNumbered, IsNextFree};
+ghost use Rattle.net_names.specs.steps.Numbering.{taken_names, with_taken};
 
-use crate::class_pins::ClassPin;
+use crate::named::net_of;
+use crate::names::NetName;
 use crate::net_classes::NetClass;
-use crate::nets::{Member, Members, Net, NetSort};
-use geda_model::{Block, Items};
+use crate::nets::{Net, NetSort};
+use geda_model::Block;
+use link_classes::SheetConductor;
 use std::alloc::{AllocError, Global};
 use std::collections::BTreeSet;
 
-fn members(alloc: Global, pins: BTreeSet<ClassPin>) -> Result<Members, AllocError>
-    ensures { IfOk result (λ members. members ≡ map (λ p. p.member) pins.keys) }
+fn begins_with(name: &str, prefix: &str) -> bool
+    ensures { result ≡ starts_with ◌==◌ name.now prefix.now }
 {
-    let mut members = Vec::new(alloc);
-    for pin in pins {
-        let ClassPin { member, .. } = pin;
-        members.push(member)?;
-    }
-    Ok(Items::from_vec(members))
+    name.as_bytes().starts_with(prefix.as_bytes())
 }
 
-fn numbered_net(
+fn take_names(
+    taken: &mut BTreeSet<NetName>,
+    prefix: &str,
+    names: &[Block],
+) -> Result<(), AllocError>
+    ensures { OnOk result
+        (taken.new.keys ≡ fold (with_taken prefix.now) taken.old.keys names.now) }
+{
+    for name in names {
+        if begins_with(name.as_str(), prefix) {
+            let text = name.clone()?;
+            taken.insert(NetName { text })?;
+        }
+    }
+    Ok(())
+}
+
+/// The names of conductors that begin with a prefix, each once.
+pub fn taken_names(
+    alloc: Global,
+    conductors: &[SheetConductor],
+    prefix: &str,
+) -> Result<BTreeSet<NetName>, AllocError>
+    ensures { IfOk result (λ taken. (way : Way) → taken.keys
+        ≡ taken_names prefix.now (flat_map names_of (map (flat_on way) conductors.now))) }
+{
+    let mut taken = BTreeSet::new(alloc);
+    for conductor in conductors {
+        take_names(&mut taken, prefix, conductor.global_names.as_slice())?;
+        take_names(&mut taken, prefix, conductor.drawn_names.as_slice())?;
+    }
+    Ok(taken)
+}
+
+fn numbered_name(alloc: Global, prefix: &str, number: usize) -> Result<NetName, AllocError>
+    ensures { IfOk result (λ name. name ≡ prefix.now ++ decimal number) }
+{
+    let text = Block::from_string(format!(in alloc; "{prefix}{number}")?);
+    Ok(NetName { text })
+}
+
+/// The first number from one on whose text is not taken, and that text. Names that were met are
+/// taken out, since no later number has their texts.
+fn free_name(
     alloc: Global,
     prefix: &str,
-    number: usize,
-    sort: NetSort,
-    class: NetClass,
-) -> Result<Net, AllocError>
-    ensures { IfOk result (λ net. net ≡ net_of (prefix.now ++ decimal number) sort class) }
+    from: usize,
+    taken: &mut BTreeSet<NetName>,
+) -> Result<(usize, NetName), AllocError>
+    requires { from + length taken.old.keys < 2 ^ 64 }
+    ensures number { IfOk result
+        (λ r. IsNextFree prefix.now taken.old.keys taken.new.keys from r.0) }
+    ensures name { IfOk result (λ r. r.1 ≡ prefix.now ++ decimal r.0) }
 {
-    let NetClass { pins, .. } = class;
-    let name = Block::from_string(format!(in alloc; "{prefix}{number}")?);
-    let members = members(alloc, pins)?;
-    Ok(Net {
-        name,
-        sort,
-        global: false,
-        members,
-    })
+    let mut number = from;
+    let mut name = numbered_name(alloc, prefix, number)?;
+    while taken.remove(&name) {
+        number += 1;
+        name = numbered_name(alloc, prefix, number)?;
+    }
+    Ok((number, name))
 }
 
-/// Appends one net for each class, in order: its name is the prefix and its number, from 1.
+/// Appends one net for each class, in order: its name is the prefix and its number, from 1. A
+/// number whose text is taken is skipped.
 pub fn number_classes(
     alloc: Global,
     nets: &mut Vec<Net>,
     prefix: &str,
     sort: NetSort,
     classes: BTreeSet<NetClass>,
+    taken: BTreeSet<NetName>,
 ) -> Result<(), AllocError>
     ensures { OnOk result
-        (nets.new.items ≡ nets.old.items ++ numbered_from 1 prefix.now sort classes.keys) }
+        (AreNumbered prefix.now sort taken.keys classes.keys nets.old.items nets.new.items) }
 {
-    let mut number = 1;
+    // Each of the two counts is below 2^63, so that no number is too great.
+    let _ = classes.len();
+    let _ = taken.len();
+    let mut taken = taken;
+    let mut next = 1;
     for class in classes {
-        nets.push(numbered_net(alloc, prefix, number, sort, class)?)?;
-        number += 1;
+        let (number, name) = free_name(alloc, prefix, next, &mut taken)?;
+        nets.push(net_of(alloc, name.text, sort, class)?)?;
+        next = number + 1;
     }
     Ok(())
 }

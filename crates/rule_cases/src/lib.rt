@@ -10,9 +10,13 @@ mod drawings;
 #[cfg(test)]
 mod faults;
 #[cfg(test)]
+mod hierarchies;
+#[cfg(test)]
 mod lines;
 #[cfg(test)]
-mod nets;
+mod pins;
+#[cfg(test)]
+mod projects;
 #[cfg(test)]
 mod spellings;
 #[cfg(test)]

@@ -31,17 +31,23 @@ IsAsked asked (Err faults.Usage) = asked ≡ None
 IsAsked asked (Err faults.NoMemory) = ⊤
 IsAsked asked (Err other) = ⊥
 
--- an outcome that is come to, or want of memory
-abbrev pub ComesOf : (Outcome → Type 0) → Outcome → Type 0
+-- what is come to, or want of memory
+abbrev pub ComesOf : {A : Type 0} → (Result A RunFault → Type 0) → Result A RunFault → Type 0
 ComesOf Comes (Err faults.NoMemory) = ⊤
 ComesOf Comes (Err faults.FolderFault) = ⊥
 ComesOf Comes (Err faults.OutputFault) = ⊥
 ComesOf Comes outcome = Comes outcome
 
 -- or a fault of the folder
-abbrev pub AnswerOf : Counts → (Outcome → Type 0) → Outcome → Type 0
+abbrev pub AnswerOf : {A : Type 0} →
+    Counts → (Result A RunFault → Type 0) → Result A RunFault → Type 0
 AnswerOf counts Comes (Err faults.FolderFault) = Failed counts
 AnswerOf counts Comes outcome = ComesOf Comes outcome
+
+-- a result of code, as definitions speak of it
+abbrev pub with_view : {X A : Type 0} → (X → A) → Result X RunFault → Result A RunFault
+with_view view (Ok x) = Ok (view x)
+with_view view (Err fault) = Err fault
 
 -- what a command comes to over the files that a folder tells
 abbrev pub Over : Option Files → Command → Outcome → Type 0

@@ -1,7 +1,10 @@
 -- Steps of the code; no public clause cites them.
--- The orders of pins, of classes and of names are total.
+-- The orders of pins, of classes, of names and of nets by their names are total.
+use Rattle.std.specs.declared.cmp.Ordering.{Ordering}
+use Rattle.std.specs.Ordering.{on}
 use Rattle.std.specs.Cmp.{IsTotalOrder, on_total, then_total, nat_cmp_total}
 use Rattle.std.specs.Cmp.Lexicographic.{lists_total, options_total}
+use Rattle.net_names.specs.declared.nets.Net.{Net}
 use Rattle.net_names.specs.NetClasses.{by_member, by_pin}
 use Rattle.net_names.specs.NetLists.{least_pin, by_least_pin, slashes, by_name}
 use Rattle.net_names.specs.Order.{by_bytes}
@@ -27,3 +30,11 @@ by_least_pin_total = on_total least_pin (options_total by_pin_total)
 -- names by their slashes, then by bytes, are in a total order
 pub by_name_total : IsTotalOrder by_name
 by_name_total = then_total (on_total slashes nat_cmp_total) by_bytes_total
+
+-- nets by the bytes of their names
+abbrev pub by_net_name : Net → Net → Ordering
+by_net_name = on (λ n. n.name) by_bytes
+
+-- and they are in a total order
+pub by_net_name_total : IsTotalOrder by_net_name
+by_net_name_total = on_total (λ n. n.name) by_bytes_total

@@ -1,20 +1,12 @@
-use Rattle.std.proofs.Common.{List, ℕ, Ok, subst, ap, ◌∙◌}
-use Rattle.geda_grammar.specs.Faults.{sheet_file}
-use Rattle.gafd.specs.Answers.{NetListOf, Outcome, ReadAs}
 use Rattle.gafd.specs.declared.command.Command.TheVariants.{Netlist}
-use Rattle.gafd.specs.steps.Passing.{ComesOf, Over}
+use Rattle.gafd.specs.Answers.{NetListOf}
+use Rattle.gafd.specs.steps.Passing.{Over}
 use Rattle.gafd.proofs.Passing.{answer_from}
-use Rattle.gafd.proofs.Reading.{bytes_in, found_file, missing_file, read_whole}
+use Rattle.gafd.proofs.GatheringLemmas.{listed}
 use Rattle.gafd.proofs.answer.netlist.Goals as goal
 
-pub returns-in-Some-clause-answer : goal.returns-in-Some-clause-answer
-returns-in-Some-clause-answer g c =
-    let Comes : List ℕ → Outcome → Type 0 = ReadAs sheet_file (NetListOf c.args.file) c.args.file in
+pub returns-clause-answer : goal.returns-clause-answer
+returns-clause-answer g c =
     let files = g.F.Folder.files c.args.folder.now in
-    answer_from _ (Comes c.in-Some.bytes.items) (Over files (Netlist c.args.file)) c.nets_of.result
-    (found_file bytes_in c.args.file c.as_str.result.now c.as_str.ensures.text c.read.result Comes files c.read.ensures.file (read_whole sheet_file (NetListOf c.args.file) c.args.file) c.in-Some.bytes c.nets_of.result (c.in_ok-bytes.was ∙ ap Ok c.in-Some.is))
-    (subst (λ (bytes : List ℕ). ComesOf (Comes bytes) c.nets_of.result) c.deref.ensures.value c.nets_of.ensures)
-
-pub returns-in-None-clause-answer : goal.returns-in-None-clause-answer
-returns-in-None-clause-answer g c =
-    missing_file bytes_in c.args.file c.as_str.result.now c.as_str.ensures.text c.read.result (ReadAs sheet_file (NetListOf c.args.file) c.args.file) (g.F.Folder.files c.args.folder.now) c.read.ensures.file (c.in_ok-bytes.was ∙ ap Ok c.in-None.is)
+    answer_from _ (NetListOf c.args.file c.in_ok-project.project.parts) (Over files (Netlist c.args.file)) c.nets_of.result
+    (λ r h. listed files c.args.file c.in_ok-project.project.parts r c.in_ok-project.ensures.gathered h) c.nets_of.ensures

@@ -1,6 +1,6 @@
 use Rattle.std.proofs.Common.{List, ℕ, ◌++◌, append_assoc, ap, ◌∙◌, sym, map}
 use Rattle.geda_defs.specs.Lines.{spaced}
-use Rattle.net_names.specs.declared.nets.Member.{Member}
+use Rattle.link_classes.specs.declared.member.Member.{Member}
 use Rattle.gafd.proofs.Spaces.{spaced-cons}
 use Rattle.gafd.specs.ListText.{member_text}
 use Rattle.gafd.proofs.list_text.put_members.Goals as goal

@@ -1,0 +1,63 @@
+// What a component is by its attributes.
+ghost use Rattle.std.specs.Prelude.{◌≡◌, option_copied};
+ghost use Rattle.std.specs.List.{list_all};
+ghost use Rattle.attr_rules.specs.Components.{has_sources, if_line, is_graphical, is_no_feed, is_value, refdes_of};
+
+use crate::lookups::attr_of;
+use geda_model::{Object, Symbol};
+
+fn is_value(expected: &str, value: Option<&str>) -> bool
+    ensures { result ≡ is_value expected.now (option_copied value.entry) }
+{
+    match value {
+        Some(value) => value == expected,
+        None => false,
+    }
+}
+
+/// Whether a component has `graphical=1` (docs/RULES.md, "Graphical components"): it has no pins,
+/// is no part, and has no sheets below.
+///
+/// It takes no memory.
+pub fn is_graphical(object: &Object, library: Option<&Symbol>) -> bool
+    ensures { result ≡ is_graphical object.now (option_copied library.entry) }
+{
+    is_value("1", attr_of(object, library, "graphical"))
+}
+
+/// Whether a component has sheets below: it has an attribute `source`, and is not graphical
+/// (docs/RULES.md, "Graphical components").
+///
+/// It takes no memory.
+pub fn has_sources(object: &Object, library: Option<&Symbol>) -> bool
+    ensures { result ≡ has_sources object.now (option_copied library.entry) }
+{
+    if is_graphical(object, library) {
+        return false;
+    }
+    attr_of(object, library, "source").is_some()
+}
+
+fn is_line(value: &str) -> bool
+    ensures { result ≡ list_all is_no_feed value.now }
+{
+    value.as_bytes().iter().all(|byte| *byte != b'\n')
+}
+
+fn if_line(value: Option<&str>) -> Option<&str>
+    ensures { option_copied result ≡ if_line (option_copied value.entry) }
+{
+    match value {
+        Some(value) if is_line(value) => Some(value),
+        _ => None,
+    }
+}
+
+/// The refdes of a component (docs/RULES.md, "Packages").
+///
+/// `None` exactly where it has no attribute `refdes`, or one with an LF. It takes no memory.
+pub fn refdes_of<'a>(object: &'a Object, library: Option<&'a Symbol>) -> Option<&'a str>
+    ensures { option_copied result ≡ refdes_of object.now (option_copied library.entry) }
+{
+    if_line(attr_of(object, library, "refdes"))
+}

@@ -1,0 +1,13 @@
+pub mod ListLemmas
+pub mod TextLemmas
+pub mod PlaceLemmas
+pub mod SeenLemmas
+pub mod TableLemmas
+pub mod WideningLemmas
+pub mod CrowdLemmas
+pub mod WayLemmas
+pub mod OnceLemmas
+pub mod SourceLemmas
+pub mod OrderLemmas
+pub mod ParentLemmas
+pub mod Cases

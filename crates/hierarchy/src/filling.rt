@@ -1,0 +1,120 @@
+// The table of the sheets of a project, filled object by object.
+ghost use Rattle.std.specs.Prelude.{◌≡◌, ◌≤◌, ◌<◌, ◌+◌, ◌*◌, ◌∷◌, ◌++◌, [], IfOk, OnOk, List, length, map, ℕ};
+ghost use Rattle.std.specs.FinMap.{keys};
+ghost use Rattle.std.specs.List.Sorted.{IsStrictlySortedBy};
+ghost use Rattle.std.specs.Ordering.{nat_cmp};
+ghost use Rattle.std.specs.Cmp.Lexicographic.{slice_cmp};
+ghost use Rattle.geda_model.specs.declared.change.Placed.{Placed};
+ghost use Rattle.geda_model.specs.Tables.{row_now};
+ghost use Rattle.hierarchy.specs.SheetTable.{sheet_table};
+ghost use Rattle.hierarchy.specs.steps.SheetRows.{AreLight, IsTableOf, bare_sheet, with_object};
+
+use crate::components::{component_of, part_count};
+use crate::places::place_of;
+use crate::table::TableSheet;
+use attr_rules::{has_sources, library_of};
+use geda_model::{Name, Object, Placed, Project};
+use std::alloc::{AllocError, Global};
+
+impl TableSheet {
+    fn add(
+        &mut self,
+        alloc: Global,
+        project: &Project,
+        names: &[Name],
+        id: u32,
+        object: &Object,
+    ) -> Result<(), AllocError>
+        requires names { names.now ≡ keys project.now.parts.sheets }
+        requires rising { IsStrictlySortedBy (slice_cmp nat_cmp) names.now }
+        requires light { self.old.weight ≤ 79228162514264337593543950336 }
+        ensures added { OnOk result
+            (self.new ≡ with_object project.now.parts id object.now self.old) }
+        ensures light { OnOk result (self.new.weight ≤ self.old.weight + 4294967296) }
+    {
+        let library = library_of(alloc, project, object)?;
+        self.weight += 1 + part_count(object, library) as u128;
+        if has_sources(object, library) {
+            let component = component_of(alloc, names, id, object, library)?;
+            self.components.push(component)?;
+        }
+        Ok(())
+    }
+}
+
+fn add_object(
+    alloc: Global,
+    project: &Project,
+    names: &[Name],
+    table: &mut Vec<TableSheet>,
+    id: u32,
+    placed: &Placed,
+) -> Result<(), AllocError>
+    requires names { names.now ≡ keys project.now.parts.sheets }
+    requires rising { IsStrictlySortedBy (slice_cmp nat_cmp) names.now }
+    requires named { map (λ sheet. sheet.name) table.old.items ≡ names.now }
+    requires light { AreLight 18446744073709551616 table.old.items }
+    ensures table { OnOk result ((rows : List (ℕ × Placed))
+        → IsTableOf project.now.parts rows table.old.items
+        → IsTableOf project.now.parts (rows ++ (id, placed.now) ∷ []) table.new.items) }
+    ensures light { OnOk result ((count : ℕ)
+        → AreLight count table.old.items → AreLight (count + 1) table.new.items) }
+{
+    let name = &placed.sheet;
+    match place_of(names, name.as_str()) {
+        None => Ok(()),
+        Some(place) => {
+            table[place].add(alloc, project, names, id, &placed.object)?;
+            Ok(())
+        }
+    }
+}
+
+fn add_objects(
+    alloc: Global,
+    project: &Project,
+    names: &[Name],
+    table: &mut Vec<TableSheet>,
+    rows: &[(u32, &Placed)],
+) -> Result<(), AllocError>
+    requires names { names.now ≡ keys project.now.parts.sheets }
+    requires rising { IsStrictlySortedBy (slice_cmp nat_cmp) names.now }
+    requires empty { table.old.items ≡ map bare_sheet names.now }
+    ensures { OnOk result (IsTableOf project.now.parts (map row_now rows.now) table.new.items) }
+{
+    for row in rows {
+        add_object(alloc, project, names, table, row.0, row.1)?;
+    }
+    Ok(())
+}
+
+fn bare_sheets(alloc: Global, names: &[Name]) -> Result<Vec<TableSheet>, AllocError>
+    ensures { IfOk result (λ table. table.items ≡ map bare_sheet names.now) }
+{
+    let mut table = Vec::new(alloc);
+    for name in names {
+        table.push(TableSheet {
+            name: name.clone()?,
+            components: Vec::new(alloc),
+            weight: 0,
+        })?;
+    }
+    Ok(table)
+}
+
+/// The sheets of a project in order of name, each with its hierarchical components and its weight.
+pub fn sheet_table(alloc: Global, project: &Project) -> Result<Vec<TableSheet>, AllocError>
+    ensures { IfOk result (λ table. table.items ≡ sheet_table project.now.parts) }
+{
+    let names = project.sheet_names(alloc)?;
+    let rows = project.objects_by_id(alloc)?;
+    let mut table = bare_sheets(alloc, names.as_slice())?;
+    add_objects(
+        alloc,
+        project,
+        names.as_slice(),
+        &mut table,
+        rows.as_slice(),
+    )?;
+    Ok(table)
+}

@@ -1,0 +1,56 @@
+-- Steps of the code; no public clause cites them.
+-- The names that look like those of nets without names, and numbers that skip them.
+use Rattle.std.specs.Prelude.{◌≡◌, ℕ, ◌+◌, ◌-◌, ◌^◌, ◌<◌, ◌≤◌, ◌==◌, not, if◌then◌else◌, Bool, true, false, List, [], ◌++◌, length, filter}
+use Rattle.std.specs.List.{fold, list_any, range_with_len, starts_with}
+use Rattle.std.specs.Fmt.{decimal}
+use Rattle.std.specs.BTreeSet.{insert_key}
+use Rattle.net_names.specs.declared.nets.Net.{Net}
+use Rattle.net_names.specs.declared.nets.NetSort.{NetSort}
+use Rattle.net_names.specs.NetClasses.{NetClassData}
+use Rattle.net_names.specs.NetLists.{numbered}
+use Rattle.net_names.specs.Order.{by_bytes, is_equal}
+
+-- names in order, with one more if it begins with a prefix
+abbrev pub with_taken : List ℕ → List (List ℕ) → List ℕ → List (List ℕ)
+with_taken prefix taken name =
+    if starts_with ◌==◌ name prefix then insert_key by_bytes taken name else taken
+
+-- those of some names that begin with a prefix, in order
+abbrev pub taken_names : List ℕ → List (List ℕ) → List (List ℕ)
+taken_names prefix names = fold (with_taken prefix) [] names
+
+-- the text of a number is one of the names that are taken
+abbrev pub is_taken : List ℕ → List (List ℕ) → ℕ → Bool
+is_taken prefix taken n = list_any (is_equal by_bytes (prefix ++ decimal n)) taken
+
+-- the numbers from one on, below a stop, whose texts are not taken
+abbrev pub free_below : List ℕ → List (List ℕ) → ℕ → ℕ → List ℕ
+free_below prefix taken n stop =
+    filter (λ m. not (is_taken prefix taken m)) (range_with_len n (stop - n))
+
+-- of numbers from one on, those of 64 bits, the two take the same ones
+abbrev pub TakeSame : List ℕ → List (List ℕ) → List (List ℕ) → ℕ → Type 0
+TakeSame prefix old new from =
+    (m : ℕ) → from ≤ m → m < 2 ^ 64 → is_taken prefix new m ≡ is_taken prefix old m
+
+-- all numbers from one on to another are taken, that one left out
+abbrev pub AllTaken : List ℕ → List (List ℕ) → ℕ → ℕ → Type 0
+AllTaken prefix taken from given =
+    (m : ℕ) → from ≤ m → m < given → is_taken prefix taken m ≡ true
+
+-- the number is the first from one on that is not taken; the names that are taken lose those that
+-- were met
+pub record IsNextFree (prefix : List ℕ) (old new : List (List ℕ)) (from given : ℕ)
+    : Type 0 where
+  pub above : from ≤ given
+  pub skipped : AllTaken prefix old from given
+  pub free : is_taken prefix old given ≡ false
+  pub same : TakeSame prefix old new given
+  pub fewer : given + length new ≤ from + length old
+
+-- nets grow by those of classes, numbered from 1 on, at any stop that leaves enough numbers
+abbrev pub AreNumbered :
+    List ℕ → NetSort → List (List ℕ) → List NetClassData → List Net → List Net → Type 0
+AreNumbered prefix sort taken classes old new =
+    (stop : ℕ) → length taken + length classes < stop
+    → new ≡ old ++ numbered prefix sort (free_below prefix taken 1 stop) classes

@@ -1,0 +1,5 @@
+pub mod SeenLemmas
+pub mod TableLemmas
+pub mod HiddenLemmas
+pub mod EndLemmas
+pub mod Cases
