@@ -3,8 +3,9 @@
 docs/RULES.md, told again in Python.
 
 Usage: compare.py [SEED [SHEETS]]. It stops at the first sheet that differs, and prints it.
-The sheets have all letters, bus pins, and spellings that are not canonical. bench/grammar.py takes
-the rules from here for files that it reads itself.
+The sheets have all letters, bus pins, and spellings that are not canonical. They are plain: their
+symbols are embedded, and nothing has a name, a slot or a sheet below; bench/projects.py has the
+others, and compares what it tells of plain ones with what is told here.
 """
 import bisect
 import collections
@@ -109,7 +110,7 @@ def list_text(conductors, packages):
     return "".join(f"{line}\n" for line in lines)
 
 
-# The rules on a sheet that bench/grammar.py has read: items with letter, values, following lines,
+# The rules on a sheet that geda_files.py has read: items with letter, values, following lines,
 # attached texts and parts.
 
 def values_of(texts, name):

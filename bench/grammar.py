@@ -3,7 +3,7 @@
 
 It draws random files, damages most of them, and asks the program for `export` of each, as a sheet
 and as a symbol, and for `netlist`: bytes, status and error line must be those told here, without a
-line of the program's code.
+line of the program's code. No symbols lie beside the files; bench/projects.py has those.
 
 Usage:
   grammar.py [--seed S] [--files N] [--jobs J]    random files (1, 4000, 4)
@@ -12,8 +12,9 @@ Usage:
   grammar.py --self-test                          the Python reader on cases with known answers
 
 With --alone the program is not run: it tells what the Python reader finds. --program names another
-program than crates/gafd/out/gafd. The status is 1 where something differs; the files that differ
-are kept, cut down to the lines that matter, in a folder that is printed.
+program than crates/gafd/out/gafd. A difference is printed when it is found, and each hundredth file
+says how far it is. The status is 1 where something differs; the first twenty files that differ are
+kept, cut down to the lines that matter, in a folder that is printed.
 """
 import argparse
 import collections
@@ -26,9 +27,9 @@ import time
 
 sys.dont_write_bytecode = True
 
-from compare import text_of_sheet
 from geda_files import Fault, canonical, read_object, read_sheet, read_symbol, written
 from grammar_cases import case_table
+from project_rules import answer_of
 from random_files import edges, random_file
 
 PROGRAM = pathlib.Path(__file__).resolve().parent.parent / "crates" / "gafd" / "out" / "gafd"
@@ -44,13 +45,8 @@ def export_of(name, data):
 
 
 def netlist_of(name, data):
-    """What `netlist` answers."""
-    try:
-        sheet = read_sheet(data)
-    except Fault as fault:
-        return 1, b"", b"gafd: %s:%d: %s\n" % (name.encode(), fault.line, fault.kind.encode())
-    text = text_of_sheet(sheet[1])
-    return (9, b"", b"gafd: %s: NotYet\n" % name.encode()) if text is None else (0, text, b"")
+    """What `netlist` answers where no other file is there."""
+    return answer_of({name: data}, name)
 
 
 ANSWERS = {"export": export_of, "netlist": netlist_of}
@@ -100,6 +96,7 @@ def compare(program, folder, data, calls=CALLS):
 
 
 def work(job):
+    """The kinds of some random files, and the differences."""
     program, seed, numbers = job
     found, kinds = [], collections.Counter()
     with tempfile.TemporaryDirectory() as folder:
@@ -112,6 +109,36 @@ def work(job):
     return found, kinds
 
 
+class Report:
+    """How many files were compared, and the differences: each is printed when it is found."""
+
+    def __init__(self):
+        self.started, self.files, self.differences = time.perf_counter(), 0, 0
+        self.kept = None
+
+    def count(self, files=1):
+        """So many further files were compared."""
+        self.files += files
+        if self.files // 100 > (self.files - files) // 100:
+            print(f"{self.files} files, {self.differences} differences", flush=True)
+
+    def add(self, where, what, data):
+        """A difference with its file, of which the first twenty are kept."""
+        self.kept = self.kept or pathlib.Path(tempfile.mkdtemp(prefix="gafd-differs-"))
+        print(f"{where}: {what}", flush=True)
+        if self.differences < 20:
+            path = self.kept / f"{self.differences}.txt"
+            path.write_bytes(data)
+            print(f"    {path}", flush=True)
+        self.differences += 1
+
+    def status(self):
+        """Prints the sum, and answers the status."""
+        seconds = time.perf_counter() - self.started
+        print(f"{self.files} files, {self.differences} differences, {seconds:.1f} s")
+        return 1 if self.differences else 0
+
+
 def kind_of(name, data):
     try:
         (read_symbol if name.endswith(".sym") else read_sheet)(data)
@@ -120,59 +147,48 @@ def kind_of(name, data):
     return "read"
 
 
-def report(found, count, started):
-    """Prints the differences, keeps their files, and answers the status."""
-    if found:
-        kept = pathlib.Path(tempfile.mkdtemp(prefix="gafd-differs-"))
-        for number, (where, what, data) in enumerate(found[:20]):
-            (kept / f"{number}.txt").write_bytes(data)
-            print(f"{where}: {what}\n    {kept / f'{number}.txt'}")
-    seconds = time.perf_counter() - started
-    print(f"{count} files, {len(found)} differences, {seconds:.1f} s")
-    return 1 if found else 0
-
-
 def compare_random(program, seed, files, jobs):
-    started = time.perf_counter()
+    report, kinds = Report(), collections.Counter()
     step = max(1, min(100, files // jobs))
     work_items = [(program, seed, range(at, min(at + step, files))) for at in range(0, files, step)]
-    found, kinds = [], collections.Counter()
     with multiprocessing.Pool(jobs) as pool:
-        for some, counted in pool.imap_unordered(work, work_items):
-            found += some
+        for found, counted in pool.imap_unordered(work, work_items):
+            for it in found:
+                report.add(*it)
+            report.count(counted.total())
             kinds += counted
     print("as sheets:", ", ".join(f"{kind} {count}" for kind, count in kinds.most_common()))
-    return report(found, files, started)
+    return report.status()
 
 
 def compare_edges(program):
-    started, found, count = time.perf_counter(), [], 0
+    report = Report()
     with tempfile.TemporaryDirectory() as folder:
-        for what, data in edges():
-            count += 1
+        for where, data in edges():
             for command, name in [*CALLS, ("netlist", "x.sym")]:
-                said = differs(program, folder, command, name, data)
-                found += [(what, said, data)] if said else []
-    return report(found, count, started)
+                what = differs(program, folder, command, name, data)
+                if what:
+                    report.add(where, what, data)
+            report.count()
+    return report.status()
 
 
 def compare_folder(program, top, alone):
-    started, found, count = time.perf_counter(), [], 0
-    kinds, where = collections.Counter(), collections.defaultdict(list)
-    spelled = collections.Counter()
+    report, kinds = Report(), collections.Counter()
+    where, spelled = collections.defaultdict(list), collections.Counter()
     with tempfile.TemporaryDirectory() as folder:
         for path in sorted([*pathlib.Path(top).rglob("*.sch"), *pathlib.Path(top).rglob("*.sym")]):
             data = path.read_bytes()
             name = "x" + path.suffix
             kind = kind_of(name, data)
-            count += 1
             kinds[path.suffix, kind] += 1
             spelled[path.suffix] += export_of(name, data)[1] == data
-            spelled["plain"] += path.suffix == ".sch" and netlist_of(name, data)[0] == 0
             where[path.suffix, kind].append(path)
             if not alone:
                 calls = [("export", name)] + ([("netlist", name)] if path.suffix == ".sch" else [])
-                found += [(str(path), *it) for it in compare(program, folder, data, calls)]
+                for it in compare(program, folder, data, calls):
+                    report.add(str(path), *it)
+            report.count()
     for (suffix, kind), number in sorted(kinds.items()):
         print(f"{suffix} {kind}: {number}")
         if kind != "read":
@@ -180,8 +196,7 @@ def compare_folder(program, top, alone):
                 said = export_of("x" + suffix, path.read_bytes())[2].decode().strip()
                 print(f"    {path}: {said}")
     print(f"canonical: {spelled['.sch']} sheets, {spelled['.sym']} symbols")
-    print(f"plain: {spelled['plain']} sheets")
-    return report(found, count, started)
+    return report.status()
 
 
 def self_test():

@@ -1,0 +1,366 @@
+"""Folders with known answers, for the rules of project_rules.py: `case_table`.
+
+In what is wanted `|` stands for a tab, and the lines `parts N` and `nets N` are left out: the
+packages stand before the empty text, the nets behind it.
+"""
+import pathlib
+
+TOP = pathlib.Path(__file__).resolve().parent.parent
+VERSION = "v 20130925 2\n"
+
+
+def text(content):
+    return f"T 0 0 5 10 1 1 0 0 {content.count(chr(10)) + 1}\n{content}\n"
+
+
+def block(contents):
+    return "{\n" + "".join(map(text, contents)) + "}\n" if contents else ""
+
+
+def pin(x, y, *contents, at=None, kind=0):
+    """A pin whose active end is a point, with attached texts."""
+    far = at or (x + 50, y)
+    return f"P {x} {y} {far[0]} {far[1]} 1 {kind} 0\n" + block(contents)
+
+
+def numbered(x, y, number, kind="pas"):
+    return pin(x, y, f"pinnumber={number}", f"pinseq={number}", f"pintype={kind}")
+
+
+def symbol(*parts):
+    """A symbol: parts that are drawn, and the contents of free texts."""
+    return VERSION + "".join(part if part.endswith("\n") else text(part) for part in parts)
+
+
+def component(basename, x, y, *contents, angle=0, mirror=0):
+    return f"C {x} {y} 1 {angle} {mirror} {basename}\n" + block(contents)
+
+
+def embedded(basename, parts, *contents):
+    parts = symbol(*parts).removeprefix(VERSION)
+    return f"C 0 0 1 0 0 EMBEDDED{basename}\n[\n{parts}]\n" + block(contents)
+
+
+def part(x, y, refdes, *contents, angle=0, mirror=0):
+    """A part of two pins: one at the point, and one 300 to the right before it is turned."""
+    contents = (f"refdes={refdes}", *contents)
+    return component("two.sym", x, y, *contents, angle=angle, mirror=mirror)
+
+
+def one(kind, x, y, refdes, *contents):
+    """A part of one pin of a kind at a point."""
+    return component(f"k-{kind}.sym", x, y, f"refdes={refdes}", *contents)
+
+
+def wire(x1, y1, x2, y2, *names):
+    return f"N {x1} {y1} {x2} {y2} 4\n" + block([f"netname={name}" for name in names])
+
+
+def gate(y, *contents):
+    """A gate of a quad package."""
+    return component("7400.sym", 0, y, *contents)
+
+
+KINDS = ("in", "out", "io", "oc", "oe", "pas", "tp", "tri", "clk", "pwr")
+TITLE = "B 0 0 17000 11000 15 0 0 0 -1 -1 0 -1 -1 -1 -1 -1\n"
+SLOTDEFS = ("slotdef=1:1,2,3", "slotdef=2:4,5,6", "slotdef=3:9,10,8", "slotdef=4:12,13,11")
+LIBRARY = {f"k-{kind}.sym": symbol(numbered(0, 0, 1, kind)) for kind in KINDS}
+LIBRARY["two.sym"] = symbol(numbered(0, 0, 1), numbered(300, 0, 2), "device=TWO")
+LIBRARY["title-B.sym"] = symbol(TITLE, "graphical=1")
+LIBRARY["frame.sym"] = symbol(numbered(0, 0, 1), "graphical=1", "source=low.sch", "refdes=F1")
+LIBRARY["box.sym"] = symbol("source=low.sch")
+LIBRARY["power.sym"] = symbol(pin(0, 0, "pinnumber=1"), "net=Vcc:1")
+LIBRARY["bad.sym"] = VERSION + "N 0 0 1 0 4\nC 0 0 1 0 0 two.sym\n"
+LIBRARY["worse.sym"] = VERSION + "N 0 0 1 4\n"
+LIBRARY[".hid.sym"] = LIBRARY["x" * 101] = LIBRARY["é.sym"] = LIBRARY["worse.sym"]
+LIBRARY["x" * 100] = symbol("device=LONG")
+LIBRARY["-_+.sym"] = symbol("device=DASH")
+LIBRARY["7400.sym"] = symbol(
+    numbered(300, 400, 1, "in"), numbered(300, 0, 2, "in"), numbered(1000, 200, 3, "out"),
+    "device=7400", "numslots=4", *SLOTDEFS, "net=Vcc:14", "net=GND:7",
+)
+STAGE = (
+    component("title-B.sym", 40000, 40000)
+    + part(44000, 44000, "R1", "value=10k")
+    + part(46000, 44000, "C1", angle=90)
+    + wire(44300, 44000, 46000, 44000, "VOUT")
+    + wire(46000, 44300, 46000, 45000)
+    + "U 43000 46000 47000 46000 10 -1\n"
+    + "H 3 10 0 0 -1 -1 1 -1 -1 -1 -1 -1 3\nM 48000,44000\nL 48500,44000\nz\n"
+    + "G 50000 41000 1400 800 0 0 1\nlogo.png\niVBORw0KGgo=\n.\n"
+    + text("Output stage\nSheet 1 of 1")
+)
+ACROSS = "".join(
+    one("pas", x, y, refdes)
+    for x, y, refdes in [(0, 500, "A1"), (1000, 500, "A2"), (500, 0, "A3"), (500, 1000, "A4")]
+)
+TWO_WIRES = one("pas", 0, 0, "A1") + one("pas", 0, 500, "A2") + one("pas", 100, 500, "A3")
+SLOTTED = ("slotdef=1:3,4", "slotdef=2:,4", "slotdef=2:6,7", "slotdef=3:8,9", "slotdef=3:6,7")
+SLOTTED += ("slotdef=0:6,7", "slotdef=7", "slotdef=8", "slotdef=8:6", "slotdef=10003:6,7")
+U1_PINS = (1, 10, 11, 12, 13, 2, 3, 4, 5, 6, 8, 9)
+
+
+def slotted(*contents):
+    """A part of three pins with slots, which is embedded, and no two of whose pins touch."""
+    pins = [numbered(0, 100 * k, k) for k in (1, 2)] + [pin(0, 300, "pinnumber=5", "pinseq=3")]
+    return embedded("s.sym", [*pins, *SLOTTED], "refdes=U1", *contents)
+
+
+def alone(refdes, *numbers):
+    return [f"unconnected_pin-{k}|{refdes}-{number}" for k, number in enumerate(numbers, 1)]
+
+
+def sheets():
+    """Each what it shows, its objects, and the list text that is wanted, or the fault."""
+    yield "two wires that cross are two nets", (
+        ACROSS + wire(0, 500, 1000, 500) + wire(500, 0, 500, 1000)
+    ), ["A1|-|-|-", "A2|-|-|-", "A3|-|-|-", "A4|-|-|-", "",
+        "unnamed_net1|A1-1 A2-1", "unnamed_net2|A3-1 A4-1"]
+    yield "a wire that ends on another joins it", (
+        ACROSS + wire(0, 500, 1000, 500) + wire(500, 0, 500, 500)
+    ), ["A1|-|-|-", "A2|-|-|-", "A3|-|-|-", "A4|-|-|-", "",
+        "unnamed_net1|A1-1 A2-1 A3-1", "unconnected_pin-1|A4-1"]
+    yield "a slanting wire joins at its ends alone", (
+        one("pas", 0, 0, "A1") + one("pas", 1000, 1000, "A2") + one("pas", 500, 500, "A3")
+        + wire(0, 0, 1000, 1000)
+    ), ["A1|-|-|-", "A2|-|-|-", "A3|-|-|-", "",
+        "unnamed_net1|A1-1 A2-1", "unconnected_pin-1|A3-1"]
+    yield "four slots of one package, with hidden power pins", (
+        "".join(gate(2000 * k, "refdes=U1", f"slot={k + 1}") for k in range(4))
+    ), ["U1|7400|-|-", "", "GND|U1-7", "Vcc|U1-14", *alone("U1", *U1_PINS)]
+    yield "a number whose text is a name is skipped", (
+        TWO_WIRES + wire(0, 0, 100, 0, "unnamed_net1") + wire(0, 500, 100, 500)
+    ), ["A1|-|-|-", "A2|-|-|-", "A3|-|-|-", "", "unnamed_net1|A1-1", "unnamed_net2|A2-1 A3-1"]
+    yield "pins of all sorts join alike", (
+        one("out", 0, 0, "O1") + one("out", 100, 0, "O2") + wire(0, 0, 100, 0)
+        + one("oc", 0, 1000, "C1") + one("pwr", 100, 1000, "P1") + wire(0, 1000, 100, 1000)
+        + one("in", 0, 2000, "L1")
+    ), ["C1|-|-|-", "L1|-|-|-", "O1|-|-|-", "O2|-|-|-", "P1|-|-|-", "",
+        "unnamed_net1|C1-1 P1-1", "unnamed_net2|O1-1 O2-1", "unconnected_pin-1|L1-1"]
+    yield "a sheet with a title block, a bus, a path and a picture", STAGE, [
+        "C1|TWO|-|-", "R1|TWO|10k|-", "",
+        "VOUT|C1-1 R1-2", "unnamed_net1|C1-2", "unconnected_pin-1|R1-1"]
+    yield from own_sheets()
+
+
+def own_sheets():
+    """More of the same, on one rule each."""
+    for mirror, angle, x, y in [
+        (0, 0, 300, 0), (0, 90, 0, 300), (0, 180, -300, 0), (0, 270, 0, -300),
+        (1, 0, -300, 0), (1, 90, 0, -300), (1, 180, 300, 0), (1, 270, 0, 300),
+    ]:
+        yield f"mirror {mirror} and angle {angle}", (
+            part(1000, 2000, "R1", angle=angle, mirror=mirror)
+            + one("pas", 1000 + x, 2000 + y, "A1")
+        ), ["A1|-|-|-", "R1|TWO|-|-", "", "unnamed_net1|A1-1 R1-2", "unconnected_pin-1|R1-1"]
+    yield "an embedded symbol stands as it is, and the library's is not asked", (
+        "C 5000 0 1 90 1 EMBEDDEDbad.sym\n[\n" + pin(0, 0, "pinnumber=7") + "]\n"
+        + block(["refdes=U1"]) + one("pas", 0, 0, "A1")
+    ), ["A1|-|-|-", "U1|-|-|-", "", "unnamed_net1|A1-1 U1-7"]
+    yield "a symbol of the same name in the library is not the embedded one", (
+        embedded("k-pas.sym", [pin(0, 0, "pinnumber=7")], "refdes=U1") + one("pas", 0, 0, "A1")
+    ), ["A1|-|-|-", "U1|-|-|-", "", "unnamed_net1|A1-1 U1-7"]
+    yield "a component without symbol is a part", (
+        component("none.sym", 0, 0, "refdes=X1", "device=Y", "net=GND:1")
+    ), ["X1|Y|-|-", "", "GND|X1-1"]
+    yield "what is no name is not read", (
+        "".join(component(name, 0, 0, "refdes=X1") for name in (".hid.sym", "é.sym", "x" * 101))
+    ), ["X1|-|-|-", ""]
+    yield "a name has up to a hundred bytes", (
+        component("x" * 100, 0, 0, "refdes=X1")
+    ), ["X1|LONG|-|-", ""]
+    yield "a name of a file may begin with other than a letter", (
+        component("-_+.sym", 0, 0, "refdes=X1")
+    ), ["X1|DASH|-|-", ""]
+    yield "the first refused symbol of the file decides", (
+        component("box.sym", 0, 0, "refdes=S1") + component("bad.sym", 0, 0)
+        + component("worse.sym", 0, 0)
+    ), (1, "bad.sym:3: Nested")
+    yield "a source is not understood", (
+        component("box.sym", 0, 0, "refdes=S1")
+    ), (9, "x.sch: NotYet")
+    yield "nor is one of a component without refdes", (
+        one("pas", 0, 0, "A1") + component("none.sym", 0, 0, "source=a")
+    ), (9, "x.sch: NotYet")
+    yield "a graphical component has no pins, is no part, and has no source", (
+        component("frame.sym", 0, 0) + one("pas", 0, 0, "A1")
+        + component("k-pas.sym", 0, 0, "refdes=G1", "graphical=1", "net=X:1")
+    ), ["A1|-|-|-", "", *alone("A1", 1)]
+    yield "an attached graphical=0 hides an inherited one", (
+        component("title-B.sym", 0, 0, "graphical=0", "refdes=G1")
+    ), ["G1|-|-|-", ""]
+    yield "so does the first attached one of two", (
+        component("title-B.sym", 0, 0, "graphical=0", "graphical=1", "refdes=G1")
+    ), ["G1|-|-|-", ""]
+    yield "graphical is 1 and nothing else", (
+        one("pas", 0, 0, "A1", "graphical=01")
+    ), ["A1|-|-|-", "", *alone("A1", 1)]
+    yield "power symbols join by their names, and are no parts", (
+        one("pas", 0, 0, "A1") + one("pas", 0, 500, "A2")
+        + component("power.sym", 0, 0) + component("power.sym", 0, 500)
+    ), ["A1|-|-|-", "A2|-|-|-", "", "Vcc|A1-1 A2-1"]
+    yield "a component without refdes has no hidden pins, nor their names", (
+        component("7400.sym", 0, 0) + one("pas", 5000, 0, "A1", "net=Vcc:1")
+    ), ["A1|-|-|-", "", "Vcc|A1-1"]
+    yield "an attached net hides all inherited ones", (
+        gate(0, "refdes=U1", "net=V5:14")
+    ), ["U1|7400|-|-", "", "V5|U1-14", *alone("U1", 1, 2, 3)]
+    yield "a bad net hides them too, and says nothing", (
+        gate(0, "refdes=U1", "net=V5", "net=V5:1,,2", "net=:1", "net=V5:1\t", "net=V5:")
+    ), ["U1|7400|-|-", "", *alone("U1", 1, 2, 3)]
+    yield "a number that is drawn has no hidden pin", (
+        one("pas", 0, 0, "A1", "net=GND: 1 ,2")
+    ), ["A1|-|-|-", "", "GND|A1-1 A1-2"]
+    yield "a value of net is cut at its first colon", (
+        one("pas", 0, 0, "A1", "net=X:Y:1")
+    ), ["A1|-|-|-", "", "X|A1-Y:1", *alone("A1", 1)]
+    yield "a number has at most 200 bytes", (
+        one("pas", 0, 0, "A1", "net=X:" + "é" * 100, "net=Y:" + "é" * 100 + "a")
+    ), ["A1|-|-|-", "", "X|A1-" + "é" * 100, *alone("A1", 1)]
+    yield "a drawn pin has all names that list it", (
+        one("pas", 0, 0, "A1", "net=X:1", "net=Y:1", "net=X: 1") + one("pas", 0, 9, "A2", "net=Y:1")
+    ), ["A1|-|-|-", "A2|-|-|-", "", "X|A1-1 A2-1"]
+    yield "a hidden pin of two names joins what they name", (
+        one("pas", 0, 0, "A1", "net=B:7", "net=A:7") + wire(0, 500, 100, 500, "B")
+        + one("pas", 0, 500, "A2")
+    ), ["A1|-|-|-", "A2|-|-|-", "", "A|A1-7 A2-1", *alone("A1", 1)]
+    yield "a bus pin's number is hidden where net lists it", (
+        embedded("b.sym", [pin(0, 0, "pinnumber=1", kind=1)], "refdes=U1", "net=X:1")
+        + one("pas", 0, 0, "A1")
+    ), ["A1|-|-|-", "U1|-|-|-", "", "X|U1-1", *alone("A1", 1)]
+    yield "the name with the fewest slashes is printed", (
+        one("pas", 0, 0, "A1") + wire(0, 0, 100, 0, "a/b", "z", "zz", "A/b")
+    ), ["A1|-|-|-", "", "z|A1-1"]
+    yield "a name in common joins, and all names of a wire count", (
+        one("pas", 0, 0, "A1") + one("pas", 0, 500, "A2") + one("pas", 0, 1000, "A3")
+        + wire(0, 0, 100, 0, "X") + wire(0, 500, 100, 500, "Y") + wire(0, 1000, 9, 1000, "Y", "X")
+    ), ["A1|-|-|-", "A2|-|-|-", "A3|-|-|-", "", "X|A1-1 A2-1 A3-1"]
+    yield "names are chosen by bytes, not by length", (
+        one("pas", 0, 0, "A1") + wire(0, 0, 100, 0, "b", "aa", "Z9")
+    ), ["A1|-|-|-", "", "Z9|A1-1"]
+    yield "nets are listed by the bytes of their names, as they stand in the file", (
+        "".join(one("pas", 0, 500 * k, f"A{k}", f"net={name}:1")
+                for k, name in enumerate(("b", "a!", "a ", "a/b", "a_", "é", "z")))
+    ), [*(f"A{k}|-|-|-" for k in range(7)), "", "a_|A2-1", "a!|A1-1", "a/b|A3-1", "a_|A4-1",
+        "b|A0-1", "z|A6-1", "é|A5-1"]
+    yield "names are compared as they are, and print as words", (
+        one("pas", 0, 0, "A1") + one("pas", 0, 500, "A2")
+        + wire(0, 0, 100, 0, "X\nY") + wire(0, 500, 100, 500, "X Y")
+    ), ["A1|-|-|-", "A2|-|-|-", "", "X_Y|A1-1", "X_Y|A2-1"]
+    yield "a net of wires alone is none, but its name is not given", (
+        wire(0, 0, 100, 0, "unconnected_pin-1") + wire(0, 500, 100, 500, "unnamed_net01")
+        + one("pas", 0, 900, "A1") + one("pas", 0, 990, "A2") + wire(0, 990, 9, 990)
+    ), ["A1|-|-|-", "A2|-|-|-", "", "unnamed_net1|A2-1", "unconnected_pin-2|A1-1"]
+    yield "numbers count by pins as bytes, and print by number", (
+        "".join(one("pas", 0, 500 * k, f"A{k}", "net=unconnected_pin-2:8") for k in (1, 2, 10))
+    ), ["A1|-|-|-", "A10|-|-|-", "A2|-|-|-", "", "unconnected_pin-2|A1-8 A10-8 A2-8",
+        "unconnected_pin-1|A1-1", "unconnected_pin-3|A10-1", "unconnected_pin-4|A2-1"]
+    yield "ten nets and more are listed by number", (
+        "".join(part(0, 500 * k, f"R{k:02}") + wire(0, 500 * k, 9, 500 * k) for k in range(11))
+    ), [*(f"R{k:02}|TWO|-|-" for k in range(11)), "",
+        *(f"unnamed_net{k + 1}|R{k:02}-1" for k in range(11)),
+        *(f"unconnected_pin-{k + 1}|R{k:02}-2" for k in range(11))]
+    yield "of equal pins of one component the one that is drawn first has the lower number", (
+        embedded("q.sym", [numbered(0, 0, 1), numbered(0, 500, 1)], "refdes=A1")
+        + wire(0, 0, 9, 0) + wire(0, 500, 9, 500) + one("pas", 0, 500, "A2")
+    ), ["A1|-|-|-", "A2|-|-|-", "", "unnamed_net1|A1-1", "unnamed_net2|A1-1 A2-1"]
+    yield "of equal pins the one that stands first has the lower number", (
+        one("pas", 0, 500, "A1") + one("pas", 0, 0, "A1") + one("pas", 100, 0, "A9")
+        + wire(0, 0, 100, 0) + wire(0, 500, 100, 500)
+    ), ["A1|-|-|-", "A9|-|-|-", "", "unnamed_net1|A1-1", "unnamed_net2|A1-1 A9-1"]
+    yield "the list of a slot counts by pinseq, one beyond it keeps its number", (
+        slotted("slot=01")
+    ), ["U1|-|-|-", "", *alone("U1", 3, 4, 5)]
+    yield "a slotdef without a colon is for no slot", (
+        slotted("slot=8")
+    ), ["U1|-|-|-", "", *alone("U1", 2, 5, 6)]
+    yield "attached slotdefs hide the inherited ones of the same slot", (
+        slotted("slot=1", "slotdef=1:7,8,9")
+    ), ["U1|-|-|-", "", *alone("U1", 7, 8, 9)]
+    yield "and those of all other slots", (
+        slotted("slot=3", "slotdef=1:7,8,9")
+    ), ["U1|-|-|-", "", *alone("U1", 1, 2, 5)]
+    yield "the first slotdef of a slot counts", (
+        slotted("slot=3")
+    ), ["U1|-|-|-", "", *alone("U1", 5, 8, 9)]
+    for slot, more in [("0", ()), ("2", ()), ("4", ()), ("7", ()), ("x", ()), ("10003", ()),
+                       ("3", ("numslots=2",)), ("3", ("slotdef=3",)), ("3", ("slotdef=x:8,9",))]:
+        yield f"slot {slot} with {more} is a fault, and the numbers stay", (
+            slotted(f"slot={slot}", *more)
+        ), ["U1|-|-|-", "", *alone("U1", 1, 2, 5)]
+    yield "a numslots of 0 limits nothing", (
+        slotted("slot=3", "numslots=0")
+    ), ["U1|-|-|-", "", *alone("U1", 5, 8, 9)]
+    yield "net goes by the numbers of the slot", (
+        slotted("slot=3", "net=GND:8", "net=Vcc:1")
+    ), ["U1|-|-|-", "", "GND|U1-8", "Vcc|U1-1", *alone("U1", 5, 9)]
+    yield "a pinnumber that is no word is a question mark", (
+        embedded("q.sym", [pin(0, 0, "pinnumber=a b"), pin(0, 100)], "refdes=Q1", "net=X:?")
+    ), ["Q1|-|-|-", "", "X|Q1-?"]
+    yield "a refdes of the symbol alone, and one with a question mark", (
+        embedded("q.sym", [numbered(0, 0, 1), "refdes=U?"]) * 2
+        + embedded("q.sym", [numbered(0, 9, 1), "refdes=U?"], "refdes=a\nb")
+    ), ["U?|-|-|-", "", "unnamed_net1|U?-1"]
+    yield "a package takes each value from the first component that has it", (
+        "".join(one("pas", x, y, "U1", *more) for x, y, more in [
+            (0, 0, ()), (0, 100, ("value=a\tb",)), (0, 200, ("value=c", "footprint=SO 8")),
+            (0, 300, ("device=D", "footprint=no"))])
+        + "".join(wire(0, 100 * k, 0, 100 * k + 100) for k in range(3))
+    ), ["U1|D|a b|SO 8", "", "unnamed_net1|U1-1"]
+    yield "of several attached texts of a name the first counts", (
+        one("pas", 0, 0, "A1", "refdes=A2", "device=x", "device=y")
+        + embedded("q.sym", [pin(0, 0, "pinnumber=8", "pinnumber=9")], "refdes=Q1")
+    ), ["A1|x|-|-", "Q1|-|-|-", "", "unnamed_net1|A1-1 Q1-8"]
+    yield "a refdes of two lines is none, whatever comes behind it", (
+        component("k-pas.sym", 0, 0, "refdes=A\nB", "refdes=A1") + one("pas", 0, 0, "A2")
+    ), ["A2|-|-|-", "", "unnamed_net1|A2-1"]
+    yield "what is no attribute says nothing", (
+        one("pas", 0, 0, "A1", "value=", "value= a", "value =b", "=c", "Value=d", "value==e")
+    ), ["A1|-|=e|-", "", *alone("A1", 1)]
+    yield "a wire that ends inside an upright one joins it, and so does one that is a point", (
+        one("pas", 100, 500, "A1") + wire(100, 500, 0, 500) + wire(0, 900, 0, 0)
+        + wire(0, 200, 0, 200, "X") + one("pas", 0, 700, "A2") + wire(0, 0, 0, 900, "Y")
+    ), ["A1|-|-|-", "A2|-|-|-", "", "X|A1-1 A2-1"]
+    yield "a wire goes on behind a pin on it, and wires on one another join by ends alone", (
+        one("pas", 500, 0, "A1") + wire(900, 0, 0, 0) + wire(200, 0, 800, 0)
+        + one("pas", 700, 0, "A2") + one("pas", 901, 0, "A3")
+    ), ["A1|-|-|-", "A2|-|-|-", "A3|-|-|-", "", "unnamed_net1|A1-1 A2-1", "unconnected_pin-1|A3-1"]
+    yield "texts on the sheet, its own pins, and what is attached to others say nothing", (
+        text("refdes=Q9") + pin(0, 0, "pinnumber=9") + "L 0 0 1 1 3 0 1 0 -1 -1\n"
+        + block(["netname=X"]) + one("pas", 0, 0, "A1") + "N 500 0 500 0 4\n" + block(["net=Y:1"])
+        + one("pas", 500, 0, "A2")
+    ), ["A1|-|-|-", "A2|-|-|-", "", "unnamed_net1|A2-1", "unconnected_pin-1|A1-1"]
+    yield "wires and buses of a symbol join nothing, nor do attached texts of its parts", (
+        embedded("q.sym", [
+            numbered(0, 0, 1), wire(0, 0, 100, 0, "X"), numbered(100, 0, 2),
+            "U 0 0 100 0 10 0\n", text("plain") + block(["value=Q8"]),
+        ], "refdes=Q1")
+    ), ["Q1|-|-|-", "", *alone("Q1", 1, 2)]
+
+
+def answer(wanted):
+    """What is wanted as status, output and error line."""
+    if isinstance(wanted, tuple):
+        return wanted[0], b"", f"gafd: {wanted[1]}\n".encode()
+    middle = wanted.index("")
+    lines = [f"parts {middle}", *wanted[:middle], f"nets {len(wanted) - middle - 1}"]
+    lines += wanted[middle + 1 :]
+    return 0, "".join(f"{line}\n" for line in lines).replace("|", "\t").encode(), b""
+
+
+def case_table():
+    """Each what it shows, the files of the folder, the sheet that is asked for, and its answer."""
+    library = {name: data.encode() for name, data in LIBRARY.items()}
+    two = (TOP / "examples" / "one.sch").read_bytes()
+    wanted = ["R1|RESISTOR|10k|-", "R2|RESISTOR|22k|-", "", "unnamed_net1|R1-2 R2-1",
+              "unconnected_pin-1|R1-1", "unconnected_pin-2|R2-2"]
+    yield "two resistors with a wire between them", {"one.sch": two}, "one.sch", answer(wanted)
+    yield "an empty sheet", {"x.sch": VERSION.encode()}, "x.sch", answer([""])
+    yield "no sheet", {"y.sch": VERSION.encode()}, "x.sch", answer((1, "x.sch: missing"))
+    itself = VERSION + component("x.sch", 0, 0)
+    refused = answer((1, "x.sch:2: Nested"))
+    yield "a sheet that asks for itself", {"x.sch": itself.encode()}, "x.sch", refused
+    broken = {**library, "x.sch": (itself + component("bad.sym", 0, 0) + "N 0\n").encode()}
+    yield "a sheet that is refused", broken, "x.sch", answer((1, "x.sch:4: FieldCount"))
+    for what, objects, wanted in sheets():
+        yield what, {**library, "x.sch": (VERSION + objects).encode()}, "x.sch", answer(wanted)

@@ -1,0 +1,200 @@
+#!/usr/bin/env python3
+"""Compares `netlist` of the built program with the rules of docs/RULES.md, told again in
+project_rules.py: sheets with the symbols that lie beside them.
+
+Usage:
+  projects.py [--seed S] [--count N] [PROGRAM]    N random sheets (1, 4000), ten in a folder
+  projects.py --limits [PROGRAM]                  folders at the limits, of up to 64 MiB
+  projects.py --folder FOLDER [PROGRAM]           each .sch of a folder
+  projects.py --cases                             the rules told here on folders with known answers
+
+PROGRAM is out/gafd of the repository where none is named; the known answers come before the random
+sheets. Status, what goes out and the error line must be those told here. At the first difference
+the folder is cut down to what matters, kept and printed, and the status is 1. With --cases no
+program is run.
+"""
+import argparse
+import collections
+import pathlib
+import random
+import subprocess
+import sys
+import tempfile
+import time
+
+sys.dont_write_bytecode = True
+
+import compare
+from geda_files import Fault, read_sheet
+from project_cases import case_table
+from project_rules import answer_of
+from random_files import random_file
+from random_projects import limits, random_folder
+
+PROGRAM = pathlib.Path(__file__).resolve().parent.parent / "out" / "gafd"
+LONGEST = 60
+MOST_SHRUNK = 1_000_000
+
+
+def put(folder, files):
+    """Makes the files of a folder."""
+    for name, data in files.items():
+        path = pathlib.Path(folder, name)
+        path.parent.mkdir(parents=True, exist_ok=True)
+        path.write_bytes(data)
+
+
+def difference(program, folder, name, wanted):
+    """What differs from the wanted answer, for a sheet of a folder that has been made."""
+    try:
+        words = [program, "netlist", name]
+        run = subprocess.run(words, cwd=folder, capture_output=True, timeout=LONGEST)
+    except subprocess.TimeoutExpired:
+        return f"no end within {LONGEST} seconds"
+    got = run.returncode, run.stdout, run.stderr
+    if got == wanted:
+        return None
+    if (got[0], got[2]) != (wanted[0], wanted[2]):
+        return f"got {got[0]} {got[2]!r}, wanted {wanted[0]} {wanted[2]!r}"
+    pairs = zip(got[1].split(b"\n") + [None], wanted[1].split(b"\n") + [None])
+    line, (was, should) = next((n, p) for n, p in enumerate(pairs, 1) if p[0] != p[1])
+    return f"line {line} is {was!r}, wanted {should!r}"
+
+
+def differs(program, files, name):
+    with tempfile.TemporaryDirectory() as folder:
+        put(folder, files)
+        return difference(program, folder, name, answer_of(files, name))
+
+
+def shrunk(program, files, name):
+    """The files and the lines without which there is no difference."""
+    for other in list(files):
+        fewer = {known: data for known, data in files.items() if known != other}
+        if other != name and differs(program, fewer, name):
+            files = fewer
+    for other in files:
+        size = 64
+        while size:
+            lines, at = files[other].split(b"\n"), 0
+            while at < len(lines):
+                less = {**files, other: b"\n".join(lines[:at] + lines[at + size :])}
+                if differs(program, less, name):
+                    files, lines = less, lines[:at] + lines[at + size :]
+                else:
+                    at += size
+            size //= 2
+    return files
+
+
+def keep(program, what, files, name, said):
+    """Prints a difference with the folder that is kept, and answers the status."""
+    kept = pathlib.Path(tempfile.mkdtemp(prefix="gafd-differs-"))
+    print(f"{what}: {name}: {said}", flush=True)
+    if len(files) > 100 or sum(map(len, files.values())) > MOST_SHRUNK:
+        put(kept, files)
+        print(f"kept in {kept}")
+        return 1
+    put(kept / "whole", files)
+    less = shrunk(program, files, name)
+    put(kept, less)
+    status, out, err = answer_of(less, name)
+    print(f"cut down: {differs(program, less, name)}\n")
+    print(less[name].decode(errors="replace") if name in less else "no such sheet")
+    print(f"wanted: status {status}\n{(out + err).decode()}")
+    print(f"kept in {kept}: {', '.join(less)}; as it was drawn in {kept / 'whole'}")
+    return 1
+
+
+def sort_of(answer):
+    """For the summary: how a sheet ends."""
+    status, _, err = answer
+    return {0: "net lists", 9: "not yet"}.get(status) or err.decode().split()[-1]
+
+
+def compare_folders(program, folders):
+    """Compares folders, each with what it shows and the names of its sheets."""
+    started, sorts = time.perf_counter(), collections.Counter()
+    for what, files, names in folders:
+        with tempfile.TemporaryDirectory() as folder:
+            put(folder, files)
+            for name in names:
+                wanted = answer_of(files, name)
+                if said := difference(program, folder, name, wanted):
+                    return keep(program, what, files, name, said)
+                sorts[sort_of(wanted)] += 1
+    told = ", ".join(f"{number} {sort}" for sort, number in sorts.most_common())
+    seconds = time.perf_counter() - started
+    print(f"{sum(sorts.values())} sheets are the same: {told}; {seconds:.1f} s")
+    return 0
+
+
+def random_folders(seed, count):
+    for what, files, name, _ in case_table():
+        yield what, files, [name]
+    for number in range(0, count, 10):
+        files, names = random_folder(seed, number)
+        yield f"folder {number} of seed {seed}", files, names[: count - number]
+
+
+def limit_folders():
+    for what, files in limits():
+        print(what, flush=True)
+        yield what, files, ["x.sch"]
+
+
+def folder_of(top):
+    files = {path.name: path.read_bytes() for path in pathlib.Path(top).iterdir() if path.is_file()}
+    return str(top), files, sorted(name for name in files if name.endswith(".sch"))
+
+
+def self_test():
+    """The rules told here, on folders with known answers, and on plain sheets as compare.py has
+    them: what it has drawn, and what it tells of random files."""
+    failed = 0
+    cases = [(what, answer_of(files, name), wanted) for what, files, name, wanted in case_table()]
+    known = len(cases)
+    for number in range(500):
+        drawing = compare.Drawing(random.Random(f"plain {number}"))
+        wanted = compare.list_text(drawing.conductors, drawing.packages).encode()
+        got = answer_of({"x.sch": drawing.text.encode()}, "x.sch")
+        cases.append((f"plain sheet {number}", got, (0, wanted, b"")))
+        data = random_file("plain", number)
+        try:
+            wanted = compare.text_of_sheet(read_sheet(data)[1])
+        except Fault:
+            continue
+        if wanted is not None:
+            cases.append((f"file {number}", answer_of({"x.sch": data}, "x.sch"), (0, wanted, b"")))
+    for what, got, wanted in cases:
+        if got != wanted:
+            failed += 1
+            print(f"{what}:\ngot    {got}\nwanted {wanted}")
+    said = f"{known} folders with known answers, {len(cases) - known} plain sheets"
+    print(f"{said}:", f"{failed} failed" if failed else "all passed")
+    return 1 if failed else 0
+
+
+def main():
+    parser = argparse.ArgumentParser(description=__doc__.split("\n")[0])
+    parser.add_argument("--seed", default="1")
+    parser.add_argument("--count", type=int, default=4000)
+    parser.add_argument("--limits", action="store_true")
+    parser.add_argument("--folder")
+    parser.add_argument("--cases", action="store_true")
+    parser.add_argument("program", nargs="?", default=PROGRAM)
+    asked = parser.parse_args()
+    if asked.cases:
+        return self_test()
+    program = pathlib.Path(asked.program).resolve()
+    if not program.exists():
+        sys.exit(f"{program} is not built: run ./gafd once")
+    if asked.limits:
+        return compare_folders(program, limit_folders())
+    if asked.folder:
+        return compare_folders(program, [folder_of(asked.folder)])
+    return compare_folders(program, random_folders(asked.seed, asked.count))
+
+
+if __name__ == "__main__":
+    sys.exit(main())

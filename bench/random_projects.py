@@ -1,0 +1,206 @@
+"""Random folders of sheets and symbols, in which much collides, and folders at the limits.
+
+A folder is a dictionary from names of files to bytes.
+"""
+import random
+
+import compare
+from random_files import VERSION, damaged, texts_of_size
+
+REFDES = ["R1", "R1", "R2", "R10", "U1", "U1", "U?", "R 3", "r\n1", "R/1", "é", "?", "R1\t"]
+NETNAMES = ["X", "Y", "GND", "Vcc", "a/b", "a/a", "/", "a/b/c", "N L", "N!L", "X\nY", "é"]
+NETNAMES += ["unnamed_net1", "unnamed_net1", "unnamed_net2", "unnamed_net3", "unnamed_net01"]
+NETNAMES += ["unconnected_pin-1", "unconnected_pin-2", "unconnected_pin-2", "unconnected_pin-4"]
+NETNAMES += ["x" * 210]
+NETS = ["GND:1", "GND:2,3", "Vcc:14", "Vcc: 14 ,1", "Vcc:14,7", "GND:7", "X:7", "Y:1,2,3", "X:?"]
+NETS += ["a/b:1", "a:b:1", "unnamed_net1:1", "unnamed_net2:9", "unconnected_pin-1:2", "N L:1"]
+NETS += ["unconnected_pin-3:9", "X\n:1", "X\nY:2", "é:2", "X:1,1", "x:" + "x" * 200]
+BAD_NETS = ["bad", "bad:", ":1", "X:1,", "X:,1", "X:1,,2", "X:1\t", "X:1 2", "X: ", " X:1", "", ":"]
+BAD_NETS += ["X:" + "x" * 201, "X:1\n2"]
+NUMBERS = [None, "1", "1", "2", "2", "3", "7", "14", "10", "A", "?", "a b", "1\n2", "é", "b:1"]
+NUMBERS += ["x" * 200, "x" * 201]
+SEQS = [None, "1", "1", "1", "2", "2", "3", "3", "4", "0", "01", "0002", "00001", "x", "-1", "1 "]
+SLOTS = ["1", "2", "2", "3", "3", "4", "01", "0002", "0", "5", "9", "x", "12345", "1 ", "1\n"]
+SLOTDEFS = ["1:21,22,23", "2:24,25,26", "3:29, 7 ,28", "4:14,33"]
+BAD_SLOTDEFS = ["0:41,42", "3:,4", "01:9,8", "2:a b,c", "4", "2", "5:", "x:1", "2:4,5", "12345:43"]
+BAD_SLOTDEFS += ["1 :9", "9:1,?,?", "2:1\n,2", "5:6:7", "3", "1:", "3:44", "4:" + "x" * 201, ":1"]
+NUMSLOTS = ["2", "2", "4", "0", "0", "x", "1", "0003", "00003"]
+GRAPHICAL = ["1", "1", "1", "0", "01", "1 ", "1\n"]
+VALUES = ["10k", "a\tb", "a\nb", "Y Z", "é", "-"]
+PLAIN = ["refdes=", "=R7", "refdes =R7", "refdes= R7", "refdes", "Refdes=R7", "hello", "net= X:1"]
+NAMES = ["a.sym", "b.sym", "c-1.sym", "-d+2.sym", "E_", "x" * 100]
+RARE_NAMES = ["bad.sym", "s0.sch", "box.sym"]
+NO_NAMES = [".hid.sym", "é.sym", "y" * 101, "none.sym", "A.sym", "sub/a.sym", "..", "EMBEDDE"]
+
+
+class File(compare.Drawing):
+    """A file that is drawn: how often it has which attributes is drawn once."""
+
+    def __init__(self, rng):
+        self.rng = rng
+        self.strays = rng.choice([0, 0, 0, 0.2])
+        self.text = VERSION.decode()
+        self.often = {
+            name: rng.choice(chances)
+            for name, chances in {
+                "refdes": [0.5, 0.9],
+                "net": [0, 0.1, 0.5],
+                "bad": [0, 0, 0.2],
+                "slot": [0, 0.2, 0.9],
+                "numslots": [0.1, 0.5],
+                "graphical": [0, 0, 0.1],
+                "netname": [0, 0.1, 0.4],
+                "plain": [0, 0.1],
+            }.items()
+        }
+        self.nets = rng.sample(NETS, rng.choice([1, 3, len(NETS)]))
+        self.netnames = rng.sample(NETNAMES, rng.choice([1, 3, len(NETNAMES)]))
+        self.spread = rng.choice([1, 1, 2, 2, 4])
+
+    def some(self, name, choices, most=1):
+        """A few attributes of a name, or none."""
+        if self.rng.random() >= self.often.get(name, 0.2):
+            return []
+        return [f"{name}={self.rng.choice(choices)}" for _ in range(self.rng.randint(1, most))]
+
+    def attributes(self):
+        """What components have attached, and symbols have free."""
+        found = self.some("refdes", REFDES, 2) + self.some("net", self.nets, 3)
+        if self.rng.random() < self.often["bad"]:
+            found.append(f"net={self.rng.choice(BAD_NETS)}")
+        if self.rng.random() < self.often["slot"]:
+            found.append(f"slot={self.rng.choice(SLOTS)}")
+        found += self.some("graphical", GRAPHICAL, 2)
+        for name in ("device", "value", "footprint"):
+            found += self.some(name, VALUES)
+        if self.rng.random() < self.often["plain"]:
+            found.append(self.rng.choice(PLAIN))
+        self.rng.shuffle(found)
+        return found
+
+    def slots(self):
+        """What says which slots there are: more often free than attached."""
+        some = self.rng.choice([SLOTDEFS, SLOTDEFS, self.rng.sample(SLOTDEFS, 1)])
+        found = self.some("numslots", NUMSLOTS) + [f"slotdef={it}" for it in some]
+        for _ in range(self.rng.choice([0, 1, 1, 2])):
+            bad = f"slotdef={self.rng.choice(BAD_SLOTDEFS)}"
+            found.insert(self.rng.randint(0, len(found)), bad)
+        return found
+
+    def point(self):
+        near = range(-self.spread, self.spread + 1)
+        return self.rng.choice(near) * 100, self.rng.choice(near) * 100
+
+    def ends(self):
+        """Two points: most of them in a row, some across, some equal."""
+        a, b = self.point(), self.point()
+        return a, self.rng.choice([b, (b[0], a[1]), (a[0], b[1]), (a[0], b[1]), a])
+
+    def pin(self):
+        (x1, y1), (x2, y2) = self.ends()
+        kind, whichend = self.rng.choice([0] * 7 + [1]), self.rng.randint(0, 1)
+        self.line(f"P {x1} {y1} {x2} {y2} 1 {kind} {whichend}")
+        number, seq = self.rng.choice(NUMBERS), self.rng.choice(SEQS)
+        found = [] if number is None else [f"pinnumber={number}"]
+        found += [] if seq is None else [f"pinseq={seq}"]
+        found += self.rng.choice([[], [], ["pinnumber=5"], ["net=X:1", "slot=2"], ["refdes=P"]])
+        self.block(found)
+
+    def other(self):
+        """What joins nothing in a symbol and on a sheet, with attached texts that say nothing."""
+        (x1, y1), (x2, y2) = self.ends()
+        self.line(*self.rng.choice([
+            (f"U {x1} {y1} {x2} {y2} 10 0", []),
+            (f"L {x1} {y1} {x2} {y2} 3 0 1 0 -1 -1", []),
+            (f"G {x1} {y1} 100 100 0 0 1", ["logo.png", "N 0 0 100 0 4", "."]),
+            (f"T {x1} {y1} 5 10 1 1 0 0 2", ["hello", "refdes=Q"]),
+        ]))
+        self.block(self.rng.choice([[], ["refdes=Q"], ["net=X:1", "graphical=1"], ["netname=X"]]))
+
+    def wire(self):
+        (x1, y1), (x2, y2) = self.ends()
+        self.line(f"N {x1} {y1} {x2} {y2} 4")
+        more = self.rng.choice([[], [], [], ["net=X:1"], ["refdes=N1"], ["netname="]])
+        self.block(self.some("netname", self.netnames, 2) + more)
+
+    def symbol(self):
+        """The parts of a symbol."""
+        free = self.attributes() + (self.slots() if self.rng.random() < 0.5 else [])
+        draw = [self.pin] * self.rng.choice([0, 1, 1, 2, 3, 4]) + [self.content] * len(free)
+        draw += [self.rng.choice([self.other, self.wire])] * self.rng.choice([0, 0, 1])
+        self.rng.shuffle(draw)
+        for it in draw:
+            it(*([free.pop(0)] if it == self.content else []))
+
+    def component(self):
+        rng = self.rng
+        names = rng.choice([NAMES] * 17 + [NO_NAMES] * 2 + [RARE_NAMES])
+        (x, y), angle, mirror = self.point(), rng.choice([0, 90, 180, 270]), rng.choice([0, 0, 1])
+        is_embedded = rng.random() < 0.3
+        basename = ("EMBEDDED" if is_embedded else "") + rng.choice(names)
+        self.line(f"C {x} {y} 1 {angle} {mirror} {basename}")
+        if is_embedded:
+            self.line("[")
+            self.symbol()
+            self.line("]")
+        attached = self.attributes() + (["source=low.sch"] if rng.random() < 0.005 else [])
+        self.block(attached + (self.slots() if rng.random() < 0.1 else []))
+
+    def sheet(self):
+        draw = [self.wire] * 4 + [self.component] * 4 + [self.other, self.pin]
+        for _ in range(self.rng.choice([0, 1, 2, 4, 8, 8, 12, 12, 20, 60])):
+            self.rng.choice(draw)()
+
+
+def drawn(rng, what):
+    file = File(rng)
+    getattr(file, what)()
+    return file.text.encode()
+
+
+def random_folder(seed, number, sheets=10):
+    """A folder, and the names of its sheets."""
+    rng = random.Random(f"{seed} {number}")
+    names = [f"s{place}.sch" for place in range(sheets)]
+    files = {name: drawn(rng, "sheet") for name in names}
+    for name in NAMES + [".hid.sym", "é.sym", "y" * 101, "sub/a.sym"]:
+        if rng.random() < 0.9:
+            files[name] = drawn(rng, "symbol")
+    files["bad.sym"] = damaged(rng, damaged(rng, drawn(rng, "symbol")))
+    for name, graphical in (("box.sym", 0), ("E_", 1)):
+        if rng.random() < 0.2:
+            source = File(rng)
+            source.content("source=low.sch")
+            source.content(f"graphical={graphical}")
+            files[name] = source.text.encode()
+    return files, names
+
+
+def components(names, more=b""):
+    return VERSION + b"".join(b"C 0 0 1 0 0 %s\n" % name.encode() for name in names) + more
+
+
+def limits():
+    """Folders at the limits, by what they show; the sheet is x.sch."""
+    source = b"C 0 0 1 0 0 no.sym\n{\nT 0 0 5 10 1 1 0 0 1\nsource=a\n}\n"
+    many = [f"{number}.sym" for number in range(8_193)]
+    for count, more in [(8_192, b""), (8_193, b""), (8_193, source)]:
+        files = dict.fromkeys(many[:count], VERSION)
+        files["x.sch"] = components(many, more)
+        yield f"{count} symbols{', and a source' if more else ''}", files
+    files = {**dict.fromkeys(many, VERSION), "8192.sym": VERSION + b"N\n"}
+    yield "8193 symbols, the last one refused", {**files, "x.sch": components(many)}
+    full = texts_of_size(4_194_304)
+    names = [f"{number}.sym" for number in range(16)]
+    sheet = components(names)
+    rest = 4_194_304 - (len(sheet) - len(VERSION))
+    for size, more in [(rest, b""), (rest + 1, b""), (rest + 1, source)]:
+        files = dict.fromkeys(names, full)
+        files.update({"15.sym": texts_of_size(size), "x.sch": sheet + more})
+        yield f"a last symbol of {size} bytes{', and a source' if more else ''}", files
+    blank = texts_of_size(rest - 1).rstrip(b"\n") + b"\r" * 50 + b"\n\n"
+    yield "the same in more bytes than are counted", {**files, "15.sym": blank, "x.sch": sheet}
+    blocks = VERSION + b"N 0 0 1 0 4\n{\n}\n" * 200_000
+    yield "a symbol too large", {"x.sch": components(["a.sym"]), "a.sym": full + b"x"}
+    yield "a symbol of too many parts", {"x.sch": components(["a.sym"]), "a.sym": blocks}
+    yield "a folder in place of a symbol", {"x.sch": components(["a.sym"]), "a.sym/b": b""}
