@@ -1,7 +1,9 @@
 pub mod LabelLemmas
 pub mod UnionLemmas
 pub mod SpanLemmas
+pub mod DrawingLemmas
 pub mod PairLemmas
+pub mod RepeatLemmas
 pub mod NameLemmas
 pub mod LinkLemmas
 pub mod Cases

@@ -7,7 +7,7 @@ use Rattle.link_classes.specs.Flattening.{AreTied, AreTouching, AtPlaces, FlatCo
 use Rattle.link_classes.specs.steps.Places.{AtBoth, LinkedAt, ShareAt, TouchAt}
 use Rattle.link_classes.specs.steps.Unions.{AreUnionsOf, AreWithin, Spans}
 use Rattle.link_classes.proofs.LabelLemmas.{classes_same}
-use Rattle.link_classes.proofs.PairLemmas.{at_turn}
+use Rattle.link_classes.proofs.DrawingLemmas.{at_turn}
 use Rattle.link_classes.proofs.SpanLemmas.{own_pairs, own_spans, own_unions, spanned_classes, spans_either}
 use Rattle.touch_index.proofs.ListLemmas.{none_is_in}
 

@@ -12,7 +12,7 @@ use Rattle.link_classes.specs.steps.Places.{ShareAt, own_names}
 use Rattle.link_classes.specs.steps.Unions.{IsSameAt, Spans}
 use Rattle.link_classes.specs.steps.FirstPlaces.{Named, named_at, named_from, pair_with, AddsName, TiesNames}
 use Rattle.link_classes.proofs.LabelLemmas.{joined_by}
-use Rattle.link_classes.proofs.PairLemmas.{no_conductor}
+use Rattle.link_classes.proofs.DrawingLemmas.{no_conductor}
 
 option_or-none : (o : Option ℕ) → option_or o None ≡ o
 option_or-none None = refl

@@ -6,9 +6,11 @@
 #![tactic(auto)]
 
 mod conductors;
+mod drawn;
 mod labels;
 mod member;
 mod names;
+mod repeats;
 mod touching;
 mod unions;
 

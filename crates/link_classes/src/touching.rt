@@ -4,112 +4,106 @@ ghost use Rattle.geda_defs.specs.Classes.{AreClasses};
 ghost use Rattle.geda_geom.specs.declared.conductor.Key.{Key};
 ghost use Rattle.std.specs.FinMap as map;
 ghost use Rattle.touch_index.specs.Index.{IsNeighbour};
-ghost use Rattle.link_classes.specs.steps.Places.{Indexes, TouchAt, key_at, pairs_at, place_of};
+ghost use Rattle.link_classes.specs.steps.Drawing.{DrawnTouch, Indexes, key_at, pairs_at, place_in, rank_of, StandWithin};
+ghost use Rattle.link_classes.specs.steps.Places.{TouchAt};
 ghost use Rattle.link_classes.specs.steps.Unions.{AddsUnions, IsForest, StandAtThemselves};
 
 use crate::conductors::SheetConductor;
-use crate::unions::{flatten, places, unite};
+use crate::drawn::{Drawn, drawn_in_order};
+use crate::repeats::without_repeats;
+use crate::unions::{flatten, join_pairs, places, unite};
 use geda_geom::Key;
 use std::alloc::{AllocError, Global};
 use touch_index::{Sealed, TouchIndex};
 
-/// A place as a key, in two parts: the index asks for a key of each conductor.
-fn key_at(place: usize) -> Key
-    ensures { result ≡ key_at place }
+/// A rank in the list of what is drawn as a key, in two parts: the index asks for a key of each
+/// conductor.
+fn key_at(rank: usize) -> Key
+    ensures { result ≡ key_at rank }
 {
     Key {
-        id: (place / 4_294_967_296) as u32,
-        place: (place % 4_294_967_296) as u32,
+        id: (rank / 4_294_967_296) as u32,
+        place: (rank % 4_294_967_296) as u32,
     }
 }
 
-fn place_of(key: Key) -> usize
-    ensures { result ≡ place_of key }
+fn rank_of(key: Key) -> usize
+    ensures { result ≡ rank_of key }
 {
     key.id as usize * 4_294_967_296 + key.place as usize
 }
 
-/// Adds what is drawn at the next place, under the key of its place.
-fn enter(
-    index: &mut TouchIndex,
-    conductors: &[SheetConductor],
-    place: usize,
-) -> Result<(), AllocError>
-    requires within { place < length conductors.now }
-    requires indexed { Indexes index.old.conductors conductors.now place }
-    ensures { OnOk result (Indexes index.new.conductors conductors.now (place + 1)) }
+fn place_in(drawn: &[Drawn], rank: usize) -> usize
+    requires { rank < length drawn.now }
+    ensures { result ≡ place_in drawn.now rank }
 {
-    match conductors[place].shape {
-        Some(shape) => index.insert(key_at(place), Sealed::new(shape)),
-        None => Ok(()),
-    }
+    drawn[rank].place
 }
 
-/// An index of what is drawn.
-fn fill(alloc: Global, conductors: &[SheetConductor]) -> Result<TouchIndex, AllocError>
-    ensures { IfOk result
-        (λ index. Indexes index.conductors conductors.now (length conductors.now)) }
+/// Adds what is drawn at the next rank, under the key of its rank.
+fn enter(index: &mut TouchIndex, drawn: &[Drawn], rank: usize) -> Result<(), AllocError>
+    requires within { rank < length drawn.now }
+    requires indexed { Indexes index.old.conductors drawn.now rank }
+    ensures { OnOk result (Indexes index.new.conductors drawn.now (rank + 1)) }
 {
-    let mut index = TouchIndex::new(alloc);
-    for place in 0..conductors.len() {
-        enter(&mut index, conductors, place)?;
-    }
-    Ok(index)
+    index.insert(key_at(rank), Sealed::new(drawn[rank].shape))
 }
 
-/// The keys of the places that touch a place; none where nothing is drawn.
-fn neighbours_of(
-    alloc: Global,
-    index: &mut TouchIndex,
-    conductors: &[SheetConductor],
-    place: usize,
-) -> Result<Vec<Key>, AllocError>
-    requires within { place < length conductors.now }
-    requires indexed { Indexes index.old.conductors conductors.now (length conductors.now) }
-    ensures same { IfOk result (λ keys. (q : Key)
-        → Contains keys.items q ↔ IsNeighbour (map.get index.old.conductors) (key_at place) q) }
-    ensures conductors { index.new.conductors ≡ index.old.conductors }
-{
-    match conductors[place].shape {
-        Some(_) => index.neighbours(key_at(place)),
-        None => Ok(Vec::new(alloc)),
-    }
-}
-
-/// Puts a place into one tree with the place of each key.
-fn unite_keys(parents: &mut [usize], place: usize, keys: &[Key])
-    requires place { place < length parents.old }
-    requires within { All (λ k. place_of k < length parents.old) keys.now }
+/// Puts the place of a rank into one tree with that of each key.
+fn unite_keys(parents: &mut [usize], drawn: &[Drawn], rank: usize, keys: &[Key])
+    requires rank { rank < length drawn.now }
+    requires ranks { All (λ k. rank_of k < length drawn.now) keys.now }
+    requires within { StandWithin (length parents.old) drawn.now }
     requires forest { IsForest parents.old }
     ensures forest { IsForest parents.new }
-    ensures adds { AddsUnions (pairs_at place keys.now) parents.old parents.new }
+    ensures adds { AddsUnions (pairs_at drawn.now rank keys.now) parents.old parents.new }
 {
+    let place = place_in(drawn, rank);
     for key in keys {
-        unite(parents, place, place_of(*key));
+        unite(parents, place, place_in(drawn, rank_of(*key)));
     }
 }
 
-/// Makes trees of one place each the labels of what touches.
-fn label_touching(
-    alloc: Global,
-    parents: &mut [usize],
-    index: &mut TouchIndex,
-    conductors: &[SheetConductor],
-) -> Result<(), AllocError>
-    requires len { length parents.old ≡ length conductors.now }
+/// Makes trees of one place each the labels of what touches. Each rank is asked as soon as it is
+/// entered, so that each pair is found once, and what both look up is near at hand.
+fn label_touching(alloc: Global, parents: &mut [usize], drawn: &[Drawn]) -> Result<(), AllocError>
+    requires within { StandWithin (length parents.old) drawn.now }
     requires apart { StandAtThemselves parents.old }
-    requires indexed { Indexes index.old.conductors conductors.now (length conductors.now) }
     ensures { OnOk result
-        (AreClasses (TouchAt conductors.now) (length conductors.now) parents.new) }
+        (AreClasses (DrawnTouch drawn.now) (length parents.old) parents.new) }
 {
-    for place in 0..conductors.len() {
-        let keys = neighbours_of(alloc, index, conductors, place)?;
+    let mut index = TouchIndex::new(alloc);
+    for rank in 0..drawn.len() {
+        enter(&mut index, drawn, rank)?;
+        let keys = index.neighbours(key_at(rank))?;
         // Each answer is dropped before the next is asked: all of them together may be as many as
         // the square of the conductors.
-        unite_keys(parents, place, &keys);
+        unite_keys(parents, drawn, rank, &keys);
     }
     flatten(parents);
     Ok(())
+}
+
+/// The labels of that many places by what is drawn at some of them, each asked.
+fn asked_labels(alloc: Global, drawn: &[Drawn], count: usize) -> Result<Vec<usize>, AllocError>
+    requires { StandWithin count drawn.now }
+    ensures { IfOk result (λ labels. AreClasses (DrawnTouch drawn.now) count labels.items) }
+{
+    let mut labels = places(alloc, count)?;
+    label_touching(alloc, &mut labels, drawn)?;
+    Ok(labels)
+}
+
+/// The labels of that many places by what is drawn at some of them. Of ends of pins in a row that
+/// are at one point, the first alone is asked.
+fn drawn_labels(alloc: Global, drawn: &[Drawn], count: usize) -> Result<Vec<usize>, AllocError>
+    requires { StandWithin count drawn.now }
+    ensures { IfOk result (λ labels. AreClasses (DrawnTouch drawn.now) count labels.items) }
+{
+    let (kept, repeats) = without_repeats(alloc, drawn)?;
+    let mut labels = asked_labels(alloc, &kept, count)?;
+    join_pairs(&mut labels, &repeats);
+    Ok(labels)
 }
 
 /// The least place of the class of each conductor, where only what touches is linked.
@@ -120,8 +114,6 @@ pub(crate) fn touching_labels(
     ensures { IfOk result
         (λ labels. AreClasses (TouchAt conductors.now) (length conductors.now) labels.items) }
 {
-    let mut index = fill(alloc, conductors)?;
-    let mut labels = places(alloc, conductors.len())?;
-    label_touching(alloc, &mut labels, &mut index, conductors)?;
-    Ok(labels)
+    let drawn = drawn_in_order(alloc, conductors)?;
+    drawn_labels(alloc, &drawn, conductors.len())
 }
