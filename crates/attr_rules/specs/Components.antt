@@ -3,6 +3,8 @@
 use Rattle.std.specs.Prelude.{ℕ, ◌==◌, ◌&&◌, not, if◌then◌else◌, Bool, false, List, Option, None, Some, codes, is_some}
 use Rattle.std.specs.List.{list_all}
 use Rattle.std.specs.Str.{bytes_eq}
+use Rattle.geda_model.specs.declared.object.Body.{Body}
+use Rattle.geda_model.specs.declared.object.Body.TheVariants as bodies
 use Rattle.geda_model.specs.Sheets.{ObjectData, SymbolData}
 use Rattle.attr_rules.specs.Attributes.{attr}
 
@@ -15,9 +17,14 @@ is_value expected (Some value) = bytes_eq value expected
 abbrev pub is_graphical : ObjectData → Option SymbolData → Bool
 is_graphical o library = is_value (codes "1") (attr o library (codes "graphical"))
 
--- it has sheets below: it has a `source`, and is not graphical
+-- it has sheets below: it is a component that has a `source` and is not graphical
 abbrev pub has_sources : ObjectData → Option SymbolData → Bool
-has_sources o library = not (is_graphical o library) && is_some (attr o library (codes "source"))
+has_sources o library = of_body o.body
+  where
+    of_body : Body → Bool
+    of_body (bodies.Shape s) = false
+    of_body (bodies.Component c) =
+        not (is_graphical o library) && is_some (attr o library (codes "source"))
 
 -- any byte but LF
 abbrev pub is_no_feed : ℕ → Bool

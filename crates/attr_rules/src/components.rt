@@ -1,10 +1,11 @@
 // What a component is by its attributes.
-ghost use Rattle.std.specs.Prelude.{◌≡◌, option_copied};
+ghost use Rattle.std.specs.Prelude.{◌≡◌, ◌&&◌, codes, is_some, not, option_copied};
 ghost use Rattle.std.specs.List.{list_all};
+ghost use Rattle.attr_rules.specs.Attributes.{attr};
 ghost use Rattle.attr_rules.specs.Components.{has_sources, if_line, is_graphical, is_no_feed, is_value, refdes_of};
 
 use crate::lookups::attr_of;
-use geda_model::{Object, Symbol};
+use geda_model::{Body, Object, Symbol};
 
 fn is_value(expected: &str, value: Option<&str>) -> bool
     ensures { result ≡ is_value expected.now (option_copied value.entry) }
@@ -25,17 +26,28 @@ pub fn is_graphical(object: &Object, library: Option<&Symbol>) -> bool
     is_value("1", attr_of(object, library, "graphical"))
 }
 
-/// Whether a component has sheets below: it has an attribute `source`, and is not graphical
-/// (docs/RULES.md, "Graphical components").
-///
-/// It takes no memory.
-pub fn has_sources(object: &Object, library: Option<&Symbol>) -> bool
-    ensures { result ≡ has_sources object.now (option_copied library.entry) }
+/// Whether it has an attribute `source`, and is not graphical.
+fn names_sheets(object: &Object, library: Option<&Symbol>) -> bool
+    ensures { result ≡ (not (is_graphical object.now (option_copied library.entry))
+        && is_some (attr object.now (option_copied library.entry) (codes "source"))) }
 {
     if is_graphical(object, library) {
         return false;
     }
     attr_of(object, library, "source").is_some()
+}
+
+/// Whether an object has sheets below: it is a component that has an attribute `source` and is not
+/// graphical (docs/RULES.md, "Graphical components").
+///
+/// It takes no memory.
+pub fn has_sources(object: &Object, library: Option<&Symbol>) -> bool
+    ensures { result ≡ has_sources object.now (option_copied library.entry) }
+{
+    match &object.body {
+        Body::Shape(_) => false,
+        Body::Component(_) => names_sheets(object, library),
+    }
 }
 
 fn is_line(value: &str) -> bool

@@ -1,5 +1,5 @@
 // Looking up attributes by name.
-ghost use Rattle.std.specs.Prelude.{◌≡◌, ◌++◌, IfOk, OnOk, option_copied};
+ghost use Rattle.std.specs.Prelude.{◌≡◌, ◌≤◌, ◌++◌, IfOk, OnOk, length, option_copied};
 ghost use Rattle.std.specs.List.{filter_map, slice_get};
 ghost use Rattle.attr_rules.specs.Attributes.{value_named, values_named, free_text, parts_of, attr, attrs};
 ghost use Rattle.attr_rules.specs.steps.PartValues.{value_in_part};
@@ -55,8 +55,11 @@ fn first_in_parts<'a>(parts: &'a [Part], name: &str) -> Option<&'a str>
     None
 }
 
-fn parts_of<'a>(object: &'a Object, library: Option<&'a Symbol>) -> &'a [Part]
-    ensures { result.now ≡ parts_of object.now (option_copied library.entry) }
+/// The parts of an object's symbol: of the embedded one of a component, else of `library`
+/// (docs/RULES.md, "Attributes"). A shape has none. It takes no memory.
+pub fn parts_of<'a>(object: &'a Object, library: Option<&'a Symbol>) -> &'a [Part]
+    ensures parts { result.now ≡ parts_of object.now (option_copied library.entry) }
+    ensures few { length result.now ≤ 4294967295 }
 {
     match &object.body {
         Body::Shape(_) => &[],

@@ -8,6 +8,7 @@ pub mod CrowdLemmas
 pub mod WayLemmas
 pub mod OnceLemmas
 pub mod SourceLemmas
+pub mod KnownLemmas
 pub mod OrderLemmas
 pub mod ParentLemmas
 pub mod Cases

@@ -65,7 +65,7 @@ sources_apart names values pairs =
     (pairs_weaker ◌≢◌ (λ u v. NameApart (place_of names u) (place_of names v)) (places_apart names) values pairs)
 
 -- the rows of a map have two keys
-rows_apart : (p : ProjectData) → AllPairs (λ (r s : ℕ × Placed). r.0 ≢ s.0) (entries p.objects)
+pub rows_apart : (p : ProjectData) → AllPairs (λ (r s : ℕ × Placed). r.0 ≢ s.0) (entries p.objects)
 rows_apart p i j d lt h same =
     let es = entries p.objects in
     let key : ℕ × Placed → ℕ = λ r. r.0 in

@@ -60,7 +60,7 @@ any_default [] k a b h = absurd (omega arith)
 any_default (s ∷ ss) zero a b h = refl
 any_default (s ∷ ss) (suc k) a b h = any_default ss k a b (omega arith)
 
-last_from : (place : ℕ) (s : Step) (ss : List Step) → last_sheet (record { root = place; steps = s ∷ ss }) ≡ last_sheet (record { root = s.sheet; steps = ss })
+pub last_from : (place : ℕ) (s : Step) (ss : List Step) → last_sheet (record { root = place; steps = s ∷ ss }) ≡ last_sheet (record { root = s.sheet; steps = ss })
 last_from place s [] = refl
 last_from place s (t ∷ ts) =
     let e : length (s ∷ t ∷ ts) - 1 ≡ suc (length (t ∷ ts) - 1) = omega arith in
@@ -189,7 +189,7 @@ module _ (sheets : List TableSheetData) where
   steps_inside sources place (s ∷ ss) down =
       All-cons (λ q. q < length sheets) s.sheet (map (λ s. s.sheet) ss) (step_inside sources place s down.0) (steps_inside sources s.sheet ss down.1)
 
-  sheets_inside : AreSources sheets → (w : WayData) → IsWay sheets w → All (λ q. q < length sheets) (sheets_on w)
+  pub sheets_inside : AreSources sheets → (w : WayData) → IsWay sheets w → All (λ q. q < length sheets) (sheets_on w)
   sheets_inside sources w way =
       All-cons (λ q. q < length sheets) w.root (map (λ s. s.sheet) w.steps) (All-contains (λ place. place < length sheets) (roots sheets) w.root roots_inside way.from_root)
       (steps_inside sources w.root w.steps way.down)

@@ -1,5 +1,5 @@
 -- The instances of a project's sheets, what is left out of them, and when there are too many (own).
-use Rattle.std.specs.Prelude.{ℕ, ◌==◌, ◌&&◌, ◌-◌, Bool, true, false, if◌then◌else◌, List, [], ◌∷◌, Option, None, length, map, take}
+use Rattle.std.specs.Prelude.{◌≡◌, ℕ, ◌==◌, ◌&&◌, ◌-◌, Bool, true, false, if◌then◌else◌, List, [], ◌∷◌, Option, None, length, map, take}
 use Rattle.std.specs.List.{position}
 use Rattle.std.specs.Str.{bytes_eq}
 use Rattle.geda_model.specs.Projects.{ProjectData}
@@ -51,6 +51,10 @@ instances sheets = map (instance_of sheets (ways sheets)) (ways sheets)
 -- the instances of a project: from the roots on, each directly before its children
 abbrev pub instances_of : ProjectData → List Instance
 instances_of p = instances (sheet_table p)
+
+-- two instances differ in their route or in their sheet
+abbrev pub AreApart : Instance → Instance → Type 0
+AreApart a b = ¬ ((a.route ≡ b.route) × (a.sheet ≡ b.sheet))
 
 -- what the hierarchy of a project leaves out
 abbrev pub lost_of : ProjectData → List Lost

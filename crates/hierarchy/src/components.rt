@@ -1,11 +1,10 @@
 // The hierarchical components of a project, and what its objects weigh.
-ghost use Rattle.std.specs.Prelude.{◌≡◌, ◌≤◌, ◌+◌, IfOk, OnOk, length, map, option_copied};
+ghost use Rattle.std.specs.Prelude.{◌≡◌, IfOk, OnOk, map, option_copied};
 ghost use Rattle.std.specs.HashSet.{contains_text};
 ghost use Rattle.std.specs.List.Sorted.{IsStrictlySortedBy};
 ghost use Rattle.std.specs.Ordering.{nat_cmp};
 ghost use Rattle.std.specs.Cmp.Lexicographic.{slice_cmp};
 ghost use Rattle.geda_defs.specs.Lists.{each_once, with_new};
-ghost use Rattle.attr_rules.specs.Attributes.{parts_of};
 ghost use Rattle.attr_rules.specs.Components.{refdes_of};
 ghost use Rattle.hierarchy.specs.SheetTable.{component_with, source_of};
 ghost use Rattle.hierarchy.specs.steps.SeenTexts.{AddsText, AreTheTexts};
@@ -14,26 +13,9 @@ use crate::places::place_of;
 use crate::table::{HierarchicalComponent, Source};
 use crate::texts::line_of;
 use attr_rules::{attrs_of, refdes_of};
-use geda_model::{Block, Body, Line, Name, Object, Symbol};
+use geda_model::{Block, Line, Name, Object, Symbol};
 use std::alloc::{AllocError, Global};
 use std::collections::HashSet;
-
-/// How many parts the symbol of an object has.
-pub fn part_count(object: &Object, library: Option<&Symbol>) -> usize
-    ensures count { result ≡ length (parts_of object.now (option_copied library.entry)) }
-    ensures few { result ≤ 4294967295 }
-{
-    match &object.body {
-        Body::Shape(_) => 0,
-        Body::Component(component) => match &component.embedded {
-            Some(parts) => parts.as_slice().len(),
-            None => match library {
-                Some(symbol) => symbol.parts.as_slice().len(),
-                None => 0,
-            },
-        },
-    }
-}
 
 fn refdes_line(
     alloc: Global,

@@ -5,7 +5,7 @@ ghost use Rattle.hierarchy.specs.declared.fault.ElabFault.TheVariants as faults;
 ghost use Rattle.hierarchy.specs.SheetTable.{sheet_table};
 ghost use Rattle.hierarchy.specs.Ways.{IsWay, WayData, last_sheet, ways};
 ghost use Rattle.hierarchy.specs.Crowded.{HasTooMany};
-ghost use Rattle.hierarchy.specs.Instances.{IsCrowded, instances, instances_of, lost_of};
+ghost use Rattle.hierarchy.specs.Instances.{AreApart, IsCrowded, instances, instances_of, lost_of};
 ghost use Rattle.hierarchy.specs.Lost.{lost};
 ghost use Rattle.hierarchy.specs.steps.Inside.{AreSources};
 
@@ -51,7 +51,7 @@ fn all_ways(alloc: Global, sheets: &[TableSheet]) -> Result<Vec<Way>, ElabFault>
     Ok(ways)
 }
 
-// The hierarchy of a table of sheets.
+/// The hierarchy of a table of sheets.
 fn hierarchy_of(alloc: Global, sheets: &[TableSheet]) -> Result<Hierarchy, ElabFault>
     requires sources { AreSources sheets.now }
     requires once { AllPairs ◌≢◌ (ways sheets.now) }
@@ -101,4 +101,9 @@ pub fn short_law()
 /// The law that each way stands once in the list.
 pub fn once_law()
     ensures { (p : ProjectData) → AllPairs ◌≢◌ (ways (sheet_table p)) }
+{}
+
+/// The law that an instance is known by its route and its sheet.
+pub fn known_law()
+    ensures { (p : ProjectData) → AllPairs AreApart (instances_of p) }
 {}

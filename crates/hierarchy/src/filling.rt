@@ -9,10 +9,10 @@ ghost use Rattle.geda_model.specs.Tables.{row_now};
 ghost use Rattle.hierarchy.specs.SheetTable.{sheet_table};
 ghost use Rattle.hierarchy.specs.steps.SheetRows.{AreLight, IsTableOf, bare_sheet, with_object};
 
-use crate::components::{component_of, part_count};
+use crate::components::component_of;
 use crate::places::place_of;
 use crate::table::TableSheet;
-use attr_rules::{has_sources, library_of};
+use attr_rules::{has_sources, library_of, parts_of};
 use geda_model::{Name, Object, Placed, Project};
 use std::alloc::{AllocError, Global};
 
@@ -33,7 +33,7 @@ impl TableSheet {
         ensures light { OnOk result (self.new.weight ≤ self.old.weight + 4294967296) }
     {
         let library = library_of(alloc, project, object)?;
-        self.weight += 1 + part_count(object, library) as u128;
+        self.weight += 1 + parts_of(object, library).len() as u128;
         if has_sources(object, library) {
             let component = component_of(alloc, names, id, object, library)?;
             self.components.push(component)?;

@@ -26,7 +26,7 @@ pub struct Instance {
     pub parent: Option<u32>,
 }
 
-// The place of the instance directly above, by the places on the way to the instance before.
+/// The place of the instance directly above, by the places on the way to the instance before.
 fn parent_in(entered: &[u32], way: &Way) -> Option<u32>
     ensures { result ≡ parent_in entered.now way.now }
 {

@@ -19,7 +19,7 @@ mod texts;
 mod way;
 mod widening;
 
-pub use elaboration::{Hierarchy, elaborate, once_law, short_law, ways_law};
+pub use elaboration::{Hierarchy, elaborate, known_law, once_law, short_law, ways_law};
 pub use fault::ElabFault;
 pub use instances::Instance;
 pub use lost::Lost;

@@ -124,7 +124,7 @@ fn children_at(
     }
 }
 
-// Refuses where there would be over 4,096 ways.
+/// Refuses where there would be over 4,096 ways.
 fn push_ways(wide: &mut Vec<Way>, way: Way, children: Vec<Way>) -> Result<(), ElabFault>
     ensures added { OnOk result (wide.new.items ≡ wide.old.items ++ (way ∷ children.items)) }
     ensures many { IsErrOf result faults.TooManyInstances

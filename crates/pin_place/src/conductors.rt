@@ -5,8 +5,8 @@ ghost use Rattle.pin_place.specs.SymbolPins.{symbol_pins};
 ghost use Rattle.pin_place.specs.steps.PinEnds.{conductors_of_shape, ends_from};
 
 use crate::placing::on_sheet;
-use crate::symbol_pins::{parts_of, symbol_pin};
-use attr_rules::is_graphical;
+use crate::symbol_pins::symbol_pin;
+use attr_rules::{is_graphical, parts_of};
 use geda_geom::{Conductor, Point};
 use geda_model::{Body, Component, Object, Part, Shape, Symbol};
 use std::alloc::{AllocError, Global};

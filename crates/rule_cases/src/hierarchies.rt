@@ -18,6 +18,9 @@ const TURNS: &str =
 const PICTURE: &str =
     "C 0 0 1 0 0 a.sym\n{\nT 0 0 5 8 0 1 0 0 1\ngraphical=1\nT 0 0 5 8 0 1 0 0 1\nsource=top.sch\n}\n";
 
+// A wire leads to no sheet, whatever is attached to it.
+const WIRE: &str = "N 0 0 100 0 4\n{\nT 0 0 5 8 0 1 0 0 1\nsource=top.sch\n}\n";
+
 const ITSELF: &str = "C 0 0 1 0 0 a.sym\n{\nT 0 0 5 8 0 1 0 0 1\nsource=own.sch\n}\n";
 
 fn project_of(alloc: Global) -> Result<Project, Fail> {
@@ -30,6 +33,7 @@ fn project_of(alloc: Global) -> Result<Project, Fail> {
     put_object(alloc, &mut project, 2, "low.sch", TURNS)?;
     put_object(alloc, &mut project, 4, "top.sch", PICTURE)?;
     put_object(alloc, &mut project, 5, "own.sch", ITSELF)?;
+    put_object(alloc, &mut project, 6, "top.sch", WIRE)?;
     Ok(project)
 }
 
