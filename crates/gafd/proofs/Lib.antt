@@ -1,8 +1,10 @@
 mod OneOutcome
 mod Passing
 mod Reading
-mod Spaces
-mod LibraryLemmas
-mod GatheringLemmas
+mod ExportLemmas
+mod NameLemmas
+mod NetlistLemmas
 mod OpeningLemmas
 mod TextLemmas
+mod AskingLemmas
+mod SheetLemmas

@@ -1,21 +1,23 @@
 -- A command comes to one outcome: bytes spell one value or have one fault, and a project has one net list.
-use Rattle.std.proofs.Common.{◌≡◌, ℕ, Bool, true, false, List, [], ◌∷◌, Option, Some, None, Result, Ok, Err, inl, inr, sym, ap, ap₂, subst, ◌∙◌}
+use Rattle.std.proofs.Common.{◌≡◌, ℕ, zero, suc, Bool, true, false, List, [], ◌∷◌, Option, Some, None, Result, Ok, Err, inl, inr, sym, ap, ap₂, subst, ◌∙◌}
+use Rattle.std.specs.declared.option.Option.{Option}
 use Rattle.geda_defs.specs.Contents.{Files}
-use Rattle.geda_model.specs.Sheets.{SheetData, SymbolData}
+use Rattle.geda_model.specs.Sheets.{ObjectData}
 use Rattle.geda_model.specs.Projects.{ProjectData}
 use Rattle.geda_grammar.specs.Faults.{FileKind, sheet_file, symbol_file}
 use Rattle.geda_grammar.specs.Laws.{IsDetermined}
 use Rattle.geda_grammar.proofs.ReadingLaws.{sheet_determined, symbol_determined}
 use Rattle.geda_grammar.specs.declared.kind.ReadKind.{ReadKind}
+use Rattle.backends.specs.Forms.{net_text}
+use Rattle.backends.specs.declared.form.Form.TheVariants as forms
 use Rattle.net_names.specs.declared.nets.Nets.{Nets}
-use Rattle.net_names.proofs.Uniqueness.{same_lists}
-use Rattle.gafd.specs.ListText.{list_text}
 use Rattle.gafd.specs.declared.command.Command.{Command}
 use Rattle.gafd.specs.declared.command.Command.TheVariants as commands
 use Rattle.gafd.specs.declared.fault.RunFault.{RunFault}
 use Rattle.gafd.specs.declared.fault.RunFault.TheVariants as faults
-use Rattle.gafd.specs.ProjectFiles.{FileComesTo, GathersTo, Library, ProjectFiles, ReadAs, SheetComesTo, SymbolFileThen, SymbolThen, SymbolsComeTo, project_with, with_symbol}
-use Rattle.gafd.specs.Answers.{ComesTo, NetListAfter, NetListOf, NetlistOf, TextOf, done, is_symbol_name}
+use Rattle.gafd.specs.ProjectFiles.{FileComesTo, Gathered, GathersTo, ObjectComesTo, ObjectsComeTo, ProjectFiles, ReadAs, SheetComesTo, SheetFileComesTo, SheetsComeTo, SymbolComesTo, SymbolFileComesTo, SymbolUnless, Then, is_asked, opened, unread, with_sheet, with_sources, with_symbol}
+use Rattle.gafd.specs.Answers.{ComesTo, NetListOf, NetlistOf, TextOf, done, is_symbol_name}
+use Rattle.net_names.proofs.Uniqueness.{same_lists}
 
 -- two outcomes are one
 abbrev IsOne : {A : Type 0} → (Result A RunFault → Type 0) → Type 0
@@ -33,38 +35,70 @@ read_one file law Comes one name bytes first second (inr (line, kind, fault, is)
     let same = law.one_fault bytes kind other line number fault has in
     is ∙ ap₂ (λ (n : ℕ) (k : ReadKind). Err (faults.Refused name n k)) same.1 same.0 ∙ sym so
 
--- the symbols of a library
-then_one : (Others : Result Library RunFault → Type 0) → IsOne Others → (name : List ℕ) (symbol : SymbolData) → IsOne (SymbolThen Others name symbol)
-then_one Others one name symbol first second (others, come, is) (more, does, so) = is ∙ ap (with_symbol name symbol) (one others more come does) ∙ sym so
+-- what comes after something that comes to one
+then_one : {A B : Type 0} (Next : A → Result B RunFault → Type 0) → ((a : A) → IsOne (Next a)) → (read : Result A RunFault) → IsOne (Then read Next)
+then_one Next one (Ok a) first second p q = one a first second p q
+then_one Next one (Err fault) first second p q = p ∙ sym q
 
-symbol_file_one : (Others : Result Library RunFault → Type 0) → IsOne Others → (name : List ℕ) (file : Option (List ℕ)) → IsOne (SymbolFileThen Others name file)
-symbol_file_one Others one name None first second p q = one first second p q
-symbol_file_one Others one name (Some bytes) first second p q = read_one symbol_file symbol_determined (SymbolThen Others name) (then_one Others one name) name bytes first second p q
+after_one : {A B : Type 0} (Comes : Result A RunFault → Type 0) (Next : A → Result B RunFault → Type 0) → IsOne Comes → ((a : A) → IsOne (Next a)) → (read other : Result A RunFault) (first second : Result B RunFault) → Comes read → Comes other → Then read Next first → Then other Next second → first ≡ second
+after_one {A = A} Comes Next one next read other first second come does p q =
+    then_one Next next other first second (subst (λ (r : Result A RunFault). Then r Next first) (one read other come does) p) q
 
-symbols_one : (files : Files) (names : List (List ℕ)) → IsOne (SymbolsComeTo files names)
-symbols_one files [] first second p q = p ∙ sym q
-symbols_one files (name ∷ names) first second p q = symbol_file_one (SymbolsComeTo files names) (symbols_one files names) name (files name) first second p q
+-- the symbol of an object
+symbol_file_one : (g : Gathered) (name : List ℕ) (file : Option (List ℕ)) → IsOne (SymbolFileComesTo g name file)
+symbol_file_one g name None first second p q = p ∙ sym q
+symbol_file_one g name (Some bytes) first second p q = read_one symbol_file symbol_determined (λ symbol read. read ≡ Ok (with_symbol g name (Some symbol))) (λ symbol one other is so. is ∙ sym so) name bytes first second p q
+
+symbol_unless_one : (asked : Bool) (symbols : Files) (g : Gathered) (name : List ℕ) → IsOne (SymbolUnless asked symbols g name)
+symbol_unless_one true symbols g name first second p q = p ∙ sym q
+symbol_unless_one false symbols g name first second p q = symbol_file_one g name (symbols name) first second p q
+
+symbol_one : (symbols : Files) (g : Gathered) (asked : Option (List ℕ)) → IsOne (SymbolComesTo symbols g asked)
+symbol_one symbols g None first second p q = p ∙ sym q
+symbol_one symbols g (Some name) first second p q = symbol_unless_one (is_asked g name) symbols g name first second p q
+
+-- objects, and the sheet that has them
+object_one : (files : ProjectFiles) (o : ObjectData) (g : Gathered) → IsOne (ObjectComesTo files o g)
+object_one files o g first second (read, come, p) (other, does, q) =
+    after_one (SymbolComesTo files.symbols g _) (λ (known : Gathered) (end : Result Gathered RunFault). end ≡ Ok (with_sources files.sheets o known)) (symbol_one files.symbols g _) (λ known one another is so. is ∙ sym so) read other first second come does p q
+
+objects_one : (files : ProjectFiles) (os : List ObjectData) (g : Gathered) → IsOne (ObjectsComeTo files os g)
+objects_one files [] g first second p q = p ∙ sym q
+objects_one files (o ∷ os) g first second (read, come, p) (other, does, q) =
+    after_one (ObjectComesTo files o g) (ObjectsComeTo files os) (object_one files o g) (objects_one files os) read other first second come does p q
+
+sheet_file_one : (files : ProjectFiles) (g : Gathered) (name : List ℕ) → IsOne (SheetFileComesTo files g name)
+sheet_file_one files g name = file_one _ (read_one sheet_file sheet_determined (SheetComesTo files g) (λ sheet. objects_one files sheet.objects (with_sheet g sheet)) name) name (files.sheets name)
+
+-- sheets, however many there are
+sheets_one : (files : ProjectFiles) (n m : ℕ) (g : Gathered) (first second : Result Gathered RunFault) → SheetsComeTo files n g first → SheetsComeTo files m g second → first ≡ second
+sheets_one files zero zero g first second (none, p) (ends, q) = p ∙ sym q
+sheets_one files zero (suc m) g first second (none, p) (name, next, rest) = absurd (let e : None ≡ Some name = sym none ∙ next in cc)
+sheets_one files (suc n) zero g first second (name, next, rest) (none, q) = absurd (let e : None ≡ Some name = sym none ∙ next in cc)
+sheets_one files (suc n) (suc m) g first second (name, next, (read, come, p)) (more, follows, (other, does, q)) =
+    let same : name ≡ more = let e : Some name ≡ Some more = sym next ∙ follows in cc in
+    let one : read ≡ other = sheet_file_one files g more read other (subst (λ (file : List ℕ). SheetFileComesTo files g file read) same come) does in
+    go (λ known. sheets_one files n m known first second) other (subst (λ (r : Result Gathered RunFault). Then r (SheetsComeTo files n) first) one p) q
+  where
+    go : ((known : Gathered) → SheetsComeTo files n known first → SheetsComeTo files m known second → first ≡ second) → (r : Result Gathered RunFault) → Then r (SheetsComeTo files n) first → Then r (SheetsComeTo files m) second → first ≡ second
+    go rest (Ok known) p q = rest known p q
+    go rest (Err fault) p q = p ∙ sym q
 
 -- the project
-sheet_one : (symbols : Files) (name : List ℕ) (sheet : SheetData) → IsOne (SheetComesTo symbols name sheet)
-sheet_one symbols name sheet first second (read, come, is) (other, does, so) = is ∙ ap (project_with name sheet) (symbols_one symbols _ read other come does) ∙ sym so
+gathers_one : (files : ProjectFiles) (names : List (List ℕ)) → IsOne (GathersTo files names)
+gathers_one files names first second (n, (read, come, p)) (m, (other, does, q)) =
+    let same = sheets_one files n m (unread names) read other come does in
+    then_one (λ (g : Gathered) (end : Result ProjectData RunFault). end ≡ opened g) (λ g one another is so. is ∙ sym so) other first second (subst (λ (r : Result Gathered RunFault). Then r (λ (g : Gathered) (end : Result ProjectData RunFault). end ≡ opened g) first) same p) q
 
-gathers_one : (files : ProjectFiles) (name : List ℕ) → IsOne (GathersTo files name)
-gathers_one files name = file_one _ (read_one sheet_file sheet_determined (SheetComesTo files.symbols name) (sheet_one files.symbols name) name) name (files.sheets name)
+nets_one : (project : ProjectData) → IsOne (NetListOf project)
+nets_one project first second (inl (crowded, p)) (inl (too, q)) = p ∙ sym q
+nets_one project first second (inl (crowded, p)) (inr (room, list)) = absurd (room crowded)
+nets_one project first second (inr (room, list)) (inl (crowded, q)) = absurd (room crowded)
+nets_one project first second (inr (room, (nets, list, p))) (inr (too, (others, lists, q))) = p ∙ ap (λ (n : Nets). done (net_text forms.List n)) (same_lists project nets others list lists) ∙ sym q
 
-nets_one : (name : List ℕ) (project : ProjectData) → IsOne (NetListOf name project)
-nets_one name project first second (inl (flat, (nets, list, is))) (inl (same, (others, lists, so))) = is ∙ ap (λ (n : Nets). done (list_text n)) (same_lists project nets others list lists) ∙ sym so
-nets_one name project first second (inl (flat, (nets, list, is))) (inr (other, so)) = absurd (other flat)
-nets_one name project first second (inr (other, is)) (inl (flat, (nets, list, so))) = absurd (other flat)
-nets_one name project first second (inr (other, is)) (inr (another, so)) = is ∙ sym so
-
-after_one : (name : List ℕ) (gathered : Result ProjectData RunFault) → IsOne (NetListAfter name gathered)
-after_one name (Ok project) first second p q = nets_one name project first second p q
-after_one name (Err fault) first second p q = p ∙ sym q
-
-netlist_one : (files : ProjectFiles) (name : List ℕ) → IsOne (NetlistOf files name)
-netlist_one files name first second (gathered, come, out) (other, does, goes) =
-    after_one name other first second (subst (λ (g : Result ProjectData RunFault). NetListAfter name g first) (gathers_one files name gathered other come does) out) goes
+netlist_one : (files : ProjectFiles) (names : List (List ℕ)) → IsOne (NetlistOf files names)
+netlist_one files names first second (gathered, come, p) (other, does, q) =
+    after_one (GathersTo files names) NetListOf (gathers_one files names) nets_one gathered other first second come does p q
 
 text_one : (is_symbol : Bool) (name bytes : List ℕ) → IsOne (TextOf is_symbol name bytes)
 text_one true name bytes = read_one symbol_file symbol_determined _ (λ value first second p q. p ∙ sym q) name bytes
@@ -73,5 +107,5 @@ text_one false name bytes = read_one sheet_file sheet_determined _ (λ value fir
 -- so a command comes to one
 pub same_outcomes : (files : Files) (command : Option Command) → IsOne (ComesTo (Some files) command)
 same_outcomes files None first second p q = p ∙ sym q
-same_outcomes files (Some (commands.Netlist name)) first second p q = netlist_one (record { sheets = files; symbols = files }) name first second p q
+same_outcomes files (Some (commands.Netlist names)) first second p q = netlist_one (record { sheets = files; symbols = files }) names first second p q
 same_outcomes files (Some (commands.Export name)) first second p q = file_one _ (text_one (is_symbol_name name) name) name (files name) first second p q

@@ -1,146 +1,169 @@
--- The change that opens a project can be applied, and the project has one sheet.
-use Rattle.std.proofs.Common.{◌≡◌, ◌≢◌, ℕ, suc, ◌+◌, ◌<◌, ◌≤◌, ◌^◌, List, [], ◌∷◌, ◌++◌, Option, Some, None, Ok, All, length, get_or, inl, inr, refl, sym, ap, subst, ◌∙◌, arith}
-use Rattle.std.specs.declared.option.Option.{Option}
-use Rattle.std.specs.List.{AllPairs}
+-- The change that opens a project can be applied: its things differ, and their ids are in range.
+use Rattle.std.proofs.Common.{◌≡◌, ◌≢◌, ℕ, suc, ◌+◌, ◌<◌, ◌≤◌, ◌^◌, List, [], ◌∷◌, ◌++◌, Some, None, All, length, get_or, refl, sym, ◌∙◌, arith}
+use Rattle.std.specs.Prelude.{⊤}
+use Rattle.std.specs.List.{AllPairs, filter_map, flat_map}
+use Rattle.std.proofs.lemmas.List.{length-append}
 use Rattle.std.proofs.lemmas.List.Kept.{AllPairs-cons}
-use Rattle.std.proofs.lemmas.List.Elements.{All-cons, All-nil}
-use Rattle.std.specs.FinMap as finite
-use Rattle.geda_defs.specs.Contents.{Files}
-use Rattle.geda_model.specs.Sheets.{ObjectData, SheetData}
+use Rattle.std.proofs.lemmas.List.Elements.{All-append, All-cons, All-nil}
+use Rattle.geda_model.specs.Sheets.{ObjectData, SheetData, SymbolData}
 use Rattle.geda_model.specs.declared.change.Thing.{Thing}
 use Rattle.geda_model.specs.declared.change.Thing.TheVariants as things
-use Rattle.geda_model.specs.declared.change.Value.{Value}
 use Rattle.geda_model.specs.declared.change.Value.TheVariants as values
 use Rattle.geda_model.specs.Items.{Item}
-use Rattle.geda_model.specs.Projects.{ProjectData, no_parts}
-use Rattle.geda_model.specs.Changes.{CanApply, IsIdInRange, put, put_one}
-use Rattle.net_names.specs.ListedParts.{HasOneSheet}
-use Rattle.gafd.specs.ProjectFiles.{Library, SymbolFileThen, SymbolsComeTo, object_items, opening, symbol_items}
-use Rattle.gafd.proofs.LibraryLemmas.{with_symbol_ok}
+use Rattle.geda_model.specs.Changes.{CanApply, IsIdInRange}
+use Rattle.gafd.specs.ProjectFiles.{AskedSymbol, Gathered, Library, all_objects, found_symbol, library_of, object_items, opening, sheet_items, sheets_items, symbol_items}
+use Rattle.gafd.specs.steps.Gathering.{IsWhole}
 
 -- the two items are of different things
 abbrev Differ : Item → Item → Type 0
 Differ a b = a.0 ≢ b.0
 
--- a thing that is an object from an id on, or a symbol whose name passes
-abbrev IsOpen : ℕ → (List ℕ → Type 0) → Thing → Type 0
-IsOpen id P (things.Object i) = id ≤ i
-IsOpen id P (things.SheetName name) = ⊥
-IsOpen id P (things.SymbolName name) = P name
+-- something holds of the things of all items
+abbrev AllThings : (Thing → Type 0) → List Item → Type 0
+AllThings P items = All (λ (item : Item). P item.0) items
 
--- the symbols that were read have names of those that were asked
-pub names_pass : (files : Files) (names : List (List ℕ)) (library : Library) (id : ℕ) (P : List ℕ → Type 0) → All P names → SymbolsComeTo files names (Ok library) → All (λ (item : Item). IsOpen id P item.0) (symbol_items library)
-names_pass files [] library id P pass h = let e : library ≡ [] = cc in subst (λ (l : Library). All (λ (item : Item). IsOpen id P item.0) (symbol_items l)) (sym e) (All-nil _)
-names_pass files (name ∷ names) library id P pass h = go (files name) (λ l. names_pass files names l id P (λ k d lt. pass (suc k) d (omega arith))) h
-  where
-    go : (file : Option (List ℕ)) → ((l : Library) → SymbolsComeTo files names (Ok l) → All (λ (item : Item). IsOpen id P item.0) (symbol_items l)) → SymbolFileThen (SymbolsComeTo files names) name file (Ok library) → All (λ (item : Item). IsOpen id P item.0) (symbol_items library)
-    go None tail h = tail library h
-    go (Some bytes) tail (inl (symbol, spelled, (others, come, is))) =
-        let split = with_symbol_ok name symbol library others is in
-        let item : Item = (things.SymbolName name, Some (values.Symbol symbol)) in
-        subst (λ (l : Library). All (λ (item : Item). IsOpen id P item.0) (symbol_items l)) (sym split.2)
-        (All-cons (λ (item : Item). IsOpen id P item.0) item (symbol_items split.0) (pass 0 name (omega arith)) (tail split.0 (subst (SymbolsComeTo files names) split.1 come)))
-    go (Some bytes) tail (inr (line, kind, fault, is)) = absurd cc
+-- an object from an id on, or a sheet whose name passes
+abbrev IsAhead : ℕ → (List ℕ → Type 0) → Thing → Type 0
+IsAhead id P (things.Object i) = id ≤ i
+IsAhead id P (things.SheetName name) = P name
+IsAhead id P (things.SymbolName name) = ⊥
 
--- a symbol whose name is another one
-differs_from : (name : List ℕ) (item : Item) (value : Option Value) → IsOpen 0 (λ (n : List ℕ). name ≢ n) item.0 → Differ (things.SymbolName name, value) item
-differs_from name item value h = go item.0 h
-  where
-    go : (t : Thing) → IsOpen 0 (λ (n : List ℕ). name ≢ n) t → things.SymbolName name ≢ t
-    go (things.Object i) h e = absurd cc
-    go (things.SheetName other) h e = absurd cc
-    go (things.SymbolName other) h e = h cc
+-- an object below an id, or the sheet of a name
+abbrev IsBehind : ℕ → List ℕ → Thing → Type 0
+IsBehind id name (things.Object i) = i < id
+IsBehind id name (things.SheetName other) = other ≡ name
+IsBehind id name (things.SymbolName other) = ⊥
 
--- no name stands twice among them
-pub symbols_differ : (files : Files) (names : List (List ℕ)) (library : Library) → AllPairs ◌≢◌ names → SymbolsComeTo files names (Ok library) → AllPairs Differ (symbol_items library)
-symbols_differ files [] library apart h = let e : library ≡ [] = cc in subst (λ (l : Library). AllPairs Differ (symbol_items l)) (sym e) (λ i j d lt end. absurd (omega arith))
-symbols_differ files (name ∷ names) library apart h = go (files name) (λ l. symbols_differ files names l (λ i j d lt end. apart (suc i) (suc j) d (omega arith) (omega arith))) h
-  where
-    go : (file : Option (List ℕ)) → ((l : Library) → SymbolsComeTo files names (Ok l) → AllPairs Differ (symbol_items l)) → SymbolFileThen (SymbolsComeTo files names) name file (Ok library) → AllPairs Differ (symbol_items library)
-    go None tail h = tail library h
-    go (Some bytes) tail (inl (symbol, spelled, (others, come, is))) =
-        let split = with_symbol_ok name symbol library others is in
-        let item : Item = (things.SymbolName name, Some (values.Symbol symbol)) in
-        let rest = subst (SymbolsComeTo files names) split.1 come in
-        let others_pass = names_pass files names split.0 0 (λ (n : List ℕ). name ≢ n) (λ k d lt. apart 0 (suc k) d (omega arith) (omega arith)) rest in
-        subst (λ (l : Library). AllPairs Differ (symbol_items l)) (sym split.2)
-        (AllPairs-cons Differ item (symbol_items split.0) (λ k d lt. differs_from name (get_or (symbol_items split.0) k d) (Some (values.Symbol symbol)) (others_pass k d lt)) (tail split.0 rest))
-    go (Some bytes) tail (inr (line, kind, fault, is)) = absurd cc
+-- a symbol whose name passes
+abbrev IsSymbol : (List ℕ → Type 0) → Thing → Type 0
+IsSymbol P (things.Object i) = ⊥
+IsSymbol P (things.SheetName name) = ⊥
+IsSymbol P (things.SymbolName name) = P name
 
--- a thing that no later object has: an object from an id on, or a symbol
-abbrev IsLater : ℕ → Thing → Type 0
-IsLater id (things.Object i) = id ≤ i
-IsLater id (things.SheetName name) = ⊥
-IsLater id (things.SymbolName name) = Unit {0}
+-- the items of an object, a sheet and a symbol
+abbrev object_item : List ℕ → ℕ → ObjectData → Item
+object_item name id o = (things.Object id, Some (values.Object (record { sheet = name; object = o })))
 
-later_symbols : (id : ℕ) (library : Library) → All (λ (item : Item). IsLater id item.0) (symbol_items library)
-later_symbols id [] = All-nil _
-later_symbols id (symbol ∷ library) =
-    let item : Item = (things.SymbolName symbol.0, Some (values.Symbol symbol.1)) in
-    All-cons (λ (item : Item). IsLater id item.0) item (symbol_items library) tt (later_symbols id library)
+abbrev head_item : List ℕ → SheetData → Item
+head_item name sheet = (things.SheetName name, Some (values.Head sheet.head))
 
-earlier : (id : ℕ) (t : Thing) → IsLater (id + 1) t → IsLater id t
-earlier id (things.Object i) h = omega arith
-earlier id (things.SheetName name) h = h
-earlier id (things.SymbolName name) h = tt
+abbrev symbol_item : List ℕ → SymbolData → Item
+symbol_item name symbol = (things.SymbolName name, Some (values.Symbol symbol))
 
-another : (id : ℕ) (t : Thing) → IsLater (id + 1) t → things.Object id ≢ t
-another id (things.Object i) h e = absurd (let k : id ≡ i = cc in omega arith)
-another id (things.SheetName name) h e = absurd h
-another id (things.SymbolName name) h e = absurd cc
+-- items that differ, before others from which they differ
+pairs_append : {X : Type 0} (R : X → X → Type 0) (xs ys : List X) → AllPairs R xs → AllPairs R ys → All (λ x. All (R x) ys) xs → AllPairs R (xs ++ ys)
+pairs_append R [] ys p q cross = q
+pairs_append R (x ∷ xs) ys p q cross =
+    let here : All (R x) (xs ++ ys) = All-append (R x) xs ys (λ k d lt. p 0 (suc k) d (omega arith) (omega arith)) (cross 0 x (omega arith)) in
+    AllPairs-cons R x (xs ++ ys) here (pairs_append R xs ys (λ i j d lt end. p (suc i) (suc j) d (omega arith) (omega arith)) q (λ k d lt. cross (suc k) d (omega arith)))
 
-no_sheet : (id : ℕ) (name : List ℕ) (t : Thing) → IsLater id t → things.SheetName name ≢ t
-no_sheet id name (things.Object i) h e = absurd cc
-no_sheet id name (things.SheetName other) h e = absurd h
-no_sheet id name (things.SymbolName other) h e = absurd cc
+behind_ahead : (id : ℕ) (name : List ℕ) (a b : Thing) → IsBehind id name a → IsAhead id (λ other. name ≢ other) b → a ≢ b
+behind_ahead id name (things.Object i) (things.Object j) p q e = absurd (let k : i ≡ j = cc in omega arith)
+behind_ahead id name (things.Object i) (things.SheetName other) p q e = absurd cc
+behind_ahead id name (things.Object i) (things.SymbolName other) p q e = absurd q
+behind_ahead id name (things.SheetName n) (things.Object j) p q e = absurd cc
+behind_ahead id name (things.SheetName n) (things.SheetName other) p q e = q (let same : n ≡ other = cc in sym p ∙ same)
+behind_ahead id name (things.SheetName n) (things.SymbolName other) p q e = absurd q
+behind_ahead id name (things.SymbolName n) b p q e = absurd p
 
-module _ (sheet : List ℕ) (library : Library) where
-  -- objects from an id on, and the symbols behind them
-  abbrev items_from : ℕ → List ObjectData → List Item
-  items_from id objects = object_items sheet id objects ++ symbol_items library
+ahead_symbol : (P Q : List ℕ → Type 0) (a b : Thing) → IsAhead 0 P a → IsSymbol Q b → a ≢ b
+ahead_symbol P Q (things.Object i) (things.SymbolName other) p q e = absurd cc
+ahead_symbol P Q (things.SheetName n) (things.SymbolName other) p q e = absurd cc
+ahead_symbol P Q (things.SymbolName n) b p q e = absurd p
+ahead_symbol P Q a (things.Object j) p q e = absurd q
+ahead_symbol P Q a (things.SheetName n) p q e = absurd q
 
-  later : (id : ℕ) (objects : List ObjectData) → All (λ (item : Item). IsLater id item.0) (items_from id objects)
-  later id [] = later_symbols id library
-  later id (o ∷ os) =
-      let item : Item = (things.Object id, Some (values.Object (record { sheet = sheet; object = o }))) in
-      let rest = later (id + 1) os in
-      All-cons (λ (item : Item). IsLater id item.0) item (items_from (id + 1) os) (omega arith) (λ k d lt. earlier id (get_or (items_from (id + 1) os) k d).0 (rest k d lt))
+symbol_apart : (name : List ℕ) (b : Thing) → IsSymbol (λ other. name ≢ other) b → things.SymbolName name ≢ b
+symbol_apart name (things.Object j) q e = absurd q
+symbol_apart name (things.SheetName n) q e = absurd q
+symbol_apart name (things.SymbolName other) q e = q cc
 
-  differ_from : (id : ℕ) (objects : List ObjectData) → AllPairs Differ (symbol_items library) → AllPairs Differ (items_from id objects)
-  differ_from id [] apart = apart
-  differ_from id (o ∷ os) apart =
-      let item : Item = (things.Object id, Some (values.Object (record { sheet = sheet; object = o }))) in
-      let rest = later (id + 1) os in
-      AllPairs-cons Differ item (items_from (id + 1) os) (λ k d lt. another id (get_or (items_from (id + 1) os) k d).0 (rest k d lt)) (differ_from (id + 1) os apart)
+-- objects have rising ids
+ahead_objects : (from id : ℕ) (P : List ℕ → Type 0) (name : List ℕ) (os : List ObjectData) → from ≤ id → AllThings (IsAhead from P) (object_items name id os)
+ahead_objects from id P name [] le = All-nil _
+ahead_objects from id P name (o ∷ os) le = All-cons (λ (item : Item). IsAhead from P item.0) (object_item name id o) (object_items name (id + 1) os) le (ahead_objects from (id + 1) P name os (omega arith))
 
-  in_range_from : (id : ℕ) (objects : List ObjectData) → id + length objects < 2 ^ 32 → All (λ (item : Item). IsIdInRange item.0) (items_from id objects)
-  in_range_from id [] few = symbols_in_range library
-    where
-      symbols_in_range : (l : Library) → All (λ (item : Item). IsIdInRange item.0) (symbol_items l)
-      symbols_in_range [] = All-nil _
-      symbols_in_range (symbol ∷ l) = All-cons (λ (item : Item). IsIdInRange item.0) _ (symbol_items l) tt (symbols_in_range l)
-  in_range_from id (o ∷ os) few =
-      All-cons (λ (item : Item). IsIdInRange item.0) _ (items_from (id + 1) os) (omega arith) (in_range_from (id + 1) os (omega arith))
+behind_objects : (next id : ℕ) (sheet name : List ℕ) (os : List ObjectData) → id + length os ≤ next → AllThings (IsBehind next sheet) (object_items name id os)
+behind_objects next id sheet name [] le = All-nil _
+behind_objects next id sheet name (o ∷ os) le = All-cons (λ (item : Item). IsBehind next sheet item.0) (object_item name id o) (object_items name (id + 1) os) (omega arith) (behind_objects next (id + 1) sheet name os (omega arith))
+
+objects_apart : (id : ℕ) (name : List ℕ) (os : List ObjectData) → AllPairs Differ (object_items name id os)
+objects_apart id name [] = λ i j d lt end. absurd (omega arith)
+objects_apart id name (o ∷ os) =
+    let rest = ahead_objects (id + 1) (id + 1) (λ other. name ≢ other) name os (omega arith) in
+    AllPairs-cons Differ (object_item name id o) (object_items name (id + 1) os) (λ k d lt. behind_ahead (id + 1) name (things.Object id) (get_or (object_items name (id + 1) os) k d).0 (omega arith) (rest k d lt)) (objects_apart (id + 1) name os)
+
+-- a sheet differs from its objects
+no_object : (id : ℕ) (name : List ℕ) (b : Thing) → IsAhead id (λ other. name ≢ other) b → things.SheetName name ≢ b
+no_object id name b q = behind_ahead id name (things.SheetName name) b refl q
+
+sheet_apart : (id : ℕ) (name : List ℕ) (sheet : SheetData) → AllPairs Differ (sheet_items name id sheet)
+sheet_apart id name sheet =
+    let rest = ahead_objects id id (λ other. name ≢ other) name sheet.objects (omega arith) in
+    AllPairs-cons Differ (head_item name sheet) (object_items name id sheet.objects) (λ k d lt. no_object id name (get_or (object_items name id sheet.objects) k d).0 (rest k d lt)) (objects_apart id name sheet.objects)
+
+behind_sheet : (id : ℕ) (name : List ℕ) (sheet : SheetData) → AllThings (IsBehind (id + length sheet.objects) name) (sheet_items name id sheet)
+behind_sheet id name sheet = All-cons (λ (item : Item). IsBehind (id + length sheet.objects) name item.0) (head_item name sheet) (object_items name id sheet.objects) refl (behind_objects (id + length sheet.objects) id name name sheet.objects (omega arith))
+
+-- sheets have rising ids
+ahead_sheets : (from id : ℕ) (P : List ℕ → Type 0) (names : List (List ℕ)) (sheets : List SheetData) → from ≤ id → All P names → AllThings (IsAhead from P) (sheets_items id names sheets)
+ahead_sheets from id P [] sheets le pass = All-nil _
+ahead_sheets from id P (name ∷ names) [] le pass = All-nil _
+ahead_sheets from id P (name ∷ names) (sheet ∷ sheets) le pass =
+    let first : AllThings (IsAhead from P) (sheet_items name id sheet) = All-cons (λ (item : Item). IsAhead from P item.0) (head_item name sheet) (object_items name id sheet.objects) (pass 0 name (omega arith)) (ahead_objects from id P name sheet.objects le) in
+    All-append (λ (item : Item). IsAhead from P item.0) (sheet_items name id sheet) (sheets_items (id + length sheet.objects) names sheets) first (ahead_sheets from (id + length sheet.objects) P names sheets (omega arith) (λ k d lt. pass (suc k) d (omega arith)))
+
+sheets_apart : (id : ℕ) (names : List (List ℕ)) (sheets : List SheetData) → AllPairs ◌≢◌ names → AllPairs Differ (sheets_items id names sheets)
+sheets_apart id [] sheets apart = λ i j d lt end. absurd (omega arith)
+sheets_apart id (name ∷ names) [] apart = λ i j d lt end. absurd (omega arith)
+sheets_apart id (name ∷ names) (sheet ∷ sheets) apart =
+    let next = id + length sheet.objects in
+    let rest = sheets_items next names sheets in
+    let here = behind_sheet id name sheet in
+    let ahead = ahead_sheets next next (λ other. name ≢ other) names sheets (omega arith) (λ k d lt. apart 0 (suc k) d (omega arith) (omega arith)) in
+    pairs_append Differ (sheet_items name id sheet) rest (sheet_apart id name sheet) (sheets_apart next names sheets (λ i j d lt end. apart (suc i) (suc j) d (omega arith) (omega arith)))
+    (λ k d lt. λ j e le. behind_ahead next name (get_or (sheet_items name id sheet) k d).0 (get_or rest j e).0 (here k d lt) (ahead j e le))
+
+-- symbols stand under their names
+pass_symbols : (P : List ℕ → Type 0) (symbols : List AskedSymbol) → All (λ (asked : AskedSymbol). P asked.0) symbols → AllThings (IsSymbol P) (symbol_items (filter_map found_symbol symbols))
+pass_symbols P [] pass = All-nil _
+pass_symbols P ((name, None) ∷ symbols) pass = pass_symbols P symbols (λ k d lt. pass (suc k) d (omega arith))
+pass_symbols P ((name, Some symbol) ∷ symbols) pass =
+    All-cons (λ (item : Item). IsSymbol P item.0) (symbol_item name symbol) (symbol_items (filter_map found_symbol symbols)) (pass 0 (name, Some symbol) (omega arith)) (pass_symbols P symbols (λ k d lt. pass (suc k) d (omega arith)))
+
+symbols_apart : (symbols : List AskedSymbol) → AllPairs (λ (a b : AskedSymbol). a.0 ≢ b.0) symbols → AllPairs Differ (symbol_items (filter_map found_symbol symbols))
+symbols_apart [] apart = λ i j d lt end. absurd (omega arith)
+symbols_apart ((name, None) ∷ symbols) apart = symbols_apart symbols (λ i j d lt end. apart (suc i) (suc j) d (omega arith) (omega arith))
+symbols_apart ((name, Some symbol) ∷ symbols) apart =
+    let rest = symbol_items (filter_map found_symbol symbols) in
+    let others = pass_symbols (λ other. name ≢ other) symbols (λ k d lt. apart 0 (suc k) d (omega arith) (omega arith)) in
+    AllPairs-cons Differ (symbol_item name symbol) rest (λ k d lt. symbol_apart name (get_or rest k d).0 (others k d lt)) (symbols_apart symbols (λ i j d lt end. apart (suc i) (suc j) d (omega arith) (omega arith)))
+
+-- ids in range
+objects_in_range : (id : ℕ) (name : List ℕ) (os : List ObjectData) → id + length os < 2 ^ 32 → AllThings IsIdInRange (object_items name id os)
+objects_in_range id name [] few = All-nil _
+objects_in_range id name (o ∷ os) few = All-cons (λ (item : Item). IsIdInRange item.0) (object_item name id o) (object_items name (id + 1) os) (omega arith) (objects_in_range (id + 1) name os (omega arith))
+
+sheets_in_range : (id : ℕ) (names : List (List ℕ)) (sheets : List SheetData) → id + length (flat_map (λ (sheet : SheetData). sheet.objects) sheets) < 2 ^ 32 → AllThings IsIdInRange (sheets_items id names sheets)
+sheets_in_range id [] sheets few = All-nil _
+sheets_in_range id (name ∷ names) [] few = All-nil _
+sheets_in_range id (name ∷ names) (sheet ∷ sheets) few =
+    let both = length-append sheet.objects (flat_map (λ (sheet : SheetData). sheet.objects) sheets) in
+    let first : AllThings IsIdInRange (sheet_items name id sheet) = All-cons (λ (item : Item). IsIdInRange item.0) (head_item name sheet) (object_items name id sheet.objects) tt (objects_in_range id name sheet.objects (omega (arith, both))) in
+    All-append (λ (item : Item). IsIdInRange item.0) (sheet_items name id sheet) (sheets_items (id + length sheet.objects) names sheets) first (sheets_in_range (id + length sheet.objects) names sheets (omega (arith, both)))
+
+symbols_in_range : (library : Library) → AllThings IsIdInRange (symbol_items library)
+symbols_in_range [] = All-nil _
+symbols_in_range (symbol ∷ library) = All-cons (λ (item : Item). IsIdInRange item.0) (symbol_item symbol.0 symbol.1) (symbol_items library) tt (symbols_in_range library)
 
 -- the change that opens a project can be applied
-pub opening_can_apply : (name : List ℕ) (sheet : SheetData) (library : Library) → length sheet.objects ≤ 4294967295 → AllPairs Differ (symbol_items library) → CanApply (opening name sheet library)
-opening_can_apply name sheet library few apart =
-    let item : Item = (things.SheetName name, Some (values.Head sheet.head)) in
-    let rest = later name library 0 sheet.objects in
+pub opening_can_apply : (g : Gathered) → IsWhole g → length (all_objects g) ≤ 100000 → CanApply (opening g)
+opening_can_apply g whole few =
+    let sheets = sheets_items 0 g.queue g.sheets in
+    let symbols = symbol_items (library_of g) in
+    let ahead = ahead_sheets 0 0 (λ name. ⊤) g.queue g.sheets (omega arith) (λ k d lt. tt) in
+    let named = pass_symbols (λ name. ⊤) g.symbols (λ k d lt. tt) in
     record {
-      distinct = AllPairs-cons Differ item (items_from name library 0 sheet.objects) (λ k d lt. no_sheet 0 name (get_or (items_from name library 0 sheet.objects) k d).0 (rest k d lt)) (differ_from name library 0 sheet.objects apart);
-      in_range = All-cons (λ (item : Item). IsIdInRange item.0) item (items_from name library 0 sheet.objects) tt (in_range_from name library 0 sheet.objects (omega arith));
+      distinct = pairs_append Differ sheets symbols (sheets_apart 0 g.queue g.sheets whole.apart) (symbols_apart g.symbols whole.symbols_apart) (λ k d lt. λ j e le. ahead_symbol (λ name. ⊤) (λ name. ⊤) (get_or sheets k d).0 (get_or symbols j e).0 (ahead k d lt) (named j e le));
+      in_range = All-append (λ (item : Item). IsIdInRange item.0) sheets symbols (sheets_in_range 0 g.queue g.sheets (omega (arith, few))) (symbols_in_range (library_of g));
     }
-
--- objects and symbols change no sheet
-keeps_sheets : (p : ProjectData) (name : List ℕ) (library : Library) (id : ℕ) (objects : List ObjectData) → (put p (items_from name library id objects)).sheets ≡ p.sheets
-keeps_sheets p name library id (o ∷ os) = keeps_sheets (put_one p (things.Object id) (Some (values.Object (record { sheet = name; object = o })))) name library (id + 1) os
-keeps_sheets p name [] id [] = refl
-keeps_sheets p name (symbol ∷ library) id [] = keeps_sheets (put_one p (things.SymbolName symbol.0) (Some (values.Symbol symbol.1))) name library id []
-
--- the project that is opened has one sheet
-pub opened_one_sheet : (name : List ℕ) (sheet : SheetData) (library : Library) → HasOneSheet (put no_parts (opening name sheet library))
-opened_one_sheet name sheet library =
-    let first : ProjectData = put_one no_parts (things.SheetName name) (Some (values.Head sheet.head)) in
-    let one : finite.len first.sheets ≡ 1 = search (finite.gets) in
-    sym (finite.len-entries _) ∙ ap finite.len (keeps_sheets first name library 0 sheet.objects) ∙ one

@@ -15,7 +15,7 @@ use Rattle.gafd.specs.declared.sink.SinkFault.TheVariants as sink
 use Rattle.gafd.specs.ProjectFiles.{ReadAs}
 use Rattle.gafd.specs.Answers.{AnswerData, ComesTo}
 use Rattle.gafd.specs.Runs.{Counts, counts, Ends, EndsWith, HoldsAfter, IsQuiet, Stream}
-use Rattle.gafd.specs.steps.Passing.{AnswerOf, ComesOf, IsRefusalOf, NamesFile, Reports}
+use Rattle.gafd.specs.steps.Passing.{AnswerOf, ComesOf, IsRefusalOf, NamesFile, Reports, with_view}
 
 -- a fault of the reader
 pub refusal : {V A : Type 0} (file : FileKind V) (Comes : V → Result A RunFault → Type 0) (name bytes : List ℕ) (fault : ReadFault) (e : RunFault) → ((kind : ReadKind) (line : ℕ) → fault ≡ read.At kind line → IsFault file bytes kind line) → IsRefusalOf name fault e → ComesOf (ReadAs file Comes name bytes) (Err e)
@@ -27,11 +27,12 @@ pub answer_from : {A : Type 0} (counts : Counts) (P Q : Result A RunFault → Ty
 answer_from counts P Q (Ok answer) f h = f (Ok answer) h
 answer_from counts P Q (Err (faults.Missing file)) f h = f (Err (faults.Missing file)) h
 answer_from counts P Q (Err (faults.Refused file line kind)) f h = f (Err (faults.Refused file line kind)) h
+answer_from counts P Q (Err faults.TooManyObjects) f h = f (Err faults.TooManyObjects) h
 answer_from counts P Q (Err faults.ProjectFull) f h = f (Err faults.ProjectFull) h
+answer_from counts P Q (Err faults.TooManyInstances) f h = f (Err faults.TooManyInstances) h
 answer_from counts P Q (Err faults.Usage) f h = f (Err faults.Usage) h
 answer_from counts P Q (Err faults.FolderFault) f h = absurd h
 answer_from counts P Q (Err faults.OutputFault) f h = h
-answer_from counts P Q (Err (faults.NotYet file)) f h = f (Err (faults.NotYet file)) h
 answer_from counts P Q (Err faults.NoMemory) f h = tt
 
 -- a count that has risen later on has risen from before
@@ -42,12 +43,18 @@ risen before between now later h = omega arith
 pub fault_later : {A B : Type 0} (before between now : ℕ) (P : Result A RunFault → Type 0) (Q : Result B RunFault → Type 0) (e : RunFault) → before ≤ between → (P (Err e) → Q (Err e)) → AnswerOf (counts between now) P (Err e) → AnswerOf (counts before now) Q (Err e)
 fault_later before between now P Q (faults.Missing file) later f h = f h
 fault_later before between now P Q (faults.Refused file line kind) later f h = f h
+fault_later before between now P Q faults.TooManyObjects later f h = f h
 fault_later before between now P Q faults.ProjectFull later f h = f h
+fault_later before between now P Q faults.TooManyInstances later f h = f h
 fault_later before between now P Q faults.Usage later f h = f h
 fault_later before between now P Q faults.FolderFault later f h = risen before between now later h
 fault_later before between now P Q faults.OutputFault later f h = h
-fault_later before between now P Q (faults.NotYet file) later f h = f h
 fault_later before between now P Q faults.NoMemory later f h = tt
+
+-- what a call answers that comes last, as what the whole answers
+pub answer_then : {X A B : Type 0} (before between now : ℕ) (P : Result A RunFault → Type 0) (Q : Result B RunFault → Type 0) (f : X → A) (g : X → B) (r : Result X RunFault) → before ≤ between → ((o : Result X RunFault) → P (with_view f o) → Q (with_view g o)) → AnswerOf (counts between now) P (with_view f r) → AnswerOf (counts before now) Q (with_view g r)
+answer_then before between now P Q f g (Ok x) later as_well h = as_well (Ok x) h
+answer_then before between now P Q f g (Err fault) later as_well h = fault_later before between now P Q fault later (as_well (Err fault)) h
 
 -- what a write that failed left
 first_part : {E : Type 0} (old new : Option (List ℕ)) (piece : List ℕ) (e : E) → Writes old new piece (Err e) → (n : ℕ) × HoldsAfter old new (take n piece)
@@ -65,8 +72,9 @@ module _ (files : Option Files) (command : Option Command) (folder : Counts) (ou
   is_quiet : (f : RunFault) → EndsWith files command folder out (Err f) → NamesFile f → IsQuiet out
   is_quiet (faults.Missing file) h named = h.1
   is_quiet (faults.Refused file line kind) h named = h.1
-  is_quiet (faults.NotYet file) h named = h.1
+  is_quiet faults.TooManyObjects h named = absurd named
   is_quiet faults.ProjectFull h named = absurd named
+  is_quiet faults.TooManyInstances h named = absurd named
   is_quiet faults.Usage h named = absurd named
   is_quiet faults.FolderFault h named = absurd named
   is_quiet faults.OutputFault h named = absurd named

@@ -1,5 +1,5 @@
 -- What the part of a file that was read tells of the whole file.
-use Rattle.std.proofs.Common.{◌≡◌, ℕ, ◌≤◌, Bool, true, false, List, Option, Some, None, Result, Ok, Vec, length, take, inl, inr, subst, arith}
+use Rattle.std.proofs.Common.{◌≡◌, ℕ, ◌≤◌, List, Option, Some, None, Result, Ok, Vec, length, take, inl, inr, subst, arith}
 use Rattle.std.specs.declared.alloc.Global.{Global}
 use Rattle.std.proofs.lemmas.List.{take_all, length-take}
 use Rattle.geda_defs.specs.Contents.{Files, ReadsFile, found_bytes, read_part}
@@ -7,9 +7,7 @@ use Rattle.geda_grammar.specs.declared.kind.ReadKind.{ReadKind}
 use Rattle.geda_grammar.specs.Spelling.{Spells}
 use Rattle.geda_grammar.specs.Faults.{FileKind, IsFault, sheet_file, symbol_file}
 use Rattle.gafd.specs.declared.fault.RunFault.{RunFault}
-use Rattle.gafd.specs.ProjectFiles.{FileComesTo, ReadAs}
-use Rattle.geda_grammar.specs.Canonical.{sheet_text, symbol_text}
-use Rattle.gafd.specs.Answers.{OfFiles, Outcome, TextOf, done}
+use Rattle.gafd.specs.ProjectFiles.{ReadAs}
 use Rattle.gafd.specs.steps.Gathering.{IsFound, IsRead, OfSome, SheetOf, SymbolOf}
 
 whole_if_short : (whole : List ℕ) → length (take 4194305 whole) ≤ 4194304 → take 4194305 whole ≡ whole
@@ -36,14 +34,6 @@ pub symbol_whole : (name : List ℕ) (read : Result _ RunFault) → HoldsOfWhole
 symbol_whole name read None h = h
 symbol_whole name read (Some whole) h = read_whole symbol_file IsFound name whole read h
 
-text_of_whole : (is_symbol : Bool) (name whole : List ℕ) (outcome : Outcome) → TextOf is_symbol name (take 4194305 whole) outcome → TextOf is_symbol name whole outcome
-text_of_whole true name whole outcome = read_whole symbol_file (λ symbol answer. answer ≡ done (symbol_text symbol)) name whole outcome
-text_of_whole false name whole outcome = read_whole sheet_file (λ sheet answer. answer ≡ done (sheet_text sheet)) name whole outcome
-
-pub text_whole : (is_symbol : Bool) (name : List ℕ) (outcome : Outcome) → HoldsOfWhole (λ file. FileComesTo (TextOf is_symbol name) name file outcome)
-text_whole is_symbol name outcome None h = h
-text_whole is_symbol name outcome (Some whole) h = text_of_whole is_symbol name whole outcome h
-
 -- the bytes that were read
 abbrev pub bytes_in : Vec ℕ Global → List ℕ
 bytes_in v = v.items
@@ -56,8 +46,3 @@ of_read {V = V} {E = E} view name asked files found result P is_name is whole re
     go : (fs : Option Files) → ReadsFile {E = E} fs name view (Ok found) → OfSome fs (λ known. P (known name))
     go None h = ((λ (other : List ℕ). found_bytes view found), p)
     go (Some known) h = whole (known name) (subst P h p)
-
--- what holds of the files of a folder, of its files as those of sheets
-pub as_sheets : (files : Option Files) (P : Files → Type 0) → OfSome files P → OfFiles files (λ known. P known.sheets)
-as_sheets None P (known, p) = (record { sheets = known; symbols = known }, p)
-as_sheets (Some known) P p = p

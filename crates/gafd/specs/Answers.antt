@@ -6,11 +6,12 @@ use Rattle.geda_defs.specs.Contents.{Files}
 use Rattle.geda_model.specs.Projects.{ProjectData}
 use Rattle.geda_grammar.specs.Faults.{sheet_file, symbol_file}
 use Rattle.geda_grammar.specs.Canonical.{sheet_text, symbol_text}
+use Rattle.hierarchy.specs.Instances.{IsCrowded}
 use Rattle.net_names.specs.declared.nets.Nets.{Nets}
-use Rattle.net_names.specs.ListedParts.{HasNoSources}
+use Rattle.backends.specs.Forms.{net_text}
+use Rattle.backends.specs.declared.form.Form.TheVariants as forms
 use Rattle.net_names.specs.NetLists.{IsNetListOf}
-use Rattle.gafd.specs.ListText.{list_text}
-use Rattle.gafd.specs.ProjectFiles.{FileComesTo, GathersTo, ProjectFiles, ReadAs}
+use Rattle.gafd.specs.ProjectFiles.{FileComesTo, GathersTo, ProjectFiles, ReadAs, Then}
 use Rattle.gafd.specs.declared.command.Command.{Command}
 use Rattle.gafd.specs.declared.command.Command.TheVariants.{Netlist, Export}
 use Rattle.gafd.specs.declared.fault.RunFault.{RunFault}
@@ -29,23 +30,18 @@ Outcome = Result AnswerData RunFault
 abbrev pub done : List ℕ → Outcome
 done text = Ok (record { text = text; status = 0 })
 
--- the net list of a project; that of one with sheets below others cannot be told yet
-abbrev pub NetListOf : List ℕ → ProjectData → Outcome → Type 0
-NetListOf name project outcome =
-    (HasNoSources project
-    × ((nets : Nets) × IsNetListOf project nets × (outcome ≡ done (list_text nets))))
-    ⊎ (¬ (HasNoSources project) × (outcome ≡ Err (faults.NotYet name)))
+-- the list text of a project's net list, unless its sheets have too many instances
+abbrev pub NetListOf : ProjectData → Outcome → Type 0
+NetListOf project outcome =
+    (IsCrowded project × (outcome ≡ Err faults.TooManyInstances))
+    ⊎ (¬ (IsCrowded project)
+    × ((nets : Nets) × IsNetListOf project nets × (outcome ≡ done (net_text forms.List nets))))
 
--- what a project comes to that is gathered, or the fault that is met
-abbrev pub NetListAfter : List ℕ → Result ProjectData RunFault → Outcome → Type 0
-NetListAfter name (Ok project) outcome = NetListOf name project outcome
-NetListAfter name (Err fault) outcome = outcome ≡ Err fault
-
--- what a sheet comes to with its symbols
-abbrev pub NetlistOf : ProjectFiles → List ℕ → Outcome → Type 0
-NetlistOf files name outcome =
-    (gathered : Result ProjectData RunFault) × GathersTo files name gathered
-    × NetListAfter name gathered outcome
+-- what sheets come to, with those below them and with their symbols
+abbrev pub NetlistOf : ProjectFiles → List (List ℕ) → Outcome → Type 0
+NetlistOf files names outcome =
+    (gathered : Result ProjectData RunFault) × GathersTo files names gathered
+    × Then gathered NetListOf outcome
 
 -- a file with this name is a symbol
 abbrev pub is_symbol_name : List ℕ → Bool
@@ -58,7 +54,7 @@ TextOf false = ReadAs sheet_file (λ sheet outcome. outcome ≡ done (sheet_text
 
 -- what a command comes to
 abbrev pub CommandComesTo : ProjectFiles → Command → Outcome → Type 0
-CommandComesTo files (Netlist name) = NetlistOf files name
+CommandComesTo files (Netlist names) = NetlistOf files names
 CommandComesTo files (Export name) =
     FileComesTo (TextOf (is_symbol_name name) name) name (files.sheets name)
 

@@ -10,11 +10,12 @@ use Rattle.gafd.specs.declared.fault.RunFault.TheVariants as faults
 abbrev pub status_of : RunFault → ℕ
 status_of (faults.Missing file) = 1
 status_of (faults.Refused file line kind) = 1
+status_of faults.TooManyObjects = 1
 status_of faults.ProjectFull = 1
+status_of faults.TooManyInstances = 1
 status_of faults.Usage = 2
 status_of faults.FolderFault = 3
 status_of faults.OutputFault = 4
-status_of (faults.NotYet file) = 9
 status_of faults.NoMemory = 71
 
 -- the name of a kind, as it prints
@@ -39,9 +40,10 @@ error_line (faults.Missing file) = codes "gafd: " ++ file ++ codes ": missing\n"
 error_line (faults.Refused file line kind) =
     codes "gafd: " ++ file ++ codes ":" ++ decimal line
     ++ codes ": " ++ kind_name kind ++ codes "\n"
+error_line faults.TooManyObjects = codes "gafd: TooManyObjects\n"
 error_line faults.ProjectFull = codes "gafd: ProjectFull\n"
+error_line faults.TooManyInstances = codes "gafd: TooManyInstances\n"
 error_line faults.Usage = codes "gafd: usage\n"
 error_line faults.FolderFault = codes "gafd: folder fault\n"
 error_line faults.OutputFault = codes "gafd: output fault\n"
-error_line (faults.NotYet file) = codes "gafd: " ++ file ++ codes ": NotYet\n"
 error_line faults.NoMemory = codes "gafd: out of memory\n"

@@ -1,10 +1,11 @@
--- The project of the files: a sheet, and the symbols that it asks for (own).
-use Rattle.std.specs.Prelude.{◌≡◌, ◌⊎◌, ℕ, ◌+◌, ◌||◌, nat_lt, if◌then◌else◌, Bool, List, [], ◌∷◌, ◌++◌, Result, Ok, Err, Some, None, length, map}
+-- The project of the files: the sheets that are named, those below them, and the symbols that they
+-- ask for (own).
+use Rattle.std.specs.Prelude.{◌≡◌, ◌⊎◌, ℕ, zero, suc, ◌+◌, ◌&&◌, ◌||◌, nat_lt, not, if◌then◌else◌, Bool, true, false, List, [], ◌∷◌, ◌++◌, Result, Ok, Err, Some, None, codes, is_some, length, map, option_and_then, option_map}
 use Rattle.std.specs.declared.option.Option.{Option}
-use Rattle.std.specs.List.{filter_map, sum_by}
+use Rattle.std.specs.List.{filter_map, find, flat_map, fold, list_any, slice_get, sum_by}
+use Rattle.std.specs.Str.{bytes_eq}
 use Rattle.geda_defs.specs.Contents.{Files}
-use Rattle.geda_defs.specs.Lists.{each_once}
-use Rattle.geda_model.specs.Limits.{most_project_text, most_symbols}
+use Rattle.geda_model.specs.Limits.{most_objects, most_project_text, most_sheets, most_symbols}
 use Rattle.geda_model.specs.Names.{is_name}
 use Rattle.geda_model.specs.Shapes.{PartData}
 use Rattle.geda_model.specs.Sheets.{ObjectData, SheetData, SymbolData}
@@ -15,12 +16,19 @@ use Rattle.geda_model.specs.declared.change.Value.TheVariants as values
 use Rattle.geda_model.specs.Items.{Item}
 use Rattle.geda_model.specs.Projects.{ProjectData, no_parts}
 use Rattle.geda_model.specs.Changes.{put}
+use Rattle.attr_rules.specs.Attributes.{attrs}
+use Rattle.attr_rules.specs.Components.{is_graphical}
 use Rattle.geda_grammar.specs.declared.kind.ReadKind.{ReadKind}
 use Rattle.geda_grammar.specs.Spelling.{Spells}
 use Rattle.geda_grammar.specs.Faults.{FileKind, IsFault, sheet_file, symbol_file}
 use Rattle.geda_grammar.specs.Canonical.{object_text, symbol_text}
 use Rattle.gafd.specs.declared.fault.RunFault.{RunFault}
 use Rattle.gafd.specs.declared.fault.RunFault.TheVariants as faults
+
+-- the files of sheets and those of symbols: a name may be read once as each
+pub record ProjectFiles : Type 0 where
+  pub sheets : Files
+  pub symbols : Files
 
 -- what a file of a folder comes to, given what its bytes come to; there may be no such file
 abbrev pub FileComesTo : {A : Type 0} → (List ℕ → Result A RunFault → Type 0) →
@@ -50,39 +58,164 @@ asked_symbol o = of_body o.body
     of_body (bodies.Shape s) = None
     of_body (bodies.Component c) = named_symbol c.basename c.embedded
 
--- the symbol files that a sheet asks for, in the order of its objects, each once
-abbrev pub asked_symbols : List ObjectData → List (List ℕ)
-asked_symbols objects = each_once (filter_map asked_symbol objects)
+-- a symbol file that was asked for, and its symbol, if there is such a file
+abbrev pub AskedSymbol : Type 0
+AskedSymbol = List ℕ × Option SymbolData
+
+-- what is gathered so far: the names of sheets, those that are read first; the sheets that are
+-- read, in the same order; and the symbol files that were asked for
+pub record Gathered : Type 0 where
+  pub queue : List (List ℕ)
+  pub sheets : List SheetData
+  pub symbols : List AskedSymbol
+
+-- nothing is read yet of these sheets
+abbrev pub unread : List (List ℕ) → Gathered
+unread names = record { queue = names; sheets = []; symbols = [] }
+
+-- a symbol file has this name
+abbrev pub has_name : List ℕ → AskedSymbol → Bool
+has_name name asked = bytes_eq name asked.0
+
+-- the symbol file of a name was asked for
+abbrev pub is_asked : Gathered → List ℕ → Bool
+is_asked g name = list_any (has_name name) g.symbols
+
+-- the symbol that was read under a name
+abbrev pub symbol_read : Gathered → List ℕ → Option SymbolData
+symbol_read g name = option_and_then (λ asked. asked.1) (find (has_name name) g.symbols)
+
+-- with one more symbol file
+abbrev pub with_symbol : Gathered → List ℕ → Option SymbolData → Gathered
+with_symbol g name symbol = record {
+  queue = g.queue;
+  sheets = g.sheets;
+  symbols = g.symbols ++ (name, symbol) ∷ [];
+}
+
+-- what the file of a symbol comes to: that there is none is no fault
+abbrev pub SymbolFileComesTo :
+    Gathered → List ℕ → Option (List ℕ) → Result Gathered RunFault → Type 0
+SymbolFileComesTo g name None outcome = outcome ≡ Ok (with_symbol g name None)
+SymbolFileComesTo g name (Some bytes) outcome =
+    ReadAs symbol_file (λ symbol read. read ≡ Ok (with_symbol g name (Some symbol)))
+    name bytes outcome
+
+-- the same, unless the name was asked for before
+abbrev pub SymbolUnless :
+    Bool → Files → Gathered → List ℕ → Result Gathered RunFault → Type 0
+SymbolUnless true symbols g name outcome = outcome ≡ Ok g
+SymbolUnless false symbols g name outcome = SymbolFileComesTo g name (symbols name) outcome
+
+-- what comes of the symbol that an object asks for, if it asks for one
+abbrev pub SymbolComesTo :
+    Files → Gathered → Option (List ℕ) → Result Gathered RunFault → Type 0
+SymbolComesTo symbols g None outcome = outcome ≡ Ok g
+SymbolComesTo symbols g (Some name) outcome = SymbolUnless (is_asked g name) symbols g name outcome
+
+-- the library symbol of an object
+abbrev pub library_read : Gathered → ObjectData → Option SymbolData
+library_read g o = option_and_then (symbol_read g) (asked_symbol o)
+
+-- the sheets that a component with this library symbol names: a graphical one names none
+abbrev pub sources_of : ObjectData → Option SymbolData → List (List ℕ)
+sources_of o library = if is_graphical o library then [] else attrs o library (codes "source")
+
+-- the sheets that an object names
+abbrev pub named_sheets : ObjectData → Option SymbolData → List (List ℕ)
+named_sheets o library = of_body o.body
+  where
+    of_body : Body → List (List ℕ)
+    of_body (bodies.Shape s) = []
+    of_body (bodies.Component c) = sources_of o library
+
+-- a value is the name of a file that the folder has, and is not in the queue
+abbrev pub is_new_sheet : Files → List (List ℕ) → List ℕ → Bool
+is_new_sheet sheets queue value =
+    is_name value && (not (list_any (bytes_eq value) queue) && is_some (sheets value))
+
+-- the queue with such a value behind it
+abbrev pub with_value : Files → List (List ℕ) → List ℕ → List (List ℕ)
+with_value sheets queue value =
+    if is_new_sheet sheets queue value then queue ++ value ∷ [] else queue
+
+-- with the sheets that an object names
+abbrev pub with_sources : Files → ObjectData → Gathered → Gathered
+with_sources sheets o g = record {
+  queue = fold (with_value sheets) g.queue (named_sheets o (library_read g o));
+  sheets = g.sheets;
+  symbols = g.symbols;
+}
+
+-- what comes after something that may be a fault: a fault is what it all comes to
+abbrev pub Then : {A B : Type 0} →
+    Result A RunFault → (A → Result B RunFault → Type 0) → Result B RunFault → Type 0
+Then (Ok a) Next outcome = Next a outcome
+Then (Err fault) Next outcome = outcome ≡ Err fault
+
+-- what an object comes to: first its symbol is read, then the sheets that it names are put behind
+abbrev pub ObjectComesTo :
+    ProjectFiles → ObjectData → Gathered → Result Gathered RunFault → Type 0
+ObjectComesTo files o g outcome =
+    (read : Result Gathered RunFault) × SymbolComesTo files.symbols g (asked_symbol o) read
+    × Then read (λ known end. end ≡ Ok (with_sources files.sheets o known)) outcome
+
+-- what objects come to, in order
+abbrev pub ObjectsComeTo :
+    ProjectFiles → List ObjectData → Gathered → Result Gathered RunFault → Type 0
+ObjectsComeTo files [] g outcome = outcome ≡ Ok g
+ObjectsComeTo files (o ∷ os) g outcome =
+    (read : Result Gathered RunFault) × ObjectComesTo files o g read
+    × Then read (ObjectsComeTo files os) outcome
+
+-- with one more sheet that is read
+abbrev pub with_sheet : Gathered → SheetData → Gathered
+with_sheet g sheet = record {
+  queue = g.queue;
+  sheets = g.sheets ++ sheet ∷ [];
+  symbols = g.symbols;
+}
+
+-- what a sheet comes to that is read
+abbrev pub SheetComesTo :
+    ProjectFiles → Gathered → SheetData → Result Gathered RunFault → Type 0
+SheetComesTo files g sheet outcome =
+    ObjectsComeTo files sheet.objects (with_sheet g sheet) outcome
+
+-- what the file of a sheet comes to
+abbrev pub SheetFileComesTo :
+    ProjectFiles → Gathered → List ℕ → Result Gathered RunFault → Type 0
+SheetFileComesTo files g name outcome =
+    FileComesTo (ReadAs sheet_file (SheetComesTo files g) name) name (files.sheets name) outcome
+
+-- the sheet that is read next
+abbrev pub next_sheet : Gathered → Option (List ℕ)
+next_sheet g = slice_get g.queue (length g.sheets)
+
+-- what so many further sheets come to, after which none is left; less than so many, where there
+-- is a fault
+abbrev pub SheetsComeTo : ProjectFiles → ℕ → Gathered → Result Gathered RunFault → Type 0
+SheetsComeTo files zero g outcome = (next_sheet g ≡ None) × (outcome ≡ Ok g)
+SheetsComeTo files (suc n) g outcome =
+    (name : List ℕ) × (next_sheet g ≡ Some name)
+    × ((read : Result Gathered RunFault) × SheetFileComesTo files g name read
+    × Then read (SheetsComeTo files n) outcome)
 
 -- symbols under their names
 abbrev pub Library : Type 0
 Library = List (List ℕ × SymbolData)
 
--- with one more symbol before them, where they are read
-abbrev pub with_symbol :
-    List ℕ → SymbolData → Result Library RunFault → Result Library RunFault
-with_symbol name symbol (Ok library) = Ok ((name, symbol) ∷ library)
-with_symbol name symbol (Err fault) = Err fault
+-- a symbol under its name, if there is one
+abbrev pub found_symbol : AskedSymbol → Option (List ℕ × SymbolData)
+found_symbol asked = option_map (λ symbol. (asked.0, symbol)) asked.1
 
--- a symbol that is read, before what comes of the files after it
-abbrev pub SymbolThen : (Result Library RunFault → Type 0) →
-    List ℕ → SymbolData → Result Library RunFault → Type 0
-SymbolThen Others name symbol read =
-    (others : Result Library RunFault) × Others others × (read ≡ with_symbol name symbol others)
+-- the symbols that were found
+abbrev pub library_of : Gathered → Library
+library_of g = filter_map found_symbol g.symbols
 
--- what the file of a symbol comes to, given what comes of the files after it: that there is none is
--- no fault
-abbrev pub SymbolFileThen : (Result Library RunFault → Type 0) →
-    List ℕ → Option (List ℕ) → Result Library RunFault → Type 0
-SymbolFileThen Others name None read = Others read
-SymbolFileThen Others name (Some bytes) read =
-    ReadAs symbol_file (SymbolThen Others name) name bytes read
-
--- what files of symbols come to, in order: the first one that is refused decides
-abbrev pub SymbolsComeTo : Files → List (List ℕ) → Result Library RunFault → Type 0
-SymbolsComeTo files [] read = read ≡ Ok []
-SymbolsComeTo files (name ∷ names) read =
-    SymbolFileThen (SymbolsComeTo files names) name (files name) read
+-- the objects of all sheets
+abbrev pub all_objects : Gathered → List ObjectData
+all_objects g = flat_map (λ sheet. sheet.objects) g.sheets
 
 -- the bytes of the canonical text of an object
 abbrev pub object_bytes : ObjectData → ℕ
@@ -92,15 +225,19 @@ object_bytes o = length (object_text o)
 abbrev pub symbol_bytes : List ℕ × SymbolData → ℕ
 symbol_bytes symbol = length (symbol_text symbol.1)
 
--- the bytes of the canonical texts of objects and of symbols
-abbrev pub project_text : List ObjectData → Library → ℕ
-project_text objects library = sum_by object_bytes objects + sum_by symbol_bytes library
+-- the bytes of the canonical texts of all objects and symbols
+abbrev pub project_text : Gathered → ℕ
+project_text g = sum_by object_bytes (all_objects g) + sum_by symbol_bytes (library_of g)
 
--- more symbols than a project may have, or more text
-abbrev pub is_over_full : List ObjectData → Library → Bool
-is_over_full objects library =
-    nat_lt most_symbols (length library)
-    || nat_lt most_project_text (project_text objects library)
+-- more objects than a project may have
+abbrev pub has_too_many_objects : Gathered → Bool
+has_too_many_objects g = nat_lt most_objects (length (all_objects g))
+
+-- more sheets than a project may have, or more symbols, or more text
+abbrev pub is_over_full : Gathered → Bool
+is_over_full g =
+    nat_lt most_sheets (length g.sheets)
+    || (nat_lt most_symbols (length (library_of g)) || nat_lt most_project_text (project_text g))
 
 -- objects of a sheet, of which the first has this id
 abbrev pub object_items : List ℕ → ℕ → List ObjectData → List Item
@@ -109,39 +246,38 @@ object_items sheet id (o ∷ os) =
     (things.Object id, Some (values.Object (record { sheet = sheet; object = o })))
     ∷ object_items sheet (id + 1) os
 
+-- a sheet under its name, and its objects
+abbrev pub sheet_items : List ℕ → ℕ → SheetData → List Item
+sheet_items name id sheet =
+    (things.SheetName name, Some (values.Head sheet.head)) ∷ object_items name id sheet.objects
+
+-- sheets under their names, with the objects of each, of which the first has this id
+abbrev pub sheets_items : ℕ → List (List ℕ) → List SheetData → List Item
+sheets_items id (name ∷ names) (sheet ∷ sheets) =
+    sheet_items name id sheet ++ sheets_items (id + length sheet.objects) names sheets
+sheets_items id names sheets = []
+
 -- symbols under their names
 abbrev pub symbol_items : Library → List Item
 symbol_items library =
     map (λ symbol. (things.SymbolName symbol.0, Some (values.Symbol symbol.1))) library
 
--- the change that opens a project: a sheet, its objects under the ids from 0, and symbols
-abbrev pub opening : List ℕ → SheetData → Library → List Item
-opening name sheet library =
-    (things.SheetName name, Some (values.Head sheet.head))
-    ∷ (object_items name 0 sheet.objects ++ symbol_items library)
+-- the change that opens a project: the sheets in order, their objects under the ids from 0, and the
+-- symbols
+abbrev pub opening : Gathered → List Item
+opening g = sheets_items 0 g.queue g.sheets ++ symbol_items (library_of g)
 
--- the project of a sheet and of what was read of its symbols; limits are met after all reading
-abbrev pub project_with :
-    List ℕ → SheetData → Result Library RunFault → Result ProjectData RunFault
-project_with name sheet (Err fault) = Err fault
-project_with name sheet (Ok library) =
-    if is_over_full sheet.objects library then Err faults.ProjectFull
-    else Ok (put no_parts (opening name sheet library))
+-- the project of what is gathered; limits are met after all reading
+abbrev pub opened : Gathered → Result ProjectData RunFault
+opened g =
+    if has_too_many_objects g then Err faults.TooManyObjects
+    else if is_over_full g then Err faults.ProjectFull
+    else Ok (put no_parts (opening g))
 
--- what a sheet comes to with its symbols
-abbrev pub SheetComesTo : Files → List ℕ → SheetData → Result ProjectData RunFault → Type 0
-SheetComesTo symbols name sheet gathered =
-    (read : Result Library RunFault)
-    × SymbolsComeTo symbols (asked_symbols sheet.objects) read
-    × (gathered ≡ project_with name sheet read)
-
--- the files of sheets and those of symbols: a name may be read once as each
-pub record ProjectFiles : Type 0 where
-  pub sheets : Files
-  pub symbols : Files
-
--- the project that is gathered from a file, or the first fault that is met
-abbrev pub GathersTo : ProjectFiles → List ℕ → Result ProjectData RunFault → Type 0
-GathersTo files name gathered =
-    FileComesTo (ReadAs sheet_file (SheetComesTo files.symbols name) name) name
-    (files.sheets name) gathered
+-- the project that is gathered from the files of sheets with these names, or the first fault that
+-- is met
+abbrev pub GathersTo : ProjectFiles → List (List ℕ) → Result ProjectData RunFault → Type 0
+GathersTo files names outcome =
+    (count : ℕ)
+    × ((read : Result Gathered RunFault) × SheetsComeTo files count (unread names) read
+    × Then read (λ g end. end ≡ opened g) outcome)

@@ -1,20 +1,25 @@
 // What each command answers.
-ghost use Rattle.std.specs.Prelude.{◌≡◌, true, false};
+ghost use Rattle.std.specs.Prelude.{◌≡◌, ◌≢◌, AllPairs, true, false};
 ghost use Rattle.geda_defs.specs.Contents.{KeepsFiles};
-ghost use Rattle.net_names.specs.ListedParts.{HasOneSheet};
+ghost use Rattle.gafd.specs.ProjectFiles.{Then, opened};
 ghost use Rattle.gafd.specs.Answers.{NetListOf, TextOf, is_symbol_name};
 ghost use Rattle.gafd.specs.Runs.{counts};
+ghost use Rattle.gafd.specs.steps.Commanding.{NamesApart};
+ghost use Rattle.gafd.specs.steps.Gathering.{IsWhole};
 ghost use Rattle.gafd.specs.steps.Passing.{AnswerOf, ComesOf, Over};
 
 use crate::command::Command;
 use crate::fault::{RunFault, refused};
 use crate::folder::Folder;
+use crate::gathered::GatheredFiles;
 use crate::gathering::gather;
-use crate::list_text::list_text;
-use geda_model::{Name, Project};
+use crate::opening::opened;
+use backends::{Form, net_text};
+use geda_model::{Items, Name, Project};
 use geda_read::{read_sheet, read_symbol};
 use geda_write::{sheet_text, symbol_text};
-use net_names::{has_no_sources, plain_nets};
+use hierarchy::{ElabFault, elaborate};
+use net_names::join;
 use std::alloc::Global;
 use std::marker::Model;
 
@@ -45,16 +50,26 @@ impl Answer {
     }
 }
 
-/// The list text of the nets of a project of one sheet, which came from this file.
-fn nets_of(alloc: Global, file: Name, project: &Project) -> Result<Answer, RunFault>
-    requires { HasOneSheet project.now.parts }
-    ensures { ComesOf (NetListOf file project.now.parts) result }
+/// The list text of the nets of a project.
+fn nets_of(alloc: Global, project: &Project) -> Result<Answer, RunFault>
+    ensures { ComesOf (NetListOf project.now.parts) result }
 {
-    if !has_no_sources(alloc, project)? {
-        return Err(RunFault::NotYet { file });
-    }
-    let nets = plain_nets(alloc, project)?;
-    Ok(Answer::done(list_text(alloc, &nets)?))
+    let hierarchy = match elaborate(alloc, project) {
+        Ok(hierarchy) => hierarchy,
+        Err(ElabFault::TooManyInstances) => return Err(RunFault::TooManyInstances),
+        Err(ElabFault::NoMemory) => return Err(RunFault::NoMemory),
+    };
+    let nets = join(alloc, project, &hierarchy)?;
+    Ok(Answer::done(net_text(alloc, Form::List, &nets)?))
+}
+
+/// The same of the project of what is gathered, if it has room.
+fn listed(alloc: Global, gathered: GatheredFiles) -> Result<Answer, RunFault>
+    requires { IsWhole gathered }
+    ensures { ComesOf (Then (opened gathered) NetListOf) result }
+{
+    let project = opened(alloc, gathered)?;
+    nets_of(alloc, &project)
 }
 
 /// The canonical text of the sheet that these bytes spell.
@@ -94,13 +109,14 @@ fn text_of(alloc: Global, file: Name, bytes: &[u8]) -> Result<Answer, RunFault>
     }
 }
 
-fn netlist<F: Folder>(alloc: Global, file: Name, folder: &mut F) -> Result<Answer, RunFault>
+fn netlist<F: Folder>(alloc: Global, names: Items<Name>, folder: &mut F) -> Result<Answer, RunFault>
+    requires { AllPairs ◌≢◌ names }
     ensures answer { AnswerOf (counts (F.faults folder.old) (F.faults folder.new))
-        (Over (F.files folder.old) (Command.Netlist file)) result }
+        (Over (F.files folder.old) (Command.Netlist names)) result }
     ensures files { KeepsFiles (F.files folder.old) (F.files folder.new) }
 {
-    let project = gather(alloc, &file, folder)?;
-    nets_of(alloc, file, &project)
+    let gathered = gather(alloc, names.as_slice(), folder)?;
+    listed(alloc, gathered)
 }
 
 fn export<F: Folder>(alloc: Global, file: Name, folder: &mut F) -> Result<Answer, RunFault>
@@ -114,18 +130,19 @@ fn export<F: Folder>(alloc: Global, file: Name, folder: &mut F) -> Result<Answer
     }
 }
 
-/// What a command answers. All files stay.
+/// What a command answers, whose sheets differ. All files stay.
 pub fn answer_of<F: Folder>(
     alloc: Global,
     command: Command,
     folder: &mut F,
 ) -> Result<Answer, RunFault>
+    requires { NamesApart command }
     ensures answer { AnswerOf (counts (F.faults folder.old) (F.faults folder.new))
         (Over (F.files folder.old) command) result }
     ensures files { KeepsFiles (F.files folder.old) (F.files folder.new) }
 {
     match command {
-        Command::Netlist(file) => netlist(alloc, file, folder),
+        Command::Netlist(names) => netlist(alloc, names, folder),
         Command::Export(file) => export(alloc, file, folder),
     }
 }

@@ -18,11 +18,14 @@ fn status_of(fault: &RunFault) -> u8
     ensures { result ≡ status_of fault.now }
 {
     match fault {
-        RunFault::Missing { .. } | RunFault::Refused { .. } | RunFault::ProjectFull => 1,
+        RunFault::Missing { .. }
+        | RunFault::Refused { .. }
+        | RunFault::TooManyObjects
+        | RunFault::ProjectFull
+        | RunFault::TooManyInstances => 1,
         RunFault::Usage => 2,
         RunFault::FolderFault => 3,
         RunFault::OutputFault => 4,
-        RunFault::NotYet { .. } => 9,
         RunFault::NoMemory => 71,
     }
 }
@@ -69,11 +72,9 @@ fn error_line(alloc: Global, fault: &RunFault) -> Result<CowStr<'static>, AllocE
             let text = refused_line(alloc, file.as_str(), *line, kind_name(*kind))?;
             Ok(CowStr::Owned(text))
         }
-        RunFault::NotYet { file } => {
-            let file = file.as_str();
-            Ok(CowStr::Owned(format!(in alloc; "gafd: {file}: NotYet\n")?))
-        }
+        RunFault::TooManyObjects => Ok(CowStr::Borrowed("gafd: TooManyObjects\n")),
         RunFault::ProjectFull => Ok(CowStr::Borrowed("gafd: ProjectFull\n")),
+        RunFault::TooManyInstances => Ok(CowStr::Borrowed("gafd: TooManyInstances\n")),
         RunFault::Usage => Ok(CowStr::Borrowed("gafd: usage\n")),
         RunFault::FolderFault => Ok(CowStr::Borrowed("gafd: folder fault\n")),
         RunFault::OutputFault => Ok(CowStr::Borrowed("gafd: output fault\n")),

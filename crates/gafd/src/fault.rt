@@ -27,19 +27,18 @@ pub enum RunFault {
         /// The kind of its fault.
         kind: ReadKind,
     },
-    /// The project has more symbols, or more text, than a project may have.
+    /// The project has more objects than a project may have.
+    TooManyObjects,
+    /// The project has more sheets or symbols, or more text, than a project may have.
     ProjectFull,
+    /// The sheets of the project have more instances, or heavier ones, than they may have.
+    TooManyInstances,
     /// The arguments ask for no command.
     Usage,
     /// The folder failed.
     FolderFault,
     /// The output failed.
     OutputFault,
-    /// The sheet has sheets below it, so that its nets cannot be found yet.
-    NotYet {
-        /// Its name.
-        file: Name,
-    },
     /// Memory ran out.
     NoMemory,
 }

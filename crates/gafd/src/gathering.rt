@@ -1,172 +1,126 @@
-// The project of the files: a sheet, and the symbols that it asks for.
-ghost use Rattle.std.specs.Prelude.{◌≡◌, ◌≢◌, ◌≤◌, ◌++◌, IfOk, OnOk, Some, None, if◌then◌else◌};
+// The files of a project: the sheets that are named, those below them, and their symbols.
+ghost use Rattle.std.specs.Prelude.{◌≡◌, ◌≢◌, ◌≤◌, ◌++◌, ◌∷◌, [], IfOk, OnOk};
 ghost use Rattle.std.specs.List.{AllPairs};
 ghost use Rattle.geda_defs.specs.Contents.{KeepsFiles};
-ghost use Rattle.geda_grammar.specs.Faults.{sheet_file, symbol_file};
-ghost use Rattle.geda_model.specs.Names.{is_name};
-ghost use Rattle.net_names.specs.ListedParts.{HasOneSheet};
-ghost use Rattle.gafd.specs.ProjectFiles.{ReadAs, asked_symbol, asked_symbols};
 ghost use Rattle.gafd.specs.Runs.{counts};
-ghost use Rattle.gafd.specs.steps.Passing.{AnswerOf, ComesOf, with_view};
-ghost use Rattle.gafd.specs.steps.Gathering.{GathersFrom, IsFound, IsRead, LibraryFrom, SheetFrom};
-ghost use Rattle.gafd.specs.steps.Gathering.{SymbolFrom, symbol_row};
+ghost use Rattle.gafd.specs.ProjectFiles.{AskedSymbol};
+ghost use Rattle.gafd.specs.steps.Passing.{AnswerOf, with_view};
+ghost use Rattle.gafd.specs.steps.Gathering.{IsWhole, ReadsFrom};
+ghost use Rattle.gafd.specs.steps.Asking.{Asks, AsksObjects, IsStart, ReadsWords, gathered};
 
-use crate::fault::{RunFault, refused};
+use crate::asking::Asked;
+use crate::fault::RunFault;
+use crate::file_reads::{read_sheet_file, sheet_in};
 use crate::folder::Folder;
-use crate::opening::opened;
-use crate::project_text::is_over_full;
-use geda_model::{Body, Name, NameFault, Object, Project, Sheet, Symbol};
-use geda_read::{read_sheet, read_symbol};
-use indexmap::IndexSet;
+use crate::gathered::GatheredFiles;
+use crate::names::names_of;
+use geda_model::{Name, Sheet, Symbol};
+use indexmap::IndexMap;
 use std::alloc::{AllocError, Global};
 
-/// The Name that a basename is. `None` exactly where it is none.
-fn name_of(alloc: Global, basename: &str) -> Result<Option<Name>, AllocError>
-    ensures { IfOk result
-        (λ name. name ≡ (if is_name basename.now then Some basename.now else None)) }
-{
-    match Name::new(alloc, basename) {
-        Ok(name) => Ok(Some(name)),
-        Err(NameFault::NotAName) => Ok(None),
-        Err(NameFault::NoMemory) => Err(AllocError),
-    }
-}
-
-/// The file of the library symbol that an object asks for.
-fn asked_symbol(alloc: Global, object: &Object) -> Result<Option<Name>, AllocError>
-    ensures { IfOk result (λ name. name ≡ asked_symbol object.now) }
-{
-    match &object.body {
-        Body::Shape(_) => Ok(None),
-        Body::Component(component) => match &component.embedded {
-            Some(_) => Ok(None),
-            None => name_of(alloc, component.basename.as_str()),
-        },
-    }
-}
-
-/// The files of symbols that objects ask for, in their order, each once.
-fn asked_set(alloc: Global, objects: &[Object]) -> Result<IndexSet<Name>, AllocError>
-    ensures { IfOk result (λ names. names.keys ≡ asked_symbols objects.now) }
-{
-    let mut names = IndexSet::new(alloc);
-    for object in objects {
-        if let Some(name) = asked_symbol(alloc, object)? {
-            names.insert(name)?;
-        }
-    }
-    Ok(names)
-}
-
-/// The same as a list.
-fn asked_symbols(alloc: Global, objects: &[Object]) -> Result<Vec<Name>, AllocError>
-    ensures { IfOk result (λ names. names.items ≡ asked_symbols objects.now) }
-{
-    let mut names = Vec::new(alloc);
-    for name in asked_set(alloc, objects)? {
-        names.push(name)?;
-    }
-    Ok(names)
-}
-
-/// The sheet that the bytes of a file spell.
-fn sheet_in(alloc: Global, name: &Name, bytes: &[u8]) -> Result<Sheet, RunFault>
-    ensures { ComesOf (ReadAs sheet_file IsRead name.now bytes.now) result }
-{
-    match read_sheet(alloc, bytes) {
-        Ok(sheet) => Ok(sheet),
-        Err(fault) => Err(refused(name.clone()?, fault)),
-    }
-}
-
-/// The symbol that the bytes of a file spell.
-fn symbol_in(alloc: Global, name: &Name, bytes: &[u8]) -> Result<Option<Symbol>, RunFault>
-    ensures { ComesOf (ReadAs symbol_file IsFound name.now bytes.now) result }
-{
-    match read_symbol(alloc, bytes) {
-        Ok(symbol) => Ok(Some(symbol)),
-        Err(fault) => Err(refused(name.clone()?, fault)),
-    }
-}
-
-fn read_sheet_file<F: Folder>(alloc: Global, name: &Name, folder: &mut F) -> Result<Sheet, RunFault>
-    ensures read { AnswerOf (counts (F.faults folder.old) (F.faults folder.new))
-        (SheetFrom (F.files folder.old) name.now) result }
-    ensures later { F.faults folder.old ≤ F.faults folder.new }
-    ensures files { KeepsFiles (F.files folder.old) (F.files folder.new) }
-{
-    match folder.read(alloc, name.as_str())? {
-        Some(bytes) => sheet_in(alloc, name, &bytes),
-        None => Err(RunFault::Missing {
-            file: name.clone()?,
-        }),
-    }
-}
-
-/// The symbol of a file. `None` where there is no such file.
-fn read_symbol_file<F: Folder>(
+/// The symbols of a map, in its order.
+fn symbols_of(
     alloc: Global,
-    name: &Name,
+    map: IndexMap<Name, Option<Symbol>>,
+) -> Result<Vec<(Name, Option<Symbol>)>, AllocError>
+    ensures symbols { IfOk result (λ symbols. symbols.items ≡ map.entries) }
+    ensures apart { IfOk result (λ symbols.
+        AllPairs (λ (a b : AskedSymbol). a.0 ≢ b.0) symbols.items) }
+{
+    let mut symbols = Vec::new(alloc);
+    for symbol in map {
+        symbols.push(symbol)?;
+    }
+    Ok(symbols)
+}
+
+/// What was gathered, when no sheet waits.
+fn finish(alloc: Global, asked: Asked, sheets: Vec<Sheet>) -> Result<GatheredFiles, AllocError>
+    ensures all { IfOk result (λ g. g ≡ gathered sheets.items asked) }
+    ensures apart { IfOk result (λ g. AllPairs ◌≢◌ g.queue) }
+    ensures symbols_apart { IfOk result (λ g.
+        AllPairs (λ (a b : AskedSymbol). a.0 ≢ b.0) g.symbols) }
+{
+    let Asked { queue, symbols, .. } = asked;
+    let queue = names_of(alloc, queue)?;
+    let symbols = symbols_of(alloc, symbols)?;
+    Ok(GatheredFiles {
+        queue,
+        sheets,
+        symbols,
+    })
+}
+
+/// The words as the queue, before anything is read.
+fn words_to_read(alloc: Global, names: &[Name]) -> Result<Asked, AllocError>
+    requires { AllPairs ◌≢◌ names.now }
+    ensures { IfOk result (IsStart names.now) }
+{
+    let mut asked = Asked::new(alloc);
+    for name in names {
+        asked.queue.insert(name.clone()?)?;
+    }
+    Ok(asked)
+}
+
+/// Puts a sheet behind those that are read, after asking for what its objects need.
+fn add_sheet<F: Folder>(
+    alloc: Global,
+    sheet: Sheet,
+    asked: &mut Asked,
+    sheets: &mut Vec<Sheet>,
     folder: &mut F,
-) -> Result<Option<Symbol>, RunFault>
+) -> Result<(), RunFault>
     ensures read { AnswerOf (counts (F.faults folder.old) (F.faults folder.new))
-        (SymbolFrom (F.files folder.old) name.now) result }
+        (Asks (F.files folder.old) asked.old (AsksObjects asked.old sheet.objects))
+        (with_view (λ _. asked.new) result) }
+    ensures sheets { OnOk result (sheets.new.items ≡ sheets.old.items ++ sheet ∷ []) }
     ensures later { F.faults folder.old ≤ F.faults folder.new }
     ensures files { KeepsFiles (F.files folder.old) (F.files folder.new) }
 {
-    match folder.read(alloc, name.as_str())? {
-        Some(bytes) => symbol_in(alloc, name, &bytes),
-        None => Ok(None),
-    }
-}
-
-/// Keeps the symbol of a name, if one was found.
-fn keep(
-    library: &mut Vec<(Name, Symbol)>,
-    name: &Name,
-    symbol: Option<Symbol>,
-) -> Result<(), AllocError>
-    ensures { OnOk result (library.new.items ≡ library.old.items ++ symbol_row name.now symbol) }
-{
-    if let Some(symbol) = symbol {
-        library.push((name.clone()?, symbol))?;
-    }
+    asked.ask_objects(alloc, sheet.objects.as_slice(), folder)?;
+    sheets.push(sheet)?;
     Ok(())
 }
 
-/// The symbols that a folder has of these names, each under its name and in their order.
-fn read_library<F: Folder>(
+/// The sheets of the words, and what they ask for.
+fn read_words<F: Folder>(
     alloc: Global,
     names: &[Name],
     folder: &mut F,
-) -> Result<Vec<(Name, Symbol)>, RunFault>
+) -> Result<(Asked, Vec<Sheet>), RunFault>
     requires { AllPairs ◌≢◌ names.now }
     ensures read { AnswerOf (counts (F.faults folder.old) (F.faults folder.new))
-        (LibraryFrom (F.files folder.old) names.now) (with_view (λ v. v.items) result) }
+        (ReadsWords (F.files folder.old) names.now) (with_view (λ r. (r.0, r.1.items)) result) }
+    ensures later { F.faults folder.old ≤ F.faults folder.new }
     ensures files { KeepsFiles (F.files folder.old) (F.files folder.new) }
 {
-    let mut library = Vec::new(alloc);
+    let mut asked = words_to_read(alloc, names)?;
+    let mut sheets = Vec::new(alloc);
     for name in names {
-        let symbol = read_symbol_file(alloc, name, folder)?;
-        keep(&mut library, name, symbol)?;
+        let sheet = read_sheet_file(alloc, name, folder)?;
+        add_sheet(alloc, sheet, &mut asked, &mut sheets, folder)?;
     }
-    Ok(library)
+    Ok((asked, sheets))
 }
 
-/// The project of a file: its sheet and the symbols that this one asks for (docs/RULES.md, "The
-/// project of the files").
-pub fn gather<F: Folder>(alloc: Global, name: &Name, folder: &mut F) -> Result<Project, RunFault>
-    ensures gathered { AnswerOf (counts (F.faults folder.old) (F.faults folder.new))
-        (GathersFrom (F.files folder.old) name.now) (with_view (λ p. p.parts) result) }
-    ensures one_sheet { IfOk result (λ project. HasOneSheet project.parts) }
+/// The sheets of these names, those below them, and the symbols that they ask for (docs/RULES.md,
+/// "The project of the files").
+pub fn gather<F: Folder>(
+    alloc: Global,
+    names: &[Name],
+    folder: &mut F,
+) -> Result<GatheredFiles, RunFault>
+    requires { AllPairs ◌≢◌ names.now }
+    ensures read { AnswerOf (counts (F.faults folder.old) (F.faults folder.new))
+        (ReadsFrom (F.files folder.old) names.now) (with_view (λ g. g) result) }
+    ensures whole { IfOk result IsWhole }
     ensures files { KeepsFiles (F.files folder.old) (F.files folder.new) }
 {
-    let sheet = read_sheet_file(alloc, name, folder)?;
-    let names = asked_symbols(alloc, sheet.objects.as_slice())?;
-    let library = read_library(alloc, &names, folder)?;
-    if is_over_full(sheet.objects.as_slice(), &library) {
-        return Err(RunFault::ProjectFull);
+    let (mut asked, mut sheets) = read_words(alloc, names, folder)?;
+    while let Some(file) = asked.waiting.pop_front() {
+        let sheet = sheet_in(alloc, &file.name, &file.bytes)?;
+        add_sheet(alloc, sheet, &mut asked, &mut sheets, folder)?;
     }
-    let project = opened(alloc, name, sheet, library)?;
-    Ok(project)
+    Ok(finish(alloc, asked, sheets)?)
 }

@@ -1,5 +1,5 @@
-//! `gafd netlist FILE` prints the net list of a gEDA schematic in the folder that it runs in, and
-//! `gafd export FILE` the canonical text of a schematic or of a symbol.
+//! `gafd netlist FILE...` prints the net list of gEDA schematics in the folder that it runs in and
+//! of those below them, and `gafd export FILE` the canonical text of a schematic or of a symbol.
 //!
 //! `run` is all of the program, over any folder and sinks; `main` makes the real ones. Commands and
 //! statuses: docs/FORMATS.md. Definitions: specs/Commands.antt, specs/Answers.antt and
@@ -7,6 +7,7 @@
 #![tactic(auto)]
 
 mod answer;
+mod asking;
 mod command;
 mod dir_folder;
 #[cfg(test)]
@@ -14,11 +15,11 @@ mod drawings;
 mod error_lines;
 mod failing_calls;
 mod fault;
+mod file_reads;
 mod folder;
+mod gathered;
 mod gathering;
-#[cfg(test)]
-mod list_tests;
-mod list_text;
+mod names;
 #[cfg(test)]
 mod net_tests;
 mod opening;

@@ -33,18 +33,3 @@ impl<W: Write + Drop> Sink for StdSink<W> {
         }
     }
 }
-
-#[cfg(test)]
-mod tests {
-    use super::*;
-    use std::test::Fail;
-
-    #[test]
-    fn a_writer_gets_the_bytes(rt: HostRuntime) -> Result<(), Fail> {
-        let mut sink = StdSink::new(Vec::new(rt.alloc()));
-        assert_eq!(rt; sink.write(b"one"), Ok(()));
-        assert_eq!(rt; sink.write(b" two"), Ok(()));
-        assert_eq!(rt; sink.inner.as_slice(), b"one two".as_slice());
-        Ok(())
-    }
-}

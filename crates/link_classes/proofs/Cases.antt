@@ -1,37 +1,49 @@
 -- The definitions, evaluated on few conductors.
-use Rattle.std.proofs.Common.{◌≡◌, ℕ, pos, List, [], ◌∷◌, Some, None, refl, ap, get_or, arith, inl, inr}
+use Rattle.std.proofs.Common.{◌≡◌, ℕ, ◌≢◌, pos, List, [], ◌∷◌, Option, Some, None, refl, arith, inl, inr}
 use Rattle.std.specs.Prelude.{codes}
 use Rattle.geda_geom.specs.declared.conductor.Conductor.TheVariants.{End}
-use Rattle.link_classes.specs.Flattening.{AreTouching, FlatConductor, Flattened, Linked, Way}
+use Rattle.link_classes.specs.declared.conductors.FlatConductor.{FlatConductor}
+use Rattle.link_classes.specs.declared.conductors.PortPins.{PortPins}
+use Rattle.link_classes.specs.Links.{AreTied, AreTouching, Linked}
 
-abbrev sheet : List ℕ → Way
-sheet name = record { route = []; sheet = name }
+-- a pin at one point, in this instance
+abbrev pin_in : ℕ → FlatConductor
+pin_in instance = record { instance = instance; key = record { id = 0; place = 0 }; shape = Some (End (record { x = pos 0; y = pos 0 })); global_names = []; drawn_names = []; member = None; leads_down = None; leads_up = None }
 
--- a pin at one point, on the sheet of this name
-abbrev on_sheet : List ℕ → FlatConductor
-on_sheet name = record { way = sheet name; id = 0; place = 0; shape = Some (End (record { x = pos 0; y = pos 0 })); global_names = []; drawn_names = []; member = None }
+-- pins at one point of one instance touch
+one_instance_touches : (i : ℕ) → AreTouching (pin_in i) (pin_in i)
+one_instance_touches i = record { together = refl; touch = inl (refl, refl) }
 
--- pins at one point of one sheet touch
-one_sheet_touches : AreTouching (on_sheet (codes "a")) (on_sheet (codes "a"))
-one_sheet_touches = record { way = refl; touch = inl (refl, refl) }
+-- in two instances they do not
+two_instances_stay_apart : (i j : ℕ) → i ≢ j → AreTouching (pin_in i) (pin_in j) → ⊥
+two_instances_stay_apart i j apart touching = apart touching.together
 
-two_letters : (n : ℕ) → n ≡ 97 → n ≡ 98 → ⊥
-two_letters n e f = omega arith
-
--- at one point of two sheets they do not, though both sheets are roots
-two_sheets_stay_apart : AreTouching (on_sheet (codes "a")) (on_sheet (codes "b")) → ⊥
-two_sheets_stay_apart t = two_letters 97 refl (ap (λ (w : Way). get_or w.sheet 0 0) t.way)
-
--- a hidden pin of one global name, and a segment that has that name drawn
+-- a hidden pin of one global name, and a segment of another instance that has that name drawn
 abbrev hidden : FlatConductor
-hidden = record { way = sheet (codes "a"); id = 1; place = 0; shape = None; global_names = codes "Vcc" ∷ []; drawn_names = []; member = None }
+hidden = record { instance = 1; key = record { id = 1; place = 0 }; shape = None; global_names = codes "Vcc" ∷ []; drawn_names = []; member = None; leads_down = None; leads_up = None }
 
 abbrev drawn : FlatConductor
-drawn = record { way = sheet (codes "a"); id = 0; place = 0; shape = Some (End (record { x = pos 0; y = pos 0 })); global_names = []; drawn_names = codes "out" ∷ codes "Vcc" ∷ []; member = None }
-
-abbrev both : Flattened
-both = record { conductors = drawn ∷ hidden ∷ []; ties = [] }
+drawn = record { instance = 0; key = record { id = 0; place = 0 }; shape = Some (End (record { x = pos 0; y = pos 0 })); global_names = []; drawn_names = codes "out" ∷ codes "Vcc" ∷ []; member = None; leads_down = None; leads_up = None }
 
 -- a name in common links them, whichever of the two kinds it is
-one_name_links : Linked both 0 1
-one_name_links = record { first = omega arith; second = omega arith; link = inr (inl (λ d. (codes "Vcc", (1, omega arith, refl), (0, omega arith, refl)))) }
+one_name_links : Linked (drawn ∷ hidden ∷ []) 0 1
+one_name_links = inr (inl (record { first = omega arith; second = omega arith; related = λ d. (codes "Vcc", (1, omega arith, refl), (0, omega arith, refl)) }))
+
+-- a pin with this label of a component that leads down
+abbrev above : List ℕ → FlatConductor
+above label = record { instance = 0; key = record { id = 7; place = 0 }; shape = None; global_names = []; drawn_names = []; member = None; leads_down = Some (record { instance = 0; id = 7; label = label }); leads_up = None }
+
+-- the pin of a port of this name on the sheet below
+abbrev below : List ℕ → FlatConductor
+below name = record { instance = 1; key = record { id = 0; place = 0 }; shape = None; global_names = []; drawn_names = []; member = None; leads_down = None; leads_up = Some (record { instance = 0; id = 7; label = name }) }
+
+-- a port's pin is linked with the pin above of that label
+port_links : (label : List ℕ) → Linked (above label ∷ below label ∷ []) 0 1
+port_links label = inr (inr (record { first = omega arith; second = omega arith; related = λ d. inr (record { pins = record { instance = 0; id = 7; label = label }; below = refl; above = refl }) }))
+
+none_leads_up : (pins : PortPins) → ◌≡◌ {A = Option PortPins} None (Some pins) → ⊥
+none_leads_up pins e = absurd (cc)
+
+-- two pins above with one label alone are not tied to one another
+label_alone_ties_nothing : (label : List ℕ) → AreTied (above label) (above label) → ⊥
+label_alone_ties_nothing label tied = elim tied [ inl to ↦ none_leads_up to.pins to.below | inr to ↦ none_leads_up to.pins to.below ]

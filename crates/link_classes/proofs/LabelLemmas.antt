@@ -79,14 +79,6 @@ labels_agree R count labels are turn i j first second r =
 pub label_low : (R : ℕ → ℕ → Type 0) (count : ℕ) (labels : List ℕ) → AreClasses R count labels → (i : ℕ) → i < count → get_or labels i 0 ≤ i
 label_low R count labels are i h = are.least i i h (joined_self R i)
 
--- links that are the same make the same classes
-pub classes_same : (R S : ℕ → ℕ → Type 0) (count : ℕ) (labels : List ℕ) → ((i j : ℕ) → R i j → S i j) → ((i j : ℕ) → S i j → R i j) → AreClasses R count labels → AreClasses S count labels
-classes_same R S count labels to from are = record {
-  len = are.len;
-  chain = λ i h. joined_of R S (λ a b r. joined_by S a b (to a b r)) i _ (are.chain i h);
-  least = λ i j h joined. are.least i j h (joined_of S R (λ a b s. joined_by R a b (from a b s)) i j joined);
-}
-
 -- labels are places
 pub label_inside : (R : ℕ → ℕ → Type 0) (count : ℕ) (labels : List ℕ) → AreClasses R count labels → (i : ℕ) → i < length labels → get_or labels i 0 < count
 label_inside R count labels are i h =

@@ -1,9 +1,11 @@
+pub mod ListLemmas
 pub mod LabelLemmas
 pub mod UnionLemmas
 pub mod SpanLemmas
-pub mod DrawingLemmas
-pub mod PairLemmas
-pub mod RepeatLemmas
+pub mod SweepLemmas
+pub mod RowLemmas
+pub mod TouchLemmas
 pub mod NameLemmas
+pub mod PortLemmas
 pub mod LinkLemmas
 pub mod Cases

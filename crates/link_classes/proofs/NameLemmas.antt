@@ -7,12 +7,12 @@ use Rattle.std.specs.Str.{bytes_eq}
 use Rattle.std.proofs.lemmas.List.{append-nil, append_assoc, get_or-map, length-map, length-take, map-append, take_more}
 use Rattle.std.proofs.lemmas.List.Elements.{All-from_get_or, Contains-get_or, Contains-append_left, Contains-append_right, Contains-append_cases, Contains-push, Contains-push_cases}
 use Rattle.std.proofs.lemmas.Slice.Eq.{bytes_eq-Decides}
-use Rattle.link_classes.specs.declared.conductors.SheetConductor.{SheetConductor}
-use Rattle.link_classes.specs.steps.Places.{ShareAt, own_names}
+use Rattle.link_classes.specs.declared.conductors.FlatConductor.{FlatConductor}
+use Rattle.link_classes.specs.Links.{AtPlaces, ShareName, names_of}
 use Rattle.link_classes.specs.steps.Unions.{IsSameAt, Spans}
 use Rattle.link_classes.specs.steps.FirstPlaces.{Named, named_at, named_from, pair_with, AddsName, TiesNames}
 use Rattle.link_classes.proofs.LabelLemmas.{joined_by}
-use Rattle.link_classes.proofs.DrawingLemmas.{no_conductor}
+use Rattle.link_classes.proofs.ListLemmas.{no_conductor}
 
 option_or-none : (o : Option ℕ) → option_or o None ≡ o
 option_or-none None = refl
@@ -93,19 +93,19 @@ module _ (name : List ℕ) (place : ℕ) (old new : List ℕ → Option ℕ) (ad
   }
 
 -- the names of conductors, and those of further ones
-named_append : (place : ℕ) (fs gs : List SheetConductor) → named_from place (fs ++ gs) ≡ named_from place fs ++ named_from (place + length fs) gs
+named_append : (place : ℕ) (fs gs : List FlatConductor) → named_from place (fs ++ gs) ≡ named_from place fs ++ named_from (place + length fs) gs
 named_append place [] gs = ap (λ (n : ℕ). named_from n gs) (omega arith)
 named_append place (f ∷ fs) gs =
-    ap (λ (ns : List Named). named_at place (own_names f) ++ ns) (named_append (place + 1) fs gs)
-    ∙ sym (append_assoc (named_at place (own_names f)) (named_from (place + 1) fs) (named_from (place + 1 + length fs) gs))
-    ∙ ap (λ (n : ℕ). (named_at place (own_names f) ++ named_from (place + 1) fs) ++ named_from n gs) (omega arith)
+    ap (λ (ns : List Named). named_at place (names_of f) ++ ns) (named_append (place + 1) fs gs)
+    ∙ sym (append_assoc (named_at place (names_of f)) (named_from (place + 1) fs) (named_from (place + 1 + length fs) gs))
+    ∙ ap (λ (n : ℕ). (named_at place (names_of f) ++ named_from (place + 1) fs) ++ named_from n gs) (omega arith)
 
 -- one more conductor
-pub named_next : (fs : List SheetConductor) (k : ℕ) (d : SheetConductor) → k < length fs → named_from 0 (take k fs) ++ named_at k (own_names (get_or fs k d)) ≡ named_from 0 (take (k + 1) fs)
+pub named_next : (fs : List FlatConductor) (k : ℕ) (d : FlatConductor) → k < length fs → named_from 0 (take k fs) ++ named_at k (names_of (get_or fs k d)) ≡ named_from 0 (take (k + 1) fs)
 named_next fs k d h =
     let len : length (take k fs) ≡ k = length-take k fs ∙ omega arith in
-    sym (ap (λ (gs : List SheetConductor). named_from 0 gs) (take_more fs k d h) ∙ named_append 0 (take k fs) (get_or fs k d ∷ [])
-    ∙ ap (λ (ns : List Named). named_from 0 (take k fs) ++ ns) (append-nil (named_at (0 + length (take k fs)) (own_names (get_or fs k d))) ∙ ap (λ (n : ℕ). named_at n (own_names (get_or fs k d))) (omega (arith, len))))
+    sym (ap (λ (gs : List FlatConductor). named_from 0 gs) (take_more fs k d h) ∙ named_append 0 (take k fs) (get_or fs k d ∷ [])
+    ∙ ap (λ (ns : List Named). named_from 0 (take k fs) ++ ns) (append-nil (named_at (0 + length (take k fs)) (names_of (get_or fs k d))) ∙ ap (λ (n : ℕ). named_at n (names_of (get_or fs k d))) (omega (arith, len))))
 
 -- one more name of a conductor
 pub named_more : (named : List Named) (place : ℕ) (names : List (List ℕ)) (k : ℕ) (name : List ℕ) → k < length names → name ≡ get_or names k name
@@ -129,35 +129,35 @@ has_at place names q c =
     (c.0, rw length-map c.1, get_or-map f names c.0 q (q, place) c.1 ∙ ap f c.2)
 
 -- what has a name at a place, and the other way round
-pub named_has : (place : ℕ) (fs : List SheetConductor) (q : List ℕ) (i : ℕ) (d : SheetConductor) → Contains (named_from place fs) (q, i)
-    → (k : ℕ) × (i ≡ place + k) × (k < length fs) × Contains (own_names (get_or fs k d)) q
+pub named_has : (place : ℕ) (fs : List FlatConductor) (q : List ℕ) (i : ℕ) (d : FlatConductor) → Contains (named_from place fs) (q, i)
+    → (k : ℕ) × (i ≡ place + k) × (k < length fs) × Contains (names_of (get_or fs k d)) q
 named_has place [] q i d c = absurd (let h = c.1 in omega arith)
-named_has place (f ∷ fs) q i d c = elim (Contains-append_cases (named_at place (own_names f)) (named_from (place + 1) fs) (q, i) c) [
-  | inl here ↦ let h = at_has place (own_names f) q i here in let e = h.0 in (0, omega arith, omega arith, h.1)
+named_has place (f ∷ fs) q i d c = elim (Contains-append_cases (named_at place (names_of f)) (named_from (place + 1) fs) (q, i) c) [
+  | inl here ↦ let h = at_has place (names_of f) q i here in let e = h.0 in (0, omega arith, omega arith, h.1)
   | inr there ↦ let h = named_has (place + 1) fs q i d there in let e = h.1 in let lt = h.2 in (suc h.0, omega arith, omega arith, h.3)
 ]
 
-pub has_named : (place : ℕ) (fs : List SheetConductor) (q : List ℕ) (k : ℕ) (d : SheetConductor) → k < length fs → Contains (own_names (get_or fs k d)) q
+pub has_named : (place : ℕ) (fs : List FlatConductor) (q : List ℕ) (k : ℕ) (d : FlatConductor) → k < length fs → Contains (names_of (get_or fs k d)) q
     → Contains (named_from place fs) (q, place + k)
 has_named place [] q k d h c = absurd (omega arith)
 has_named place (f ∷ fs) q zero d h c =
     subst (λ (n : ℕ). Contains (named_from place (f ∷ fs)) (q, n)) (omega arith)
-    (Contains-append_left (named_at place (own_names f)) (named_from (place + 1) fs) (q, place) (has_at place (own_names f) q c))
+    (Contains-append_left (named_at place (names_of f)) (named_from (place + 1) fs) (q, place) (has_at place (names_of f) q c))
 has_named place (f ∷ fs) q (suc k) d h c =
     subst (λ (n : ℕ). Contains (named_from place (f ∷ fs)) (q, n)) (omega arith)
-    (Contains-append_right (named_at place (own_names f)) (named_from (place + 1) fs) (q, place + 1 + k) (has_named (place + 1) fs q k d (omega arith) c))
+    (Contains-append_right (named_at place (names_of f)) (named_from (place + 1) fs) (q, place + 1 + k) (has_named (place + 1) fs q k d (omega arith) c))
 
 -- pairs of places with names stand for names in common
-pub spans_names : (first : List ℕ → Option ℕ) (pairs : List (ℕ × ℕ)) (fs : List SheetConductor) → TiesNames first pairs (named_from 0 fs)
-    → Spans (ShareAt fs) (length fs) pairs
+pub spans_names : (first : List ℕ → Option ℕ) (pairs : List (ℕ × ℕ)) (fs : List FlatConductor) → TiesNames first pairs (named_from 0 fs)
+    → Spans (AtPlaces ShareName fs) (length fs) pairs
 spans_names first pairs fs ties = record {
   within = All-from_get_or (λ p. (p.0 < length fs) × (p.1 < length fs)) pairs (0, 0) (λ k h.
       let p = get_or pairs k (0, 0) in
       let at = link p.0 p.1 (Contains-get_or pairs k (0, 0) h) in
       (at.first, at.second));
   inside = λ i j tied. elim tied [
-    | inl c ↦ joined_by (ShareAt fs) i j (link i j c)
-    | inr c ↦ joined_by (ShareAt fs) i j (share_turn (link j i c))
+    | inl c ↦ joined_by (AtPlaces ShareName fs) i j (link i j c)
+    | inr c ↦ joined_by (AtPlaces ShareName fs) i j (share_turn (link j i c))
   ];
   covers = λ f same i j at.
       let share = at.related no_conductor in
@@ -167,18 +167,18 @@ spans_names first pairs fs ties = record {
       sym (own f same one.0 i one.2) ∙ ap f meet ∙ own f same two.0 j two.2;
 }
   where
-    has_name : (q : List ℕ) (i : ℕ) → i < length fs → Contains (own_names (get_or fs i no_conductor)) q → Contains (named_from 0 fs) (q, i)
+    has_name : (q : List ℕ) (i : ℕ) → i < length fs → Contains (names_of (get_or fs i no_conductor)) q → Contains (named_from 0 fs) (q, i)
     has_name q i h c = subst (λ (n : ℕ). Contains (named_from 0 fs) (q, n)) (omega arith) (has_named 0 fs q i no_conductor h c)
 
-    share_turn : {a b : ℕ} → ShareAt fs a b → ShareAt fs b a
+    share_turn : {a b : ℕ} → AtPlaces ShareName fs a b → AtPlaces ShareName fs b a
     share_turn at = record { first = at.second; second = at.first; related = λ d. let share = at.related d in (share.0, share.2, share.1) }
 
-    named_there : (q : List ℕ) (i : ℕ) → Contains (named_from 0 fs) (q, i) → (i < length fs) × ((d : SheetConductor) → Contains (own_names (get_or fs i d)) q)
+    named_there : (q : List ℕ) (i : ℕ) → Contains (named_from 0 fs) (q, i) → (i < length fs) × ((d : FlatConductor) → Contains (names_of (get_or fs i d)) q)
     named_there q i c =
         let lt : i < length fs = let h = named_has 0 fs q i no_conductor c in let a = h.1 in let b = h.2 in omega arith in
-        (lt, λ d. let h = named_has 0 fs q i d c in let e : h.0 ≡ i = let a = h.1 in omega arith in subst (λ (n : ℕ). Contains (own_names (get_or fs n d)) q) e h.3)
+        (lt, λ d. let h = named_has 0 fs q i d c in let e : h.0 ≡ i = let a = h.1 in omega arith in subst (λ (n : ℕ). Contains (names_of (get_or fs n d)) q) e h.3)
 
-    link : (i j : ℕ) → Contains pairs (i, j) → ShareAt fs i j
+    link : (i j : ℕ) → Contains pairs (i, j) → AtPlaces ShareName fs i j
     link i j c =
         let h = ties.inside i j c in
         let one = named_there h.0 i h.1 in

@@ -5,8 +5,7 @@ use Rattle.std.proofs.lemmas.Bool.{cases_eq}
 use Rattle.geda_defs.specs.Classes.{Chain, Joined, AreClasses}
 use Rattle.std.specs.Prelude.{Contains}
 use Rattle.std.proofs.lemmas.List.Elements.{All-contains, Contains-append_left, Contains-append_right, Contains-append_cases, Contains-push, Contains-push_cases}
-use Rattle.link_classes.specs.Flattening.{AreTied}
-use Rattle.link_classes.specs.steps.Unions.{AreWithin, IsForest, IsTop, IsParent, LeadsUp, AreAbove, AreJoined, Labels, KeepsLabels, StandAtThemselves, AreUnionsOf}
+use Rattle.link_classes.specs.steps.Unions.{ArePaired, AreWithin, IsForest, IsTop, IsParent, LeadsUp, AreAbove, AreJoined, Labels, KeepsLabels, StandAtThemselves, AreUnionsOf}
 use Rattle.link_classes.proofs.LabelLemmas.{joined_by, joined_then, joined_of, joined_keeps, joined_back, joined_self, are_classes}
 
 -- a fact of a list that is written at one place: of that place, and of the others
@@ -106,7 +105,7 @@ joined_set R parents at parent h joined there k inside =
     at_set (λ (k p : ℕ). Joined R k p) parents at parent k h there (λ _. joined k (omega arith))
 
 -- ties go both ways
-pub tied_turn : (pairs : List (ℕ × ℕ)) (i j : ℕ) → AreTied pairs i j → AreTied pairs j i
+pub tied_turn : (pairs : List (ℕ × ℕ)) (i j : ℕ) → ArePaired pairs i j → ArePaired pairs j i
 tied_turn pairs i j tied = elim tied [ inl c ↦ inr c | inr c ↦ inl c ]
 
 -- what labels two trees labels two tied places the same, once one top stands below the other
@@ -130,20 +129,20 @@ label_written f parents at parent h labels =
     labels at (omega arith) ∙ ap f (get_or-set_same parents at parent 0 h)
 
 -- tied places are below the count
-pub tied_inside : (count : ℕ) (pairs : List (ℕ × ℕ)) → AreWithin count pairs → (i j : ℕ) → AreTied pairs i j → j < count
+pub tied_inside : (count : ℕ) (pairs : List (ℕ × ℕ)) → AreWithin count pairs → (i j : ℕ) → ArePaired pairs i j → j < count
 tied_inside count pairs within i j tied =
     elim tied [ inl c ↦ (All-contains (λ p. (p.0 < count) × (p.1 < count)) pairs (i, j) within c).1 | inr c ↦ (All-contains (λ p. (p.0 < count) × (p.1 < count)) pairs (j, i) within c).0 ]
 
 -- what is tied by pairs is tied by more pairs
-pub tied_left : (ps qs : List (ℕ × ℕ)) (i j : ℕ) → AreTied ps i j → AreTied (ps ++ qs) i j
+pub tied_left : (ps qs : List (ℕ × ℕ)) (i j : ℕ) → ArePaired ps i j → ArePaired (ps ++ qs) i j
 tied_left ps qs i j tied =
     elim tied [ inl c ↦ inl (Contains-append_left ps qs (i, j) c) | inr c ↦ inr (Contains-append_left ps qs (j, i) c) ]
 
-pub tied_right : (ps qs : List (ℕ × ℕ)) (i j : ℕ) → AreTied qs i j → AreTied (ps ++ qs) i j
+pub tied_right : (ps qs : List (ℕ × ℕ)) (i j : ℕ) → ArePaired qs i j → ArePaired (ps ++ qs) i j
 tied_right ps qs i j tied =
     elim tied [ inl c ↦ inl (Contains-append_right ps qs (i, j) c) | inr c ↦ inr (Contains-append_right ps qs (j, i) c) ]
 
-pub tied_append : (ps qs : List (ℕ × ℕ)) (i j : ℕ) → AreTied (ps ++ qs) i j → AreTied ps i j ⊎ AreTied qs i j
+pub tied_append : (ps qs : List (ℕ × ℕ)) (i j : ℕ) → ArePaired (ps ++ qs) i j → ArePaired ps i j ⊎ ArePaired qs i j
 tied_append ps qs i j tied = elim tied [
   | inl c ↦ elim (Contains-append_cases ps qs (i, j) c) [ inl a ↦ inl (inl a) | inr b ↦ inr (inl b) ]
   | inr c ↦ elim (Contains-append_cases ps qs (j, i) c) [ inl a ↦ inl (inr a) | inr b ↦ inr (inr b) ]
@@ -155,7 +154,7 @@ forest_apart parents apart k h = let e = apart k h in omega (arith, e)
 
 pub unions_apart : (parents : List ℕ) → StandAtThemselves parents → AreUnionsOf [] parents
 unions_apart parents apart = record {
-  joined = λ k h. subst (λ (x : ℕ). Joined (AreTied []) k x) (sym (apart k h)) (joined_self (AreTied []) k);
+  joined = λ k h. subst (λ (x : ℕ). Joined (ArePaired []) k x) (sym (apart k h)) (joined_self (ArePaired []) k);
   tied = λ f labels i j tied. elim tied [ inl c ↦ none_tied i j c | inr c ↦ none_tied j i c ];
 }
   where
@@ -164,12 +163,12 @@ unions_apart parents apart = record {
 
 -- unions of pairs, once two more places are united
 pub unions_more : (pairs : List (ℕ × ℕ)) (old new : List ℕ) (first second : ℕ)
-    → ((ps : List (ℕ × ℕ)) → AreTied ps first second → AreJoined (AreTied ps) old → AreJoined (AreTied ps) new)
+    → ((ps : List (ℕ × ℕ)) → ArePaired ps first second → AreJoined (ArePaired ps) old → AreJoined (ArePaired ps) new)
     → KeepsLabels old new → ((f : ℕ → ℕ) → Labels f new → f first ≡ f second)
     → AreUnionsOf pairs old → AreUnionsOf (pairs ++ (first, second) ∷ []) new
 unions_more pairs old new first second joined same tied unions = record {
-  joined = joined all (inl (Contains-push pairs (first, second))) (λ k h. joined_of (AreTied pairs) (AreTied all)
-      (λ a b t. joined_by (AreTied all) a b (tied_left pairs ((first, second) ∷ []) a b t)) k (get_or old k 0) (unions.joined k h));
+  joined = joined all (inl (Contains-push pairs (first, second))) (λ k h. joined_of (ArePaired pairs) (ArePaired all)
+      (λ a b t. joined_by (ArePaired all) a b (tied_left pairs ((first, second) ∷ []) a b t)) k (get_or old k 0) (unions.joined k h));
   tied = λ f labels i j t. elim (tied_append pairs ((first, second) ∷ []) i j t) [
     | inl before ↦ unions.tied f (same f labels) i j before
     | inr now ↦ elim now [
@@ -190,10 +189,10 @@ unions_more pairs old new first second joined same tied unions = record {
 
 -- the tops of unions are the labels of their classes
 pub unions_flat : (pairs : List (ℕ × ℕ)) (count : ℕ) (parents labels : List ℕ) → length parents ≡ count → length labels ≡ count → AreWithin count pairs
-    → AreUnionsOf pairs parents → IsForest labels → AreAbove parents labels → Labels (λ k. get_or labels k 0) parents → AreClasses (AreTied pairs) count labels
+    → AreUnionsOf pairs parents → IsForest labels → AreAbove parents labels → Labels (λ k. get_or labels k 0) parents → AreClasses (ArePaired pairs) count labels
 unions_flat pairs count parents labels first second within unions forest above flat =
-    are_classes (AreTied pairs) count labels second
+    are_classes (ArePaired pairs) count labels second
     (tied_inside count pairs within)
-    (λ i lt. joined_above (AreTied pairs) parents i (get_or labels i 0) unions.joined (above i (omega arith)))
+    (λ i lt. joined_above (ArePaired pairs) parents i (get_or labels i 0) unions.joined (above i (omega arith)))
     (λ i lt. forest i (omega arith))
     (unions.tied (λ k. get_or labels k 0) flat)

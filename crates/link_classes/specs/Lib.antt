@@ -1,2 +1,2 @@
-pub mod Flattening
+pub mod Links
 pub mod steps

@@ -1,6 +1,6 @@
 -- Steps of the code; no public clause cites them.
 pub mod Unions
-pub mod Places
-pub mod Drawing
-pub mod Repeats
+pub mod Rows
+pub mod Sweeps
 pub mod FirstPlaces
+pub mod PortPlaces

@@ -1,11 +1,24 @@
-// What joins on a sheet.
+// What joins in a project.
 use crate::member::Member;
 use geda_geom::{Conductor, Key};
 use geda_model::{Block, Items};
 
-/// A segment, the active end of a pin, or a hidden pin.
+/// Pins of a component that leads down to a sheet below: those with one label.
 #[derive(Debug, Drop)]
-pub struct SheetConductor {
+pub struct PortPins {
+    /// The place of the component's instance among all instances, counted from 0.
+    pub instance: usize,
+    /// The id of the component.
+    pub id: u32,
+    /// The label.
+    pub label: Block,
+}
+
+/// A segment, the active end of a pin, or a hidden pin, as it stands in an instance of its sheet.
+#[derive(Debug, Drop)]
+pub struct FlatConductor {
+    /// The place of its instance among all instances, counted from 0.
+    pub instance: usize,
     /// The object's id and the pin's place; the place of a hidden pin is 0.
     pub key: Key,
     /// What is drawn; none for a hidden pin.
@@ -16,4 +29,8 @@ pub struct SheetConductor {
     pub drawn_names: Items<Block>,
     /// The member that a pin of a listed part is.
     pub member: Option<Member>,
+    /// For a pin with a label of a component that leads down: the pins of that label.
+    pub leads_down: Option<PortPins>,
+    /// For a pin of a port: the pins above for which the port stands.
+    pub leads_up: Option<PortPins>,
 }

@@ -1,23 +1,41 @@
-// The class of each conductor of a sheet: what touches or shares a name stands in one class.
+// The class of each conductor of a project: what is linked stands in one class.
 ghost use Rattle.std.specs.Prelude.{IfOk, length};
 ghost use Rattle.geda_defs.specs.Classes.{AreClasses};
-ghost use Rattle.link_classes.specs.Flattening.{Linked, Way, flattened_on};
+ghost use Rattle.link_classes.specs.Links.{Linked};
+ghost use Rattle.link_classes.specs.steps.Unions.{Spans};
 
-use crate::conductors::SheetConductor;
+use crate::conductors::FlatConductor;
 use crate::names::name_pairs;
-use crate::touching::touching_labels;
-use crate::unions::join_pairs;
+use crate::ports::port_pairs;
+use crate::sweeps::touching_pairs;
+use crate::unions::{join_pairs, places};
 use std::alloc::{AllocError, Global};
 
-/// The label of each conductor of one sheet (docs/RULES.md, "Nets"): the least place of its class.
-/// Conductors that touch, or have a name in common, stand in one class. Places count from 0.
-pub fn class_labels(alloc: Global, conductors: &[SheetConductor]) -> Result<Vec<usize>, AllocError>
-    ensures { IfOk result (λ labels. (way : Way) →
-        AreClasses (Linked (flattened_on way conductors.now)) (length conductors.now)
-        labels.items) }
+/// Pairs that stand for all links.
+fn link_pairs(
+    alloc: Global,
+    conductors: &[FlatConductor],
+) -> Result<Vec<(usize, usize)>, AllocError>
+    ensures { IfOk result
+        (λ pairs. Spans (Linked conductors.now) (length conductors.now) pairs.items) }
 {
+    let mut pairs = touching_pairs(alloc, conductors)?;
     let names = name_pairs(alloc, conductors)?;
-    let mut labels = touching_labels(alloc, conductors)?;
-    join_pairs(&mut labels, &names);
+    pairs.extend_from_slice(&names)?;
+    let ties = port_pairs(alloc, conductors)?;
+    pairs.extend_from_slice(&ties)?;
+    Ok(pairs)
+}
+
+/// The label of each conductor of a project (docs/RULES.md, "Nets"): the least place of its class.
+/// Conductors of one instance that touch, those that have a name in common, and those that a port
+/// ties stand in one class. Places count from 0.
+pub fn class_labels(alloc: Global, conductors: &[FlatConductor]) -> Result<Vec<usize>, AllocError>
+    ensures { IfOk result (λ labels.
+        AreClasses (Linked conductors.now) (length conductors.now) labels.items) }
+{
+    let pairs = link_pairs(alloc, conductors)?;
+    let mut labels = places(alloc, conductors.len())?;
+    join_pairs(&mut labels, &pairs);
     Ok(labels)
 }

@@ -2,10 +2,10 @@
 ghost use Rattle.std.specs.Prelude.{◌≡◌, ◌++◌, List, length, IfOk, OnOk};
 ghost use Rattle.std.specs.HashMap.{get_by_text};
 ghost use Rattle.link_classes.specs.steps.FirstPlaces.{AddsName, Named, TiesNames, named_at, pair_with};
-ghost use Rattle.link_classes.specs.steps.Places.{ShareAt, own_names};
+ghost use Rattle.link_classes.specs.Links.{AtPlaces, ShareName, names_of};
 ghost use Rattle.link_classes.specs.steps.Unions.{Spans};
 
-use crate::conductors::SheetConductor;
+use crate::conductors::FlatConductor;
 use geda_model::Block;
 use std::alloc::{AllocError, Global};
 use std::collections::HashMap;
@@ -52,13 +52,13 @@ fn tie_names(
 fn tie_conductor(
     first: &mut HashMap<String, usize>,
     pairs: &mut Vec<(usize, usize)>,
-    conductor: &SheetConductor,
+    conductor: &FlatConductor,
     place: usize,
 ) -> Result<(), AllocError>
     ensures { OnOk result ((named : List Named)
         → TiesNames (get_by_text first.old) pairs.old.items named
         → TiesNames (get_by_text first.new) pairs.new.items
-        (named ++ named_at place (own_names conductor.now))) }
+        (named ++ named_at place (names_of conductor.now))) }
 {
     tie_names(first, pairs, conductor.global_names.as_slice(), place)?;
     tie_names(first, pairs, conductor.drawn_names.as_slice(), place)
@@ -67,10 +67,10 @@ fn tie_conductor(
 /// Pairs that tie all places with a name in common: at most one for each name of a place.
 pub(crate) fn name_pairs(
     alloc: Global,
-    conductors: &[SheetConductor],
+    conductors: &[FlatConductor],
 ) -> Result<Vec<(usize, usize)>, AllocError>
     ensures { IfOk result
-        (λ pairs. Spans (ShareAt conductors.now) (length conductors.now) pairs.items) }
+        (λ pairs. Spans (AtPlaces ShareName conductors.now) (length conductors.now) pairs.items) }
 {
     let mut first = HashMap::new(alloc);
     let mut pairs = Vec::new(alloc);

@@ -1,9 +1,8 @@
 // Which places stand in one class: each place has a parent, and the tops of the trees are the least
 // places of the classes.
-ghost use Rattle.std.specs.Prelude.{◌≡◌, ◌<◌, ◌++◌, ℕ, List, length, slice_index, IfOk};
+ghost use Rattle.std.specs.Prelude.{◌≡◌, ◌<◌, ℕ, List, length, slice_index, IfOk};
 ghost use Rattle.geda_defs.specs.Classes.{AreClasses};
-ghost use Rattle.link_classes.specs.Flattening.{AreTied};
-ghost use Rattle.link_classes.specs.steps.Unions.{StandAtThemselves, AreWithin, IsForest, IsTop, LeadsUp, AreAbove, AreJoined, Labels, KeepsLabels, AreUnionsOf, AddsUnions};
+ghost use Rattle.link_classes.specs.steps.Unions.{ArePaired, StandAtThemselves, AreWithin, IsForest, IsTop, LeadsUp, AreAbove, AreJoined, Labels, KeepsLabels, AddsUnions};
 
 use std::alloc::{AllocError, Global};
 
@@ -27,13 +26,13 @@ fn top(parents: &mut [usize], place: usize) -> usize
 }
 
 /// Puts two places into one tree.
-pub(crate) fn unite(parents: &mut [usize], first: usize, second: usize)
+fn unite(parents: &mut [usize], first: usize, second: usize)
     requires first { first < length parents.old }
     requires second { second < length parents.old }
     requires forest { IsForest parents.old }
     ensures forest { IsForest parents.new }
-    ensures joined { (pairs : List (ℕ × ℕ)) → AreTied pairs first second
-        → AreJoined (AreTied pairs) parents.old → AreJoined (AreTied pairs) parents.new }
+    ensures joined { (pairs : List (ℕ × ℕ)) → ArePaired pairs first second
+        → AreJoined (ArePaired pairs) parents.old → AreJoined (ArePaired pairs) parents.new }
     ensures same { KeepsLabels parents.old parents.new }
     ensures tied { (f : ℕ → ℕ) → Labels f parents.new → f first ≡ f second }
 {
@@ -60,7 +59,7 @@ fn unite_pairs(parents: &mut [usize], pairs: &[(usize, usize)])
 }
 
 /// Makes each place's top its parent.
-pub(crate) fn flatten(parents: &mut [usize])
+fn flatten(parents: &mut [usize])
     requires forest { IsForest parents.old }
     ensures forest { IsForest parents.new }
     ensures above { AreAbove parents.old parents.new }
@@ -71,14 +70,12 @@ pub(crate) fn flatten(parents: &mut [usize])
     }
 }
 
-/// Joins the places of each pair, too, and then gives each place the least place of its class.
-/// Labels of classes are trees: each place stands below the least place of its class.
+/// Makes trees of one place each the labels of classes: joins the places of each pair, and then
+/// gives each place the least place of its class.
 pub(crate) fn join_pairs(labels: &mut [usize], pairs: &[(usize, usize)])
     requires within { AreWithin (length labels.old) pairs.now }
-    requires forest { IsForest labels.old }
-    ensures { (before : List (ℕ × ℕ)) → AreWithin (length labels.old) before
-        → AreUnionsOf before labels.old
-        → AreClasses (AreTied (before ++ pairs.now)) (length labels.old) labels.new }
+    requires apart { StandAtThemselves labels.old }
+    ensures { AreClasses (ArePaired pairs.now) (length labels.old) labels.new }
 {
     unite_pairs(labels, pairs);
     flatten(labels);

@@ -1,6 +1,6 @@
 -- A class that takes in the conductors of one label becomes the class of that label, with the least
 -- of its names alone.
-use Rattle.std.proofs.Common.{◌≡◌, ℕ, ◌+◌, ◌==◌, ◌&&◌, ◌||◌, ◌<◌, false, cond, List, [], ◌∷◌, Option, Some, None, Ordering, length, get_or, set, map, drop, filter, filter_map, flat_map, fold, refl, sym, ap, ◌∙◌, arith, inl, inr}
+use Rattle.std.proofs.Common.{◌≡◌, ℕ, ◌+◌, ◌==◌, ◌&&◌, ◌||◌, ◌<◌, false, cond, List, [], ◌∷◌, Option, Some, None, Ordering, length, get_or, set, drop, filter, filter_map, flat_map, fold, refl, sym, ap, ◌∙◌, arith, inl, inr}
 use Rattle.std.specs.declared.cmp.Ordering.TheVariants.{Less, Equal, Greater}
 use Rattle.std.specs.List.{list_any}
 use Rattle.std.specs.Ordering.{match_ordering}
@@ -10,9 +10,9 @@ use Rattle.std.proofs.Math.Bool.{or_assoc, or-false}
 use Rattle.std.proofs.lemmas.Bool.{cases_eq, eq-eqb, ne_eqb}
 use Rattle.std.proofs.lemmas.List.{drop_more, get_or-set_same, get_or-set_other, length-set}
 use Rattle.std.proofs.lemmas.List.Sums.{fold-append}
-use Rattle.link_classes.specs.declared.conductors.SheetConductor.{SheetConductor}
-use Rattle.link_classes.specs.Flattening.{Way, flat_on, names_of}
-use Rattle.net_names.specs.Order.{once_in_order}
+use Rattle.link_classes.specs.declared.conductors.FlatConductor.{FlatConductor}
+use Rattle.link_classes.specs.Links.{names_of}
+use Rattle.flat_sheets.specs.Order.{once_in_order}
 use Rattle.net_names.specs.NetClasses.{Labelled, labelled_from, ClassPinData, class_pin_of, by_member, NetClassData, is_drawn_pin, is_single_pin, has_global_name, net_class}
 use Rattle.net_names.specs.NetLists.{by_name}
 use Rattle.net_names.specs.steps.Gathering.{GrowingClassData, empty_class, with_pin, lesser, with_conductor, joined_at, gathered_from, one_or_none, as_net_class}
@@ -99,28 +99,28 @@ grown_class ls =
     rw (grown_pins empty_class ls, grown_single ls, grown_global empty_class ls, least) refl
 
 -- one conductor changes the class of its label alone
-grown_at : (way : Way) (growing : List GrowingClassData) (place : ℕ) (j : SheetConductor) (label r : ℕ) (ls : List Labelled) → r < length growing
+grown_at : (growing : List GrowingClassData) (place : ℕ) (j : FlatConductor) (label r : ℕ) (ls : List Labelled) → r < length growing
     → grown (get_or (set growing label (with_conductor (get_or growing label empty_class) place j)) r empty_class) ls
-    ≡ grown (get_or growing r empty_class) (cond (label == r) (record { place = place; label = label; conductor = flat_on way j } ∷ ls) ls)
-grown_at way growing place j label r ls h = elim (cases_eq label r) [
+    ≡ grown (get_or growing r empty_class) (cond (label == r) (record { place = place; label = label; conductor = j } ∷ ls) ls)
+grown_at growing place j label r ls h = elim (cases_eq label r) [
   | inl e ↦ rw (e, get_or-set_same growing r (with_conductor (get_or growing r empty_class) place j) empty_class h, eq-eqb r r refl) refl
   | inr ne ↦ rw (get_or-set_other growing label r (with_conductor (get_or growing label empty_class) place j) empty_class (λ x. ne (sym x)), ne_eqb label r ne) refl
 ]
 
-pub gathered_length : (growing : List GrowingClassData) (place : ℕ) (conductors : List SheetConductor) (labels : List ℕ) → length (gathered_from growing place conductors labels) ≡ length growing
+pub gathered_length : (growing : List GrowingClassData) (place : ℕ) (conductors : List FlatConductor) (labels : List ℕ) → length (gathered_from growing place conductors labels) ≡ length growing
 gathered_length growing place [] labels = refl
 gathered_length growing place (j ∷ js) labels = gathered_length (joined_at growing place j labels) (place + 1) js labels ∙ length-set growing _ _
 
 -- the class of a label has taken in the conductors of that label, in their order
-pub gathered_at : (way : Way) (growing : List GrowingClassData) (place : ℕ) (conductors : List SheetConductor) (labels : List ℕ) (r : ℕ) → r < length growing
+pub gathered_at : (growing : List GrowingClassData) (place : ℕ) (conductors : List FlatConductor) (labels : List ℕ) (r : ℕ) → r < length growing
     → place + length conductors ≡ length labels
     → get_or (gathered_from growing place conductors labels) r empty_class
-    ≡ grown (get_or growing r empty_class) (filter (λ l. l.label == r) (labelled_from place (map (flat_on way) conductors) (drop place labels)))
-gathered_at way growing place [] labels r h e = refl
-gathered_at way growing place (j ∷ js) labels r h e =
+    ≡ grown (get_or growing r empty_class) (filter (λ l. l.label == r) (labelled_from place conductors (drop place labels)))
+gathered_at growing place [] labels r h e = refl
+gathered_at growing place (j ∷ js) labels r h e =
     let label = get_or labels place 0 in
     let within : place < length labels = omega arith in
     let same : length (joined_at growing place j labels) ≡ length growing = length-set growing _ _ in
-    gathered_at way (joined_at growing place j labels) (place + 1) js labels r (omega arith) (omega arith)
-    ∙ grown_at way growing place j label r (filter (λ l. l.label == r) (labelled_from (place + 1) (map (flat_on way) js) (drop (place + 1) labels))) h
-    ∙ sym (ap (λ (ls : List ℕ). grown (get_or growing r empty_class) (filter (λ l. l.label == r) (labelled_from place (map (flat_on way) (j ∷ js)) ls))) (drop_more labels place 0 within))
+    gathered_at (joined_at growing place j labels) (place + 1) js labels r (omega arith) (omega arith)
+    ∙ grown_at growing place j label r (filter (λ l. l.label == r) (labelled_from (place + 1) js (drop (place + 1) labels))) h
+    ∙ sym (ap (λ (ls : List ℕ). grown (get_or growing r empty_class) (filter (λ l. l.label == r) (labelled_from place (j ∷ js) ls))) (drop_more labels place 0 within))

@@ -2,11 +2,6 @@ pub mod OnceLaws
 pub mod GatheringLemmas
 pub mod NumberingLemmas
 pub mod ListingLemmas
-pub mod PartLemmas
 pub mod PackageLemmas
-pub mod SheetLemmas
-pub mod SourceLemmas
-pub mod NetListLemmas
 pub mod Uniqueness
 pub mod Cases
-pub mod PartCases

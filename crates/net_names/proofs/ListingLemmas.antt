@@ -8,13 +8,13 @@ use Rattle.std.specs.BTreeSet.{insert_key}
 use Rattle.std.proofs.lemmas.List.{length-map, get_or-map, length-replicate, get_or-replicate}
 use Rattle.std.proofs.lemmas.Bool.{ne_eqb}
 use Rattle.std.proofs.lemmas.List.FromFn.{fill_by_all}
-use Rattle.link_classes.specs.declared.conductors.SheetConductor.{SheetConductor}
-use Rattle.link_classes.specs.Flattening.{Way, flat_on, flattened_on, names_of}
+use Rattle.link_classes.specs.declared.conductors.FlatConductor.{FlatConductor}
+use Rattle.link_classes.specs.Links.{names_of}
 use Rattle.net_names.specs.declared.nets.Net.{Net}
 use Rattle.net_names.specs.declared.nets.NetSort.{NetSort}
 use Rattle.net_names.specs.declared.nets.NetSort.TheVariants as sorts
-use Rattle.net_names.specs.Order.{once_in_order, by_bytes}
-use Rattle.net_names.specs.NetClasses.{labelled_from, NetClassData, net_class_of, net_classes, has_pins}
+use Rattle.flat_sheets.specs.Order.{once_in_order, by_bytes}
+use Rattle.net_names.specs.NetClasses.{labelled_from, NetClassData, net_class_of, has_pins}
 use Rattle.net_names.specs.NetLists.{is_named, is_unnamed, is_unconnected, named_net, net_of, by_least_pin, by_name, is_free, first_or, numbered, numbered_nets, nets_by}
 use Rattle.net_names.specs.steps.Orders.{by_net_name}
 use Rattle.net_names.specs.steps.Gathering.{GrowingClassData, empty_class, lesser, gathered, one_or_none, as_net_class, with_named, named_in_order, with_class, in_order}
@@ -30,19 +30,19 @@ nets_of classes used =
     ++ numbered_nets (codes "unconnected_pin-") sorts.Unconnected used (filter is_unconnected classes)
 
 -- the gathered classes are those of all labels, with the least of their names alone
-gathered_classes : (way : Way) (conductors : List SheetConductor) (labels : List ℕ) → length labels ≡ length conductors
-    → map as_net_class (gathered conductors labels) ≡ map with_least (map (net_class_of (labelled_from 0 (map (flat_on way) conductors) labels)) (range_with_len 0 (length conductors)))
-gathered_classes way conductors labels same =
+gathered_classes : (conductors : List FlatConductor) (labels : List ℕ) → length labels ≡ length conductors
+    → map as_net_class (gathered conductors labels) ≡ map with_least (map (net_class_of (labelled_from 0 conductors labels)) (range_with_len 0 (length conductors)))
+gathered_classes conductors labels same =
     let count = length conductors in
     let growing = gathered conductors labels in
-    let ls = labelled_from 0 (map (flat_on way) conductors) labels in
+    let ls = labelled_from 0 conductors labels in
     let long : length (replicate count empty_class) ≡ count = length-replicate count empty_class in
     let there : length growing ≡ count = gathered_length (replicate count empty_class) 0 conductors labels ∙ long in
     fill_by_all (λ r. with_least (net_class_of ls r)) (map as_net_class growing) count (as_net_class empty_class) (length-map growing as_net_class ∙ there)
     (λ r h.
     let mine = filter (λ l. l.label == r) ls in
     get_or-map as_net_class growing r empty_class (as_net_class empty_class) (omega arith)
-    ∙ ap as_net_class (gathered_at way (replicate count empty_class) 0 conductors labels r (omega arith) (omega arith))
+    ∙ ap as_net_class (gathered_at (replicate count empty_class) 0 conductors labels r (omega arith) (omega arith))
     ∙ ap (λ (g : GrowingClassData). as_net_class (grown g mine)) (get_or-replicate count r empty_class empty_class h)
     ∙ grown_class mine
     )
@@ -170,24 +170,22 @@ in_parts classes used named nets all e f g =
     g ∙ ap (λ (x : List Net). x ++ alone) (f ∙ ap (λ (x : List Net). x ++ unnamed) e)
 
 -- the nets of conductors: first the named ones, then the unnamed and the unconnected ones
-pub nets_by_steps : (way : Way) (conductors : List SheetConductor) (labels : List ℕ) (growing : List GrowingClassData)
+pub nets_by_steps : (conductors : List FlatConductor) (labels : List ℕ) (growing : List GrowingClassData)
     (taken taken_alone : List (List ℕ)) (named : List Net) (unnamed unconnected : List NetClassData) (nets all : List Net)
     → length labels ≡ length conductors → growing ≡ gathered conductors labels
-    → taken ≡ taken_names (codes "unnamed_net") (flat_map names_of (map (flat_on way) conductors))
-    → taken_alone ≡ taken_names (codes "unconnected_pin-") (flat_map names_of (map (flat_on way) conductors))
+    → taken ≡ taken_names (codes "unnamed_net") (flat_map names_of conductors)
+    → taken_alone ≡ taken_names (codes "unconnected_pin-") (flat_map names_of conductors)
     → named ≡ named_in_order growing → unnamed ≡ in_order is_unnamed growing → unconnected ≡ in_order is_unconnected growing
     → AreNumbered (codes "unnamed_net") sorts.Unnamed taken unnamed named nets
     → AreNumbered (codes "unconnected_pin-") sorts.Unconnected taken_alone unconnected nets all
-    → all ≡ nets_by (flattened_on way conductors) labels
-nets_by_steps way conductors labels growing taken taken_alone named unnamed unconnected nets all len same t a n u v first second =
-    let flat = map (flat_on way) conductors in
-    let used = flat_map names_of flat in
-    let cs = map (net_class_of (labelled_from 0 flat labels)) (range_with_len 0 (length conductors)) in
-    let least : map as_net_class growing ≡ map with_least cs = ap (map as_net_class) same ∙ gathered_classes way conductors labels len in
+    → all ≡ nets_by conductors labels
+nets_by_steps conductors labels growing taken taken_alone named unnamed unconnected nets all len same t a n u v first second =
+    let used = flat_map names_of conductors in
+    let cs = map (net_class_of (labelled_from 0 conductors labels)) (range_with_len 0 (length conductors)) in
+    let least : map as_net_class growing ≡ map with_least cs = ap (map as_net_class) same ∙ gathered_classes conductors labels len in
     let nets_named = n ∙ ap (fold with_named []) least ∙ with_nets [] cs in
     let classes_unnamed = u ∙ ap (fold (with_class is_unnamed) []) least ∙ with_classes is_unnamed unnamed_test [] cs in
     let classes_alone = v ∙ ap (fold (with_class is_unconnected) []) least ∙ with_classes is_unconnected unconnected_test [] cs in
     let with_unnamed = numbers_grow (codes "unnamed_net") sorts.Unnamed used taken unnamed (filter is_unnamed (filter has_pins cs)) named nets t classes_unnamed first in
     let with_alone = numbers_grow (codes "unconnected_pin-") sorts.Unconnected used taken_alone unconnected (filter is_unconnected (filter has_pins cs)) nets all a classes_alone second in
     in_parts (filter has_pins cs) used named nets all nets_named with_unnamed with_alone
-    ∙ ap (λ (count : ℕ). nets_of (net_classes (labelled_from 0 flat labels) count) used) (sym (length-map conductors (flat_on way)))

@@ -9,7 +9,7 @@ use Rattle.std.specs.List.Sorted.{IsStrictlySortedBy}
 use Rattle.std.specs.Cmp.{IsTotalOrder, tied_itself}
 use Rattle.std.specs.BTreeSet.{insert_key}
 use Rattle.std.proofs.lemmas.List.Elements.{All-from_recursion}
-use Rattle.net_names.specs.Order.{once_in_order, is_equal, IsOnceInOrder}
+use Rattle.flat_sheets.specs.Order.{once_in_order, is_equal, IsOnceInOrder}
 
 pub option_or-none : {A : Type 0} (a : Option A) → option_or a None ≡ a
 option_or-none None = refl

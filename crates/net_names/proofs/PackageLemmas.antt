@@ -1,6 +1,6 @@
--- The rows of packages after all listed parts are the packages of these parts.
+-- The rows of packages after all parts are the packages of these parts.
 use Rattle.std.proofs.Common.{◌≡◌, ℕ, Bool, true, false, cond, List, [], ◌∷◌, Option, Some, None, refl, sym, ap, ◌∙◌}
-use Rattle.std.specs.Prelude.{codes, map, T, ◌&&◌}
+use Rattle.std.specs.Prelude.{map, T, ◌&&◌}
 use Rattle.std.specs.declared.cmp.Ordering.TheVariants.{Less, Equal}
 use Rattle.std.specs.BTreeMap.{IsOrdered, Updates, is_at}
 use Rattle.std.specs.Cmp.{tied_itself}
@@ -13,17 +13,20 @@ use Rattle.std.specs.Ordering.{is_eq, is_lt}
 use Rattle.std.specs.Str.{bytes_eq}
 use Rattle.std.proofs.lemmas.Map.Text.{is_eq-slice_cmp}
 use Rattle.std.proofs.lemmas.Slice.Eq.{bytes_eq-Decides}
-use Rattle.attr_rules.specs.Attributes.{attr}
+use Rattle.flat_sheets.specs.declared.package.Package.{Package}
 use Rattle.net_names.specs.declared.packages.PackageAttributes.{PackageAttributes}
-use Rattle.net_names.specs.Order.{by_bytes, is_equal, once_in_order}
-use Rattle.net_names.specs.ListedParts.{ListedPart}
+use Rattle.flat_sheets.specs.Order.{by_bytes, is_equal, once_in_order}
 use Rattle.net_names.specs.Packages.{attr_in_package, package_attr, package_of, packages_by}
 use Rattle.net_names.specs.steps.Orders.{by_bytes_total}
 use Rattle.net_names.specs.steps.PackageRows.{AreRowsOf, PackageRows, TakesIn, no_attributes, package_of_row, row_after, row_and_part, row_at, row_with, with_attributes_of}
-use Rattle.net_names.proofs.PartLemmas.{refuted}
 use Rattle.net_names.proofs.OnceLaws.{find_once, is_once_in_order, option_or-assoc, option_or-none}
 
 -- ---- one part
+
+-- what is refuted is false
+refuted : (b : Bool) → (b ≡ true → ⊥) → b ≡ false
+refuted true h = absurd (h refl)
+refuted false h = refl
 
 same_bytes : (a b : List ℕ) → bytes_eq a b ≡ true → a ≡ b
 same_bytes a b e = (bytes_eq-Decides a b).0 e
@@ -39,9 +42,9 @@ equal_true : (a b : List ℕ) → bytes_eq a b ≡ true → is_equal by_bytes b 
 equal_true a b e = rw (same_bytes a b e, tied_itself by_bytes_total b) refl
 
 -- a row is taken out, taken further and put back
-pub takes_in : (part : ListedPart) (old mid new : PackageRows) (row : Option PackageAttributes) (made : PackageAttributes)
+pub takes_in : (part : Package) (old mid new : PackageRows) (row : Option PackageAttributes) (made : PackageAttributes)
     → row ≡ row_at old part.refdes → made ≡ row_and_part part row
-    → Updates by_bytes old mid part.refdes None → Updates by_bytes mid new part.refdes (Some made) → TakesIn (Some part) old new
+    → Updates by_bytes old mid part.refdes None → Updates by_bytes mid new part.refdes (Some made) → TakesIn part old new
 takes_in part old mid new row made is is_made out back q = by (bytes_eq part.refdes q) refl
   where
     by : (b : Bool) → bytes_eq part.refdes q ≡ b
@@ -55,12 +58,16 @@ takes_in part old mid new row made is is_made out back q = by (bytes_eq part.ref
 
 -- ---- all parts
 
+-- an attribute of a part
+abbrev Attribute : Type 0
+Attribute = Package → Option (List ℕ)
+
 -- known attributes, and behind them those of a package
-abbrev attributes_after : PackageAttributes → List ListedPart → List ℕ → PackageAttributes
+abbrev attributes_after : PackageAttributes → List Package → List ℕ → PackageAttributes
 attributes_after a parts q = record {
-  device = option_or a.device (package_attr parts q (codes "device"));
-  value = option_or a.value (package_attr parts q (codes "value"));
-  footprint = option_or a.footprint (package_attr parts q (codes "footprint"));
+  device = option_or a.device (package_attr parts q (λ p. p.device));
+  value = option_or a.value (package_attr parts q (λ p. p.value));
+  footprint = option_or a.footprint (package_attr parts q (λ p. p.footprint));
 }
 
 first_cons : (v : Option (List ℕ)) (vs : List (List ℕ)) → slice_get (cons_option v vs) 0 ≡ option_or v (slice_get vs 0)
@@ -68,79 +75,79 @@ first_cons None vs = refl
 first_cons (Some v) vs = refl
 
 -- the attribute of a package is that of the first part, else of the others
-first_of : (q name : List ℕ) (part : ListedPart) (parts : List ListedPart)
-    → package_attr (part ∷ parts) q name ≡ option_or (attr_in_package q name part) (package_attr parts q name)
-first_of q name part parts = first_cons (attr_in_package q name part) (filter_map (attr_in_package q name) parts)
+first_of : (q : List ℕ) (attribute : Attribute) (part : Package) (parts : List Package)
+    → package_attr (part ∷ parts) q attribute ≡ option_or (attr_in_package q attribute part) (package_attr parts q attribute)
+first_of q attribute part parts = first_cons (attr_in_package q attribute part) (filter_map (attr_in_package q attribute) parts)
 
 -- the row of a refdes has the attributes, once there is one
-row_known : (q : List ℕ) (part : ListedPart) (a : PackageAttributes)
+row_known : (q : List ℕ) (part : Package) (a : PackageAttributes)
     → row_with q part (Some a) ≡ Some (record {
-      device = option_or a.device (attr_in_package q (codes "device") part);
-      value = option_or a.value (attr_in_package q (codes "value") part);
-      footprint = option_or a.footprint (attr_in_package q (codes "footprint") part);
+      device = option_or a.device (attr_in_package q (λ p. p.device) part);
+      value = option_or a.value (attr_in_package q (λ p. p.value) part);
+      footprint = option_or a.footprint (attr_in_package q (λ p. p.footprint) part);
     })
 row_known q part a = by (bytes_eq part.refdes q)
   where
-    by : (b : Bool) → cond b (Some (with_attributes_of part.object part.library a)) (Some a) ≡ Some (record {
-      device = option_or a.device (cond b (attr part.object part.library (codes "device")) None);
-      value = option_or a.value (cond b (attr part.object part.library (codes "value")) None);
-      footprint = option_or a.footprint (cond b (attr part.object part.library (codes "footprint")) None);
+    by : (b : Bool) → cond b (Some (with_attributes_of part a)) (Some a) ≡ Some (record {
+      device = option_or a.device (cond b (part.device) None);
+      value = option_or a.value (cond b (part.value) None);
+      footprint = option_or a.footprint (cond b (part.footprint) None);
     })
     by true = refl
     by false = rw (option_or-none a.device, option_or-none a.value, option_or-none a.footprint) refl
 
-row_after_known : (q : List ℕ) (parts : List ListedPart) (a : PackageAttributes) → row_after q parts (Some a) ≡ Some (attributes_after a parts q)
+row_after_known : (q : List ℕ) (parts : List Package) (a : PackageAttributes) → row_after q parts (Some a) ≡ Some (attributes_after a parts q)
 row_after_known q [] a = rw (option_or-none a.device, option_or-none a.value, option_or-none a.footprint) refl
 row_after_known q (part ∷ parts) a =
     ap (row_after q parts) (row_known q part a)
     ∙ row_after_known q parts _
     ∙ rw (
-      first_of q (codes "device") part parts,
-      first_of q (codes "value") part parts,
-      first_of q (codes "footprint") part parts,
-      option_or-assoc a.device (attr_in_package q (codes "device") part) (package_attr parts q (codes "device")),
-      option_or-assoc a.value (attr_in_package q (codes "value") part) (package_attr parts q (codes "value")),
-      option_or-assoc a.footprint (attr_in_package q (codes "footprint") part) (package_attr parts q (codes "footprint")),
+      first_of q (λ p. p.device) part parts,
+      first_of q (λ p. p.value) part parts,
+      first_of q (λ p. p.footprint) part parts,
+      option_or-assoc a.device (attr_in_package q (λ p. p.device) part) (package_attr parts q (λ p. p.device)),
+      option_or-assoc a.value (attr_in_package q (λ p. p.value) part) (package_attr parts q (λ p. p.value)),
+      option_or-assoc a.footprint (attr_in_package q (λ p. p.footprint) part) (package_attr parts q (λ p. p.footprint)),
     ) refl
 
 -- the attributes of a package
-abbrev attributes_of : List ListedPart → List ℕ → PackageAttributes
+abbrev attributes_of : List Package → List ℕ → PackageAttributes
 attributes_of parts q = attributes_after no_attributes parts q
 
 -- a part of another refdes gives nothing
-passed_over : (q : List ℕ) (part : ListedPart) (parts : List ListedPart) → ((name : List ℕ) → attr_in_package q name part ≡ None) → attributes_of (part ∷ parts) q ≡ attributes_of parts q
+passed_over : (q : List ℕ) (part : Package) (parts : List Package) → ((attribute : Attribute) → attr_in_package q attribute part ≡ None) → attributes_of (part ∷ parts) q ≡ attributes_of parts q
 passed_over q part parts none =
-    rw (first_of q (codes "device") part parts, first_of q (codes "value") part parts, first_of q (codes "footprint") part parts, none (codes "device"), none (codes "value"), none (codes "footprint")) refl
+    rw (first_of q (λ p. p.device) part parts, first_of q (λ p. p.value) part parts, first_of q (λ p. p.footprint) part parts, none (λ p. p.device), none (λ p. p.value), none (λ p. p.footprint)) refl
 
-taken_up : (q : List ℕ) (part : ListedPart) (parts : List ListedPart) → ((name : List ℕ) → attr_in_package q name part ≡ attr part.object part.library name)
-    → attributes_after (with_attributes_of part.object part.library no_attributes) parts q ≡ attributes_of (part ∷ parts) q
+taken_up : (q : List ℕ) (part : Package) (parts : List Package) → ((attribute : Attribute) → attr_in_package q attribute part ≡ attribute part)
+    → attributes_after (with_attributes_of part no_attributes) parts q ≡ attributes_of (part ∷ parts) q
 taken_up q part parts own =
-    rw (first_of q (codes "device") part parts, first_of q (codes "value") part parts, first_of q (codes "footprint") part parts, own (codes "device"), own (codes "value"), own (codes "footprint")) refl
+    rw (first_of q (λ p. p.device) part parts, first_of q (λ p. p.value) part parts, first_of q (λ p. p.footprint) part parts, own (λ p. p.device), own (λ p. p.value), own (λ p. p.footprint)) refl
 
 -- the refdes of each part
-abbrev refdeses : List ListedPart → List (List ℕ)
+abbrev refdeses : List Package → List (List ℕ)
 refdeses parts = map (λ part. part.refdes) parts
 
 -- the refdes that equals a text, with the attributes of its package
-abbrev wanted_row : List ListedPart → List (List ℕ) → List ℕ → Option PackageAttributes
+abbrev wanted_row : List Package → List (List ℕ) → List ℕ → Option PackageAttributes
 wanted_row parts listed q = option_map (λ _. attributes_of parts q) (find (is_equal by_bytes q) listed)
 
 -- the row of a refdes after all parts has the attributes of its package, where there is one
-rows_after : (q : List ℕ) (parts : List ListedPart) → row_after q parts None ≡ wanted_row parts (refdeses parts) q
+rows_after : (q : List ℕ) (parts : List Package) → row_after q parts None ≡ wanted_row parts (refdeses parts) q
 rows_after q [] = refl
 rows_after q (part ∷ parts) = by (bytes_eq part.refdes q) refl (rows_after q parts)
   where
-    rest : (listed : List (List ℕ)) → ((name : List ℕ) → attr_in_package q name part ≡ None)
+    rest : (listed : List (List ℕ)) → ((attribute : Attribute) → attr_in_package q attribute part ≡ None)
         → wanted_row parts listed q ≡ wanted_row (part ∷ parts) listed q
     rest listed none = rw (passed_over q part parts none) refl
 
     by : (b : Bool) → bytes_eq part.refdes q ≡ b → row_after q parts None ≡ wanted_row parts (refdeses parts) q
-        → row_after q parts (cond b (Some (with_attributes_of part.object part.library no_attributes)) None) ≡ wanted_row (part ∷ parts) (part.refdes ∷ refdeses parts) q
+        → row_after q parts (cond b (Some (with_attributes_of part no_attributes)) None) ≡ wanted_row (part ∷ parts) (part.refdes ∷ refdeses parts) q
     by true same h =
-        let own : (name : List ℕ) → attr_in_package q name part ≡ attr part.object part.library name = λ name. rw same refl in
+        let own : (attribute : Attribute) → attr_in_package q attribute part ≡ attribute part = λ attribute. rw same refl in
         rw (equal_true part.refdes q same) (row_after_known q parts _ ∙ ap Some (taken_up q part parts own))
     by false other h =
-        let none : (name : List ℕ) → attr_in_package q name part ≡ None = λ name. rw other refl in
+        let none : (attribute : Attribute) → attr_in_package q attribute part ≡ None = λ attribute. rw other refl in
         rw (equal_false part.refdes q other) (h ∙ rest (refdeses parts) none)
 
 -- ---- rows in order
@@ -163,14 +170,14 @@ found q [] = refl
 found q (e ∷ es) = ap (cond (is_eq (by_bytes q e.0)) (Some e.1)) (found q es)
 
 -- each refdes with the attributes of its package
-abbrev row_of : List ListedPart → List ℕ → List ℕ × PackageAttributes
+abbrev row_of : List Package → List ℕ → List ℕ × PackageAttributes
 row_of parts refdes = (refdes, attributes_of parts refdes)
 
-keys_of_rows : (parts : List ListedPart) (ks : List (List ℕ)) → keys_of (map (row_of parts) ks) ≡ ks
+keys_of_rows : (parts : List Package) (ks : List (List ℕ)) → keys_of (map (row_of parts) ks) ≡ ks
 keys_of_rows parts [] = refl
 keys_of_rows parts (k ∷ ks) = ap (λ rest. k ∷ rest) (keys_of_rows parts ks)
 
-found_row : (parts : List ListedPart) (q : List ℕ) (ks : List (List ℕ)) → table.find by_bytes q (map (row_of parts) ks) ≡ wanted_row parts ks q
+found_row : (parts : List Package) (q : List ℕ) (ks : List (List ℕ)) → table.find by_bytes q (map (row_of parts) ks) ≡ wanted_row parts ks q
 found_row parts q [] = refl
 found_row parts q (k ∷ ks) = by (bytes_eq k q) refl (found_row parts q ks)
   where
@@ -182,12 +189,12 @@ found_row parts q (k ∷ ks) = by (bytes_eq k q) refl (found_row parts q ks)
 exact : (x y : List ℕ) → by_bytes x y ≡ Equal → x ≡ y
 exact x y e = same_bytes x y (sym (is_eq-slice_cmp x y) ∙ ap is_eq e)
 
-packages_of_keys : (parts : List ListedPart) (ks : List (List ℕ)) → map package_of_row (map (row_of parts) ks) ≡ map (package_of parts) ks
+packages_of_keys : (parts : List Package) (ks : List (List ℕ)) → map package_of_row (map (row_of parts) ks) ≡ map (package_of parts) ks
 packages_of_keys parts [] = refl
 packages_of_keys parts (k ∷ ks) = ap (λ rest. package_of parts k ∷ rest) (packages_of_keys parts ks)
 
 -- the packages of the rows are the packages of the parts
-pub packages_of_rows-are : (parts : List ListedPart) (rows : PackageRows) → IsOrdered by_bytes rows → AreRowsOf parts rows
+pub packages_of_rows-are : (parts : List Package) (rows : PackageRows) → IsOrdered by_bytes rows → AreRowsOf parts rows
     → map package_of_row rows.entries ≡ packages_by parts
 packages_of_rows-are parts rows ordered are =
     let keys = once_in_order by_bytes (refdeses parts) in

@@ -3,10 +3,10 @@ use Rattle.std.proofs.Common.{◌≡◌, ℕ, ◌<◌, List, get_or, sym, ap, �
 use Rattle.std.proofs.lemmas.List.{ext_get_or}
 use Rattle.geda_defs.specs.Classes.{AreClasses}
 use Rattle.geda_model.specs.Projects.{ProjectData}
-use Rattle.link_classes.specs.Flattening.{Flattened}
+use Rattle.link_classes.specs.declared.conductors.FlatConductor.{FlatConductor}
 use Rattle.net_names.specs.declared.nets.Net.{Net}
 use Rattle.net_names.specs.declared.nets.Nets.{Nets}
-use Rattle.net_names.specs.declared.nets.Package.{Package}
+use Rattle.flat_sheets.specs.declared.package.Package.{Package}
 use Rattle.net_names.specs.NetLists.{AreNetsOf, IsNetListOf, nets_by}
 
 same_labels : (R : ℕ → ℕ → Type 0) (count : ℕ) (xs ys : List ℕ) → AreClasses R count xs → AreClasses R count ys → xs ≡ ys
@@ -15,8 +15,8 @@ same_labels R count xs ys p q =
     let inside : i < count = omega (arith, p.len) in
     omega (arith, p.least i (get_or ys i 0) inside (q.chain i inside), q.least i (get_or xs i 0) inside (p.chain i inside)))
 
-pub same_nets : (p : Flattened) (xs ys : List Net) → AreNetsOf p xs → AreNetsOf p ys → xs ≡ ys
-same_nets p xs ys a b = a.2 ∙ ap (nets_by p) (same_labels _ _ a.0 b.0 a.1 b.1) ∙ sym b.2
+pub same_nets : (conductors : List FlatConductor) (xs ys : List Net) → AreNetsOf conductors xs → AreNetsOf conductors ys → xs ≡ ys
+same_nets conductors xs ys a b = a.2 ∙ ap (nets_by conductors) (same_labels _ _ a.0 b.0 a.1 b.1) ∙ sym b.2
 
 both_parts : (a b : Nets) → a.packages ≡ b.packages → a.nets ≡ b.nets → a ≡ b
 both_parts a b p q =

@@ -6,8 +6,9 @@ use Rattle.std.specs.Ordering.{nat_cmp, on, then_cmp}
 use Rattle.geda_geom.specs.declared.conductor.Conductor.{Conductor}
 use Rattle.geda_geom.specs.declared.conductor.Conductor.TheVariants.{End}
 use Rattle.link_classes.specs.declared.member.Member.{Member}
-use Rattle.net_names.specs.Order.{once_in_order, by_bytes}
-use Rattle.link_classes.specs.Flattening.{FlatConductor, names_of}
+use Rattle.flat_sheets.specs.Order.{once_in_order, by_bytes}
+use Rattle.link_classes.specs.declared.conductors.FlatConductor.{FlatConductor}
+use Rattle.link_classes.specs.Links.{names_of}
 
 -- what joins, with its place in the list and the label of its class
 pub record Labelled : Type 0 where

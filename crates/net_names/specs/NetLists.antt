@@ -1,4 +1,4 @@
--- The net list of a flattened project (own): nets are the classes of the least equivalence that
+-- The net list of a project (own): nets are the classes of the least equivalence that
 -- holds the links, their members each once, their names and their order.
 use Rattle.std.specs.Prelude.{◌≡◌, ℕ, ◌+◌, ◌==◌, ◌&&◌, not, Bool, List, [], ◌∷◌, ◌++◌, Option, length, map, filter, take, codes, count_by, slice_get}
 use Rattle.std.specs.Option.{option_cmp}
@@ -13,9 +13,10 @@ use Rattle.net_names.specs.declared.nets.Net.{Net}
 use Rattle.net_names.specs.declared.nets.NetSort.{NetSort}
 use Rattle.net_names.specs.declared.nets.NetSort.TheVariants as sorts
 use Rattle.net_names.specs.declared.nets.Nets.{Nets}
-use Rattle.net_names.specs.Order.{once_in_order, by_bytes}
-use Rattle.link_classes.specs.Flattening.{Flattened, Linked, names_of}
-use Rattle.net_names.specs.Conductors.{flattened}
+use Rattle.flat_sheets.specs.Order.{once_in_order, by_bytes}
+use Rattle.link_classes.specs.declared.conductors.FlatConductor.{FlatConductor}
+use Rattle.link_classes.specs.Links.{Linked, names_of}
+use Rattle.flat_sheets.specs.Conductors.{conductors_of}
 use Rattle.net_names.specs.Packages.{packages_of}
 use Rattle.net_names.specs.NetClasses.{labelled_from, ClassPinData, by_pin, NetClassData, net_classes}
 
@@ -88,10 +89,10 @@ numbered_nets prefix sort used classes =
     (once_in_order by_least_pin classes)
 
 -- the nets, given the label of each conductor's class: named, then unnamed, then unconnected ones
-abbrev pub nets_by : Flattened → List ℕ → List Net
-nets_by p labels =
-    let classes = net_classes (labelled_from 0 p.conductors labels) (length p.conductors) in
-    let used = flat_map names_of p.conductors in
+abbrev pub nets_by : List FlatConductor → List ℕ → List Net
+nets_by conductors labels =
+    let classes = net_classes (labelled_from 0 conductors labels) (length conductors) in
+    let used = flat_map names_of conductors in
     once_in_order (on (λ n. n.name) by_bytes) (map named_net (filter is_named classes))
     ++ numbered_nets (codes "unnamed_net") sorts.Unnamed used
     (filter is_unnamed classes)
@@ -99,13 +100,13 @@ nets_by p labels =
     (filter is_unconnected classes)
 
 -- the nets are those of the classes of linked conductors
-abbrev pub AreNetsOf : Flattened → List Net → Type 0
-AreNetsOf p nets =
+abbrev pub AreNetsOf : List FlatConductor → List Net → Type 0
+AreNetsOf conductors nets =
     (labels : List ℕ)
-    × AreClasses (Linked p) (length p.conductors) labels
-    × (nets ≡ nets_by p labels)
+    × AreClasses (Linked conductors) (length conductors) labels
+    × (nets ≡ nets_by conductors labels)
 
--- the net list of a project without sheets below others
+-- the net list of a project
 pub record IsNetListOf (p : ProjectData) (list : Nets) : Type 0 where
   pub packages : list.packages ≡ packages_of p
-  pub nets : AreNetsOf (flattened p) list.nets
+  pub nets : AreNetsOf (conductors_of p) list.nets

@@ -9,7 +9,7 @@ use crate::class_pins::ClassPin;
 use crate::names::{CountedName, lesser};
 use geda_geom::Conductor;
 use geda_model::{Block, Items};
-use link_classes::SheetConductor;
+use link_classes::FlatConductor;
 use std::alloc::{AllocError, Global};
 use std::collections::BTreeSet;
 use std::marker::Model;
@@ -81,10 +81,10 @@ impl GrowingClass {
 
     /// Takes in the conductor that stands at a place. A pin that compares as equal to one that is
     /// there changes no pin.
-    pub fn join(&mut self, place: usize, conductor: SheetConductor) -> Result<(), AllocError>
+    pub fn join(&mut self, place: usize, conductor: FlatConductor) -> Result<(), AllocError>
         ensures { OnOk result (self.new ≡ with_conductor self.old place conductor) }
     {
-        let SheetConductor {
+        let FlatConductor {
             shape,
             global_names,
             drawn_names,
@@ -115,7 +115,7 @@ fn empty_classes(alloc: Global, count: usize) -> Result<Vec<GrowingClass>, Alloc
 /// The class of each label, the empty ones too, in order of the labels.
 pub fn gathered(
     alloc: Global,
-    conductors: Vec<SheetConductor>,
+    conductors: Vec<FlatConductor>,
     labels: &[usize],
 ) -> Result<Vec<GrowingClass>, AllocError>
     requires len { length labels.now ≡ length conductors.items }

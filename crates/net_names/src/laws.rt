@@ -4,9 +4,9 @@ ghost use Rattle.geda_model.specs.Projects.{ProjectData};
 ghost use Rattle.net_names.specs.declared.nets.Nets.{Nets};
 ghost use Rattle.net_names.specs.NetClasses.{ClassPinData, NetClassData, by_member};
 ghost use Rattle.net_names.specs.NetLists.{IsNetListOf, by_least_pin, by_name};
-ghost use Rattle.net_names.specs.Order.{IsOnceInOrder, by_bytes, once_in_order};
+ghost use Rattle.flat_sheets.specs.Order.{IsOnceInOrder, by_bytes, once_in_order};
 
-/// The law that a project without sheets below others has one net list.
+/// The law that a project has one net list.
 pub fn one_net_list()
     ensures { (p : ProjectData) (a b : Nets) → IsNetListOf p a → IsNetListOf p b → a ≡ b }
 {}

@@ -3,23 +3,19 @@
 #![tactic(auto)]
 
 mod class_pins;
-mod conductors;
-mod contents;
 mod gathering;
 mod laws;
 mod listing;
 mod named;
 mod names;
 mod net_classes;
+mod net_list;
 mod nets;
 mod numbering;
 mod packages;
-mod parts;
-mod plain;
-mod sources;
 
+pub use flat_sheets::Package;
 pub use laws::{each_stands_once, one_net_list};
 pub use link_classes::Member;
-pub use nets::{Members, Net, NetList, NetSort, Nets, Package, Packages};
-pub use plain::plain_nets;
-pub use sources::has_no_sources;
+pub use net_list::join;
+pub use nets::{Members, Net, NetList, NetSort, Nets, Packages};

@@ -1,6 +1,5 @@
-// The nets of the conductors of a sheet, given the label of each.
+// The nets of the conductors of a project, given the label of each.
 ghost use Rattle.std.specs.Prelude.{◌≡◌, length, IfOk};
-ghost use Rattle.link_classes.specs.Flattening.{Way, flattened_on};
 ghost use Rattle.net_names.specs.NetLists.{nets_by};
 ghost use Rattle.net_names.specs.steps.Gathering.{ArePlaces};
 
@@ -10,7 +9,7 @@ use crate::net_classes::{NetClasses, in_order};
 use crate::nets::{NetList, NetSort};
 use crate::numbering::{number_classes, taken_names};
 use geda_model::Items;
-use link_classes::SheetConductor;
+use link_classes::FlatConductor;
 use std::alloc::{AllocError, Global};
 
 /// The nets of conductors whose classes have these labels, in order: the named ones by the bytes of
@@ -19,13 +18,12 @@ use std::alloc::{AllocError, Global};
 /// A class without members is no net. Rules: docs/RULES.md, "Names of nets".
 pub fn nets_by(
     alloc: Global,
-    conductors: Vec<SheetConductor>,
+    conductors: Vec<FlatConductor>,
     labels: &[usize],
 ) -> Result<NetList, AllocError>
     requires len { length labels.now ≡ length conductors.items }
     requires in_range { ArePlaces labels.now (length conductors.items) }
-    ensures { IfOk result (λ nets. (way : Way)
-        → nets ≡ nets_by (flattened_on way conductors.items) labels.now) }
+    ensures { IfOk result (λ nets. nets ≡ nets_by conductors.items labels.now) }
 {
     let taken_unnamed = taken_names(alloc, conductors.as_slice(), "unnamed_net")?;
     let taken_unconnected = taken_names(alloc, conductors.as_slice(), "unconnected_pin-")?;

@@ -1,5 +1,6 @@
 // The net list as a value.
-use geda_model::{Block, Items, Line};
+use flat_sheets::Package;
+use geda_model::{Block, Items};
 use link_classes::Member;
 
 /// Members in order of the bytes of the refdes, then of the number, each pair once.
@@ -8,7 +9,7 @@ pub type Members = Items<Member>;
 /// How a net got its name.
 #[derive(Clone, Copy, Debug, PartialEq, Eq)]
 pub enum NetSort {
-    /// By a name on the sheet.
+    /// By a name.
     Named,
     /// Without a name: `unnamed_netK`.
     Unnamed,
@@ -33,23 +34,10 @@ pub struct Net {
 /// by number.
 pub type NetList = Items<Net>;
 
-/// One physical part: all components with one refdes.
-#[derive(Debug, Drop)]
-pub struct Package {
-    /// The printed refdes.
-    pub refdes: Line,
-    /// The attribute `device` of its first component that has it.
-    pub device: Option<Block>,
-    /// The attribute `value` of its first component that has it.
-    pub value: Option<Block>,
-    /// The attribute `footprint` of its first component that has it.
-    pub footprint: Option<Block>,
-}
-
 /// Packages in order of the bytes of the refdes, each once.
 pub type Packages = Items<Package>;
 
-/// The net list of a sheet.
+/// The net list of a project.
 #[derive(Debug, Drop)]
 pub struct Nets {
     /// The packages.

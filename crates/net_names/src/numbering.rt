@@ -1,9 +1,9 @@
 // Nets without names, numbered from 1 in the order of their classes. Numbers whose texts are names
 // of conductors are skipped.
 ghost use Rattle.std.specs.Prelude.{◌≡◌, ◌==◌, ◌++◌, ◌+◌, ◌<◌, ◌^◌};
-ghost use Rattle.std.specs.Prelude.{IfOk, OnOk, decimal, length, map};
+ghost use Rattle.std.specs.Prelude.{IfOk, OnOk, decimal, length};
 ghost use Rattle.std.specs.List.{flat_map, fold, starts_with};
-ghost use Rattle.link_classes.specs.Flattening.{Way, flat_on, names_of};
+ghost use Rattle.link_classes.specs.Links.{names_of};
 ghost use Rattle.net_names.specs.steps.Numbering.{AreNumbered, IsNextFree};
 ghost use Rattle.net_names.specs.steps.Numbering.{taken_names, with_taken};
 
@@ -12,7 +12,7 @@ use crate::names::NetName;
 use crate::net_classes::NetClass;
 use crate::nets::{Net, NetSort};
 use geda_model::Block;
-use link_classes::SheetConductor;
+use link_classes::FlatConductor;
 use std::alloc::{AllocError, Global};
 use std::collections::BTreeSet;
 
@@ -42,11 +42,11 @@ fn take_names(
 /// The names of conductors that begin with a prefix, each once.
 pub fn taken_names(
     alloc: Global,
-    conductors: &[SheetConductor],
+    conductors: &[FlatConductor],
     prefix: &str,
 ) -> Result<BTreeSet<NetName>, AllocError>
-    ensures { IfOk result (λ taken. (way : Way) → taken.keys
-        ≡ taken_names prefix.now (flat_map names_of (map (flat_on way) conductors.now))) }
+    ensures { IfOk result
+        (λ taken. taken.keys ≡ taken_names prefix.now (flat_map names_of conductors.now)) }
 {
     let mut taken = BTreeSet::new(alloc);
     for conductor in conductors {

@@ -1,15 +1,14 @@
-// The packages of a project.
-ghost use Rattle.std.specs.Prelude.{◌≡◌, IfOk, OnOk, Some, map, option_copied};
+// The packages of a list of parts.
+ghost use Rattle.std.specs.Prelude.{◌≡◌, IfOk, OnOk, map};
 ghost use Rattle.std.specs.BTreeMap.{IsOrdered};
-ghost use Rattle.std.specs.Option.{option_or};
-ghost use Rattle.attr_rules.specs.Attributes.{attr};
-ghost use Rattle.net_names.specs.Order.{by_bytes};
-ghost use Rattle.net_names.specs.steps.PackageRows.{TakesIn, no_attributes};
-ghost use Rattle.net_names.specs.steps.PackageRows.{package_of_row, part_with, with_attributes_of};
+ghost use Rattle.flat_sheets.specs.Order.{by_bytes};
+ghost use Rattle.net_names.specs.Packages.{packages_by};
+ghost use Rattle.net_names.specs.steps.PackageRows.{AreRowsOf, TakesIn, no_attributes};
+ghost use Rattle.net_names.specs.steps.PackageRows.{package_of_row, with_attributes_of};
 
-use crate::nets::{Package, Packages};
-use attr_rules::attr_of;
-use geda_model::{Block, Items, Line, Object, Symbol};
+use crate::nets::Packages;
+use flat_sheets::Package;
+use geda_model::{Block, Items, Line};
 use std::alloc::{AllocError, Global};
 use std::collections::BTreeMap;
 
@@ -34,69 +33,48 @@ fn no_attributes() -> PackageAttributes
     }
 }
 
-fn known_or(
-    alloc: Global,
-    known: Option<Block>,
-    object: &Object,
-    library: Option<&Symbol>,
-    name: &str,
-) -> Result<Option<Block>, AllocError>
-    ensures { IfOk result (λ value. value ≡
-        option_or known (attr object.now (option_copied library.entry) name.now)) }
+fn with_attributes_of(part: Package, known: PackageAttributes) -> (Line, PackageAttributes)
+    ensures refdes { result.0 ≡ part.refdes }
+    ensures attributes { result.1 ≡ with_attributes_of part known }
 {
-    match known {
-        Some(value) => Ok(Some(value)),
-        None => match attr_of(object, library, name) {
-            Some(value) => Ok(Some(Block::new(alloc, value)?)),
-            None => Ok(None),
-        },
-    }
-}
-
-fn with_attributes_of(
-    alloc: Global,
-    attributes: PackageAttributes,
-    object: &Object,
-    library: Option<&Symbol>,
-) -> Result<PackageAttributes, AllocError>
-    ensures { IfOk result (λ made. made ≡
-        with_attributes_of object.now (option_copied library.entry) attributes) }
-{
-    let PackageAttributes {
+    let Package {
+        refdes,
         device,
         value,
         footprint,
-    } = attributes;
-    let device = known_or(alloc, device, object, library, "device")?;
-    let value = known_or(alloc, value, object, library, "value")?;
-    let footprint = known_or(alloc, footprint, object, library, "footprint")?;
-    Ok(PackageAttributes {
-        device,
-        value,
-        footprint,
-    })
+    } = part;
+    let attributes = PackageAttributes {
+        device: known.device.or(device),
+        value: known.value.or(value),
+        footprint: known.footprint.or(footprint),
+    };
+    (refdes, attributes)
 }
 
-/// Takes in a listed part under its printed refdes. An attribute that its package has already
-/// stays.
-pub fn take_part(
-    alloc: Global,
-    rows: &mut BTreeMap<Line, PackageAttributes>,
-    refdes: Line,
-    object: &Object,
-    library: Option<&Symbol>,
-) -> Result<(), AllocError>
-    ensures { OnOk result (TakesIn
-        (Some (part_with refdes object.now (option_copied library.entry))) rows.old rows.new) }
+/// Takes in a part. An attribute that its package has already stays.
+fn take_part(rows: &mut BTreeMap<Line, PackageAttributes>, part: Package) -> Result<(), AllocError>
+    ensures { OnOk result (TakesIn part rows.old rows.new) }
 {
-    let known = rows.remove(&refdes).unwrap_or(no_attributes());
-    let attributes = with_attributes_of(alloc, known, object, library)?;
+    let known = rows.remove(&part.refdes).unwrap_or(no_attributes());
+    let (refdes, attributes) = with_attributes_of(part, known);
     rows.insert(refdes, attributes)?;
     Ok(())
 }
 
-/// The packages of rows, in order of the bytes of the refdes.
-pub fn packages_of_rows(
+fn rows_of(
+    alloc: Global,
+    parts: Vec<Package>,
+) -> Result<BTreeMap<Line, PackageAttributes>, AllocError>
+    ensures { IfOk result (AreRowsOf parts.items) }
+{
+    let mut rows = BTreeMap::new(alloc);
+    for part in parts {
+        take_part(&mut rows, part)?;
+    }
+    Ok(rows)
+}
+
+fn packages_of_rows(
     alloc: Global,
     rows: BTreeMap<Line, PackageAttributes>,
 ) -> Result<Packages, AllocError>
@@ -118,4 +96,13 @@ pub fn packages_of_rows(
         })?;
     }
     Ok(Items::from_vec(packages))
+}
+
+/// The packages of parts, in order of the bytes of the refdes. The first part of a package that has
+/// an attribute gives it.
+pub fn packages_of(alloc: Global, parts: Vec<Package>) -> Result<Packages, AllocError>
+    ensures { IfOk result (λ packages. packages ≡ packages_by parts.items) }
+{
+    let rows = rows_of(alloc, parts)?;
+    packages_of_rows(alloc, rows)
 }

@@ -1,14 +1,30 @@
 -- Steps of the code; no public clause cites them.
--- Files as they are read, one after the other, and the project that is gathered from them (own).
-use Rattle.std.specs.Prelude.{◌≡◌, ℕ, List, [], ◌∷◌, Result, Ok, Some, None}
+-- Files as they are read, and what is gathered of them (own).
+use Rattle.std.specs.Prelude.{◌≡◌, ◌≢◌, ℕ, List, Result, Ok, Some, None, length}
 use Rattle.std.specs.declared.option.Option.{Option}
+use Rattle.std.specs.List.{AllPairs}
 use Rattle.geda_defs.specs.Contents.{Files}
-use Rattle.geda_model.specs.Sheets.{SheetData, SymbolData}
 use Rattle.geda_model.specs.Projects.{ProjectData}
+use Rattle.geda_model.specs.Sheets.{SheetData, SymbolData}
 use Rattle.geda_grammar.specs.Faults.{sheet_file, symbol_file}
 use Rattle.gafd.specs.declared.fault.RunFault.{RunFault}
-use Rattle.gafd.specs.ProjectFiles.{FileComesTo, GathersTo, Library, ReadAs, SymbolsComeTo}
+use Rattle.gafd.specs.ProjectFiles.{AskedSymbol, FileComesTo, Gathered, GathersTo, ReadAs, SheetsComeTo, unread}
 use Rattle.gafd.specs.Answers.{OfFiles}
+
+-- all sheets are read; no sheet and no symbol stands twice
+pub record IsWhole (g : Gathered) : Type 0 where
+  pub sheets : length g.sheets ≡ length g.queue
+  pub apart : AllPairs ◌≢◌ g.queue
+  pub symbols_apart : AllPairs (λ (a b : AskedSymbol). a.0 ≢ b.0) g.symbols
+
+-- what is read from a folder, from these sheets on
+abbrev pub ReadsFrom : Option Files → List (List ℕ) → Result Gathered RunFault → Type 0
+ReadsFrom files names read =
+    OfFiles files (λ known. (count : ℕ) × SheetsComeTo known count (unread names) read)
+
+-- what is gathered from a folder
+abbrev pub GathersFrom : Option Files → List (List ℕ) → Result ProjectData RunFault → Type 0
+GathersFrom files names gathered = OfFiles files (λ known. GathersTo known names gathered)
 
 -- something holds of the files that a folder tells; where it tells none, of some files
 abbrev pub OfSome : Option Files → (Files → Type 0) → Type 0
@@ -39,16 +55,3 @@ SheetFrom files name read = OfSome files (λ known. SheetOf name (known name) re
 -- what the symbol comes to that a folder has under a name
 abbrev pub SymbolFrom : Option Files → List ℕ → Result (Option SymbolData) RunFault → Type 0
 SymbolFrom files name read = OfSome files (λ known. SymbolOf name (known name) read)
-
--- what the symbols come to that a folder has under names
-abbrev pub LibraryFrom : Option Files → List (List ℕ) → Result Library RunFault → Type 0
-LibraryFrom files names read = OfSome files (λ known. SymbolsComeTo known names read)
-
--- what is gathered from a folder
-abbrev pub GathersFrom : Option Files → List ℕ → Result ProjectData RunFault → Type 0
-GathersFrom files name gathered = OfFiles files (λ known. GathersTo known name gathered)
-
--- the symbol of a name, if one is found
-abbrev pub symbol_row : List ℕ → Option SymbolData → Library
-symbol_row name None = []
-symbol_row name (Some symbol) = (name, symbol) ∷ []

@@ -57,7 +57,6 @@ Over files command outcome = ComesTo files (Some command) outcome
 abbrev pub NamesFile : RunFault → Type 0
 NamesFile (faults.Missing file) = ⊤
 NamesFile (faults.Refused file line kind) = ⊤
-NamesFile (faults.NotYet file) = ⊤
 NamesFile other = ⊥
 
 -- a fault is reported as it is, or as want of memory where its line names a file

@@ -3,8 +3,8 @@
 use Rattle.std.specs.Prelude.{◌≡◌, ◌⊎◌, ℕ, ◌+◌, cond, List, [], ◌∷◌, ◌++◌, Option, Some, None, Contains, map}
 use Rattle.std.specs.Option.{option_or}
 use Rattle.std.specs.Str.{bytes_eq}
-use Rattle.link_classes.specs.declared.conductors.SheetConductor.{SheetConductor}
-use Rattle.link_classes.specs.steps.Places.{own_names}
+use Rattle.link_classes.specs.declared.conductors.FlatConductor.{FlatConductor}
+use Rattle.link_classes.specs.Links.{names_of}
 
 -- a name and the place of a conductor that has it
 abbrev pub Named : Type 0
@@ -15,9 +15,9 @@ abbrev pub named_at : ℕ → List (List ℕ) → List Named
 named_at place names = map (λ name. (name, place)) names
 
 -- the names of conductors, of which the first has this place
-abbrev pub named_from : ℕ → List SheetConductor → List Named
+abbrev pub named_from : ℕ → List FlatConductor → List Named
 named_from place [] = []
-named_from place (c ∷ cs) = named_at place (own_names c) ++ named_from (place + 1) cs
+named_from place (c ∷ cs) = named_at place (names_of c) ++ named_from (place + 1) cs
 
 -- the pair of a first place and a further one
 abbrev pub pair_with : Option ℕ → ℕ → List (ℕ × ℕ)

@@ -1,8 +1,11 @@
 -- Steps of the code; no public clause cites them.
 -- Places in trees, and pairs of places that are to stand in one class (own).
-use Rattle.std.specs.Prelude.{◌≡◌, ℕ, ◌<◌, ◌≤◌, List, ◌++◌, length, slice_index, All}
+use Rattle.std.specs.Prelude.{◌≡◌, ℕ, ◌<◌, ◌≤◌, ◌⊎◌, List, ◌++◌, length, slice_index, All, Contains}
 use Rattle.geda_defs.specs.Classes.{Joined}
-use Rattle.link_classes.specs.Flattening.{AreTied}
+
+-- two places are paired, in either order
+abbrev pub ArePaired : List (ℕ × ℕ) → ℕ → ℕ → Type 0
+ArePaired pairs i j = Contains pairs (i, j) ⊎ Contains pairs (j, i)
 
 -- both places of each pair are below the count
 abbrev pub AreWithin : ℕ → List (ℕ × ℕ) → Type 0
@@ -48,19 +51,19 @@ KeepsLabels old new = (f : ℕ → ℕ) → Labels f new → Labels f old
 
 -- a label that no pair changes
 abbrev pub IsSameAt : (ℕ → ℕ) → List (ℕ × ℕ) → Type 0
-IsSameAt f pairs = (i j : ℕ) → AreTied pairs i j → f i ≡ f j
+IsSameAt f pairs = (i j : ℕ) → ArePaired pairs i j → f i ≡ f j
 
 -- pairs of places below the count: each is joined by links, and what no pair changes no link
 -- changes
 pub record Spans (R : ℕ → ℕ → Type 0) (count : ℕ) (pairs : List (ℕ × ℕ)) : Type 0 where
   pub within : AreWithin count pairs
-  pub inside : (i j : ℕ) → AreTied pairs i j → Joined R i j
+  pub inside : (i j : ℕ) → ArePaired pairs i j → Joined R i j
   pub covers : (f : ℕ → ℕ) → IsSameAt f pairs → (i j : ℕ) → R i j → f i ≡ f j
 
 -- each parent is joined to its place by pairs, and what labels the trees labels both places of each
 -- pair the same
 pub record AreUnionsOf (pairs : List (ℕ × ℕ)) (parents : List ℕ) : Type 0 where
-  pub joined : AreJoined (AreTied pairs) parents
+  pub joined : AreJoined (ArePaired pairs) parents
   pub tied : (f : ℕ → ℕ) → Labels f parents → IsSameAt f pairs
 
 -- the new trees are the unions of these pairs, too, whichever pairs the old ones are the unions of

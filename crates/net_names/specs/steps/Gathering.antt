@@ -4,7 +4,7 @@ use Rattle.std.specs.Prelude.{ℕ, ◌+◌, ◌<◌, ◌==◌, ◌&&◌, ◌||�
 use Rattle.std.specs.List.{fold}
 use Rattle.std.specs.Ordering.{match_ordering}
 use Rattle.std.specs.BTreeSet.{insert_key}
-use Rattle.link_classes.specs.declared.conductors.SheetConductor.{SheetConductor}
+use Rattle.link_classes.specs.declared.conductors.FlatConductor.{FlatConductor}
 use Rattle.net_names.specs.declared.nets.Net.{Net}
 use Rattle.net_names.specs.NetClasses.{ClassPinData, class_pin, by_member, NetClassData, is_drawn_pin, has_pins}
 use Rattle.net_names.specs.NetLists.{by_least_pin, by_name, is_named, named_net}
@@ -45,7 +45,7 @@ lesser (Some least) name =
     match_ordering (by_name name least) (Some name) (Some least) (Some least)
 
 -- with one more conductor, that stands at a place
-abbrev pub with_conductor : GrowingClassData → ℕ → SheetConductor → GrowingClassData
+abbrev pub with_conductor : GrowingClassData → ℕ → FlatConductor → GrowingClassData
 with_conductor g place c = record {
   pins = with_pin g.pins (class_pin place c.member);
   is_empty = false;
@@ -55,20 +55,20 @@ with_conductor g place c = record {
 }
 
 -- the classes of all labels, after the conductor at a place
-abbrev pub joined_at : List GrowingClassData → ℕ → SheetConductor → List ℕ → List GrowingClassData
+abbrev pub joined_at : List GrowingClassData → ℕ → FlatConductor → List ℕ → List GrowingClassData
 joined_at growing place c labels =
     let label = slice_index labels place in
     slice_set growing label (with_conductor (slice_index_or growing label empty_class) place c)
 
 -- the same after conductors of which the first stands at a place
 abbrev pub gathered_from :
-    List GrowingClassData → ℕ → List SheetConductor → List ℕ → List GrowingClassData
+    List GrowingClassData → ℕ → List FlatConductor → List ℕ → List GrowingClassData
 gathered_from growing place [] labels = growing
 gathered_from growing place (c ∷ cs) labels =
     gathered_from (joined_at growing place c labels) (place + 1) cs labels
 
 -- all conductors put into the classes of their labels, which are places
-abbrev pub gathered : List SheetConductor → List ℕ → List GrowingClassData
+abbrev pub gathered : List FlatConductor → List ℕ → List GrowingClassData
 gathered conductors labels =
     gathered_from (replicate (length conductors) empty_class) 0 conductors labels
 

@@ -1,92 +1,115 @@
-use Rattle.std.proofs.Common.{◌≡◌, ◌≢◌, ℕ, List, [], ◌≤◌, Bool, true, false, Ok, Err, if◌then◌else◌, length, sym, ap, ap₂, subst, ◌∙◌, arith}
-use Rattle.std.specs.List.{AllPairs, filter_map}
+use Rattle.std.proofs.Common.{◌≡◌, ℕ, List, [], ◌∷◌, ◌++◌, Ok, Err, Result, length, sym, ap, subst, ◌∙◌, arith}
 use Rattle.std.proofs.lemmas.Result.{err_from_is_err_and}
-use Rattle.geda_defs.specs.Contents.{Files}
-use Rattle.geda_model.specs.Sheets.{ObjectData, SheetData}
-use Rattle.geda_model.specs.Projects.{ProjectData, no_parts}
-use Rattle.geda_model.specs.Changes.{put}
-use Rattle.net_names.specs.ListedParts.{HasOneSheet}
-use Rattle.gafd.specs.declared.fault.RunFault.TheVariants as faults
-use Rattle.gafd.specs.ProjectFiles.{Library, SymbolsComeTo, asked_symbol, asked_symbols, is_over_full, opening}
-use Rattle.gafd.specs.steps.Gathering.{GathersFrom, LibraryFrom, SheetFrom}
-use Rattle.gafd.proofs.Passing.{fault_later}
-use Rattle.gafd.proofs.LibraryLemmas.{each_once_apart, kept_on, none_apart, some_files}
-use Rattle.gafd.proofs.GatheringLemmas.{gathered, sheet_refused}
-use Rattle.gafd.proofs.OpeningLemmas.{opened_one_sheet, opening_can_apply, symbols_differ}
+use Rattle.geda_model.specs.Sheets.{SheetData}
+use Rattle.geda_grammar.specs.Faults.{sheet_file}
+use Rattle.gafd.specs.declared.fault.RunFault.{RunFault}
+use Rattle.gafd.specs.ProjectFiles.{Gathered, ReadAs}
+use Rattle.gafd.specs.Runs.{counts}
+use Rattle.gafd.specs.steps.Gathering.{IsRead, ReadsFrom}
+use Rattle.gafd.specs.steps.Asking.{AskedData, Asks, AsksObjects, SheetFileData, StandsAt, at}
+use Rattle.gafd.proofs.Passing.{answer_from, fault_later}
+use Rattle.gafd.proofs.Reading.{sheet_whole}
+use Rattle.gafd.proofs.AskingLemmas.{kept_on}
+use Rattle.gafd.proofs.SheetLemmas.{all_read, done, empty, found_turn, taken, turn_ends, turn_fault, turn_passes}
 use Rattle.gafd.proofs.gathering.gather.Goals as goal
 
-pub returns-in_err-sheet-clause-gathered : goal.returns-in_err-sheet-clause-gathered
-returns-in_err-sheet-clause-gathered g c =
-    let p = err_from_is_err_and c.from_residual.result c.from_residual.ensures.1 in
-    let old = g.F.Folder.files c.args.folder.now in
-    let faults-before = g.F.Folder.faults c.args.folder.now in
+pub returns-in_err-sheet-clause-read : goal.returns-in_err-sheet-clause-read
+returns-in_err-sheet-clause-read g c =
+    let p = err_from_is_err_and c.from_residual-in_err-sheet.result c.from_residual-in_err-sheet.ensures.1 in
+    let told = g.F.Folder.files c.args.folder.now in
+    let names = c.args.names.now in
+    let read = c.loop-file.invariant.stands.0 in
+    let sheets : List SheetData = c.loop-file.sheets.items in
+    let start : AskedData = record { queue = c.asked.inside.queue.keys; waiting = c.asked.inside.waiting.items; absent = c.asked.inside.absent.keys; symbols = c.asked.inside.symbols.entries } in
+    let is : start ≡ c.loop-file.asked = c.asked.view_is in
+    let stands = subst (λ (a : AskedData). StandsAt told names read [] a sheets) (sym is) c.loop-file.invariant.stands.1 in
+    let file : SheetFileData = record { name = c.file.inside.name; bytes = c.file.inside.bytes.items } in
+    let file_is : file ≡ c.in-Some.file = c.file.view_is in
+    let rest : List SheetFileData = c.pop_front.new.self.items in
+    let waits : start.waiting ≡ file ∷ rest = c.in-Some.ensures.items ∙ ap (λ (f : SheetFileData). f ∷ rest) (sym file_is) in
     let fault = c.in_err-sheet.field-0.0 in
-    rw (p.1, p.2) (fault_later faults-before faults-before _ (SheetFrom old c.args.name.now) (GathersFrom old c.args.name.now) fault (omega arith) (sheet_refused old c.args.name.now fault) c.in_err-sheet.ensures.read)
+    let P : Result SheetData RunFault → Type 0 = ReadAs sheet_file IsRead file.name c.deref.result.now in
+    let mid = g.F.Folder.faults c.loop-file.folder in
+    rw (p.1, p.2) (fault_later (g.F.Folder.faults c.args.folder.now) mid mid P (ReadsFrom told names) fault c.loop-file.invariant.later
+    (λ h.
+    let turn = found_turn told names read start sheets file rest (Err fault) stands waits (sheet_whole file.name (Err fault)) (subst (λ (bytes : List ℕ). ReadAs sheet_file IsRead file.name bytes (Err fault)) c.deref.ensures.value h) in
+    turn_fault told names sheets (at (taken start rest) (read ++ file.name ∷ []) [] turn.0) file.name fault turn.1)
+    (answer_from (counts mid mid) P P (Err fault) (λ r h. h) c.in_err-sheet.ensures))
 
-pub read_library-requires : goal.read_library-requires
-read_library-requires g c =
-    let names : c.deref.result.now ≡ asked_symbols c.as_slice.result.now = c.deref.ensures.value ∙ c.in_ok-names.ensures in
-    subst (AllPairs ◌≢◌) (sym names) (each_once_apart [] (filter_map asked_symbol c.as_slice.result.now) none_apart)
+pub returns-in_err-add_sheet-clause-read : goal.returns-in_err-add_sheet-clause-read
+returns-in_err-add_sheet-clause-read g c =
+    let p = err_from_is_err_and c.from_residual-in_err-add_sheet.result c.from_residual-in_err-add_sheet.ensures.1 in
+    let told = g.F.Folder.files c.args.folder.now in
+    let now = g.F.Folder.files c.loop-file.folder in
+    let names = c.args.names.now in
+    let read = c.loop-file.invariant.stands.0 in
+    let sheets : List SheetData = c.loop-file.sheets.items in
+    let start : AskedData = record { queue = c.asked.inside.queue.keys; waiting = c.asked.inside.waiting.items; absent = c.asked.inside.absent.keys; symbols = c.asked.inside.symbols.entries } in
+    let is : start ≡ c.loop-file.asked = c.asked.view_is in
+    let stands = subst (λ (a : AskedData). StandsAt told names read [] a sheets) (sym is) c.loop-file.invariant.stands.1 in
+    let file : SheetFileData = record { name = c.file.inside.name; bytes = c.file.inside.bytes.items } in
+    let file_is : file ≡ c.in-Some.file = c.file.view_is in
+    let rest : List SheetFileData = c.pop_front.new.self.items in
+    let waits : start.waiting ≡ file ∷ rest = c.in-Some.ensures.items ∙ ap (λ (f : SheetFileData). f ∷ rest) (sym file_is) in
+    let sheet : SheetData = c.in_ok-sheet.sheet in
+    let turn = found_turn told names read start sheets file rest (Ok sheet) stands waits (sheet_whole file.name (Ok sheet)) (subst (λ (bytes : List ℕ). ReadAs sheet_file IsRead file.name bytes (Ok sheet)) c.deref.ensures.value c.in_ok-sheet.ensures) in
+    let fault = c.in_err-add_sheet.field-0.0 in
+    rw (p.1, p.2) (fault_later (g.F.Folder.faults c.args.folder.now) (g.F.Folder.faults c.loop-file.folder) _ (Asks now (taken start rest) (AsksObjects (taken start rest) sheet.objects)) (ReadsFrom told names) fault c.loop-file.invariant.later
+    (turn_ends told now names sheets (taken start rest) (read ++ file.name ∷ []) [] turn.0 file.name sheet turn.1 c.loop-file.invariant.kept fault)
+    c.in_err-add_sheet.ensures.read)
 
-pub returns-in_err-library-clause-gathered : goal.returns-in_err-library-clause-gathered
-returns-in_err-library-clause-gathered g c =
-    let p = err_from_is_err_and c.from_residual-in_err-library.result c.from_residual-in_err-library.ensures.1 in
-    let old = g.F.Folder.files c.args.folder.now in
-    let mid = g.F.Folder.files c.read_sheet_file.new.folder in
-    let sheet = c.in_ok-sheet.sheet in
-    let objects : c.as_slice.result.now ≡ sheet.objects = c.as_slice.ensures.objects ∙ ap (λ (s : SheetData). s.objects) c.sheet.view_is in
-    let names : c.deref.result.now ≡ asked_symbols sheet.objects = c.deref.ensures.value ∙ c.in_ok-names.ensures ∙ ap asked_symbols objects in
-    let fault = c.in_err-library.field-0.0 in
-    rw (p.1, p.2) (fault_later _ (g.F.Folder.faults c.read_sheet_file.new.folder) _ (LibraryFrom mid c.deref.result.now) (GathersFrom old c.args.name.now) fault c.in_ok-sheet.ensures.later
-    (λ s. gathered old mid c.args.name.now sheet (Err fault) c.in_ok-sheet.ensures.files c.in_ok-sheet.ensures.read (subst (λ (ns : List (List ℕ)). LibraryFrom mid ns (Err fault)) names s))
-    c.in_err-library.ensures.read)
+pub returns-in_err-add_sheet-clause-files : goal.returns-in_err-add_sheet-clause-files
+returns-in_err-add_sheet-clause-files g c = kept_on (g.F.Folder.files c.args.folder.now) (g.F.Folder.files c.loop-file.folder) (g.F.Folder.files c.add_sheet.new.folder) c.loop-file.invariant.kept c.in_err-add_sheet.ensures.files
 
-pub returns-then-is_over_full-clause-gathered : goal.returns-then-is_over_full-clause-gathered
-returns-then-is_over_full-clause-gathered g c =
-    let old = g.F.Folder.files c.args.folder.now in
-    let mid = g.F.Folder.files c.read_sheet_file.new.folder in
-    let sheet = c.in_ok-sheet.sheet in
-    let name = c.args.name.now in
-    let library : Library = c.in_ok-library.library.items in
-    let objects : c.as_slice.result.now ≡ sheet.objects = c.as_slice.ensures.objects ∙ ap (λ (s : SheetData). s.objects) c.sheet.view_is in
-    let again : c.as_slice-2.result.now ≡ sheet.objects = c.as_slice-2.ensures.objects ∙ ap (λ (s : SheetData). s.objects) c.sheet.view_is in
-    let names : c.deref.result.now ≡ asked_symbols sheet.objects = c.deref.ensures.value ∙ c.in_ok-names.ensures ∙ ap asked_symbols objects in
-    let full : is_over_full sheet.objects library ≡ true = sym (ap₂ is_over_full again c.deref-2.ensures.value) ∙ sym c.is_over_full.ensures ∙ c.if-is_over_full.true in
-    subst (λ (b : Bool). GathersFrom old name (if b then Err faults.ProjectFull else Ok (put no_parts (opening name sheet library)))) full
-    (gathered old mid name sheet (Ok library) c.in_ok-sheet.ensures.files c.in_ok-sheet.ensures.read (subst (λ (ns : List (List ℕ)). LibraryFrom mid ns (Ok library)) names c.in_ok-library.ensures.read))
+pub loop-file-preserved : goal.loop-file-preserved
+loop-file-preserved g c =
+    let told = g.F.Folder.files c.args.folder.now in
+    let now = g.F.Folder.files c.loop-file.folder in
+    let names = c.args.names.now in
+    let read = c.loop-file.invariant.stands.0 in
+    let sheets : List SheetData = c.loop-file.sheets.items in
+    let start : AskedData = record { queue = c.asked.inside.queue.keys; waiting = c.asked.inside.waiting.items; absent = c.asked.inside.absent.keys; symbols = c.asked.inside.symbols.entries } in
+    let is : start ≡ c.loop-file.asked = c.asked.view_is in
+    let stands = subst (λ (a : AskedData). StandsAt told names read [] a sheets) (sym is) c.loop-file.invariant.stands.1 in
+    let file : SheetFileData = record { name = c.file.inside.name; bytes = c.file.inside.bytes.items } in
+    let file_is : file ≡ c.in-Some.file = c.file.view_is in
+    let rest : List SheetFileData = c.pop_front.new.self.items in
+    let waits : start.waiting ≡ file ∷ rest = c.in-Some.ensures.items ∙ ap (λ (f : SheetFileData). f ∷ rest) (sym file_is) in
+    let sheet : SheetData = c.in_ok-sheet.sheet in
+    let new : AskedData = c.add_sheet.new.asked in
+    let turn = found_turn told names read start sheets file rest (Ok sheet) stands waits (sheet_whole file.name (Ok sheet)) (subst (λ (bytes : List ℕ). ReadAs sheet_file IsRead file.name bytes (Ok sheet)) c.deref.ensures.value c.in_ok-sheet.ensures) in
+    let passed : StandsAt told names (read ++ file.name ∷ []) [] new (sheets ++ sheet ∷ []) =
+    turn_passes told now names sheets (taken start rest) (read ++ file.name ∷ []) [] turn.0 file.name sheet turn.1 c.loop-file.invariant.kept new c.in_ok-add_sheet.ensures.read in
+    record {
+      stands = (read ++ file.name ∷ [], subst (λ (l : List SheetData). StandsAt told names (read ++ file.name ∷ []) [] new l) (sym c.in_ok-add_sheet.ensures.sheets) passed);
+      kept = kept_on told now (g.F.Folder.files c.add_sheet.new.folder) c.loop-file.invariant.kept c.in_ok-add_sheet.ensures.files;
+      later = omega (arith, c.loop-file.invariant.later, c.in_ok-add_sheet.ensures.later);
+    }
 
-pub opened-requires : goal.opened-requires
-opened-requires g c =
-    let mid = g.F.Folder.files c.read_sheet_file.new.folder in
-    let sheet = c.in_ok-sheet.sheet in
-    let library : Library = c.in_ok-library.library.items in
-    let objects : c.as_slice.result.now ≡ sheet.objects = c.as_slice.ensures.objects ∙ ap (λ (s : SheetData). s.objects) c.sheet.view_is in
-    let inside : c.sheet.inside.objects ≡ sheet.objects = ap (λ (s : SheetData). s.objects) c.sheet.view_is in
-    let few : length sheet.objects ≤ 4294967295 = subst (λ (os : List ObjectData). length os ≤ 4294967295) inside c.as_slice.ensures.in_range.few in
-    let names : c.deref.result.now ≡ asked_symbols c.as_slice.result.now = c.deref.ensures.value ∙ c.in_ok-names.ensures in
-    let apart = subst (AllPairs ◌≢◌) (sym names) (each_once_apart [] (filter_map asked_symbol c.as_slice.result.now) none_apart) in
-    let found = some_files mid (λ (files : Files). SymbolsComeTo files c.deref.result.now (Ok library)) c.in_ok-library.ensures.read in
-    opening_can_apply c.args.name.now sheet library few (symbols_differ found.0 c.deref.result.now library apart found.1)
+pub returns-clause-read : goal.returns-clause-read
+returns-clause-read g c =
+    let told = g.F.Folder.files c.args.folder.now in
+    let names = c.args.names.now in
+    let read = c.loop-file.invariant.stands.0 in
+    let sheets : List SheetData = c.loop-file.sheets.items in
+    let start : AskedData = record { queue = c.asked.inside.queue.keys; waiting = c.asked.inside.waiting.items; absent = c.asked.inside.absent.keys; symbols = c.asked.inside.symbols.entries } in
+    let is : start ≡ c.loop-file.asked = c.asked.view_is in
+    let stands = subst (λ (a : AskedData). StandsAt told names read [] a sheets) (sym is) c.loop-file.invariant.stands.1 in
+    let none : start.waiting ≡ [] = empty start.waiting (sym c.asked.inside.waiting.ok.0 ∙ c.in_default.ensures.cases.0) in
+    subst (λ (g : Gathered). ReadsFrom told names (Ok g)) (sym c.in_ok-finish.ensures.all) (done told names read start sheets stands none)
 
-pub returns-clause-gathered : goal.returns-clause-gathered
-returns-clause-gathered g c =
-    let old = g.F.Folder.files c.args.folder.now in
-    let mid = g.F.Folder.files c.read_sheet_file.new.folder in
-    let sheet = c.in_ok-sheet.sheet in
-    let name = c.args.name.now in
-    let library : Library = c.in_ok-library.library.items in
-    let objects : c.as_slice.result.now ≡ sheet.objects = c.as_slice.ensures.objects ∙ ap (λ (s : SheetData). s.objects) c.sheet.view_is in
-    let again : c.as_slice-2.result.now ≡ sheet.objects = c.as_slice-2.ensures.objects ∙ ap (λ (s : SheetData). s.objects) c.sheet.view_is in
-    let names : c.deref.result.now ≡ asked_symbols sheet.objects = c.deref.ensures.value ∙ c.in_ok-names.ensures ∙ ap asked_symbols objects in
-    let full : is_over_full sheet.objects library ≡ false = sym (ap₂ is_over_full again c.deref-2.ensures.value) ∙ sym c.is_over_full.ensures ∙ c.if-is_over_full.false in
-    subst (λ (p : ProjectData). GathersFrom old name (Ok p)) (sym c.in_ok-project.ensures)
-    (subst (λ (b : Bool). GathersFrom old name (if b then Err faults.ProjectFull else Ok (put no_parts (opening name sheet library)))) full
-    (gathered old mid name sheet (Ok library) c.in_ok-sheet.ensures.files c.in_ok-sheet.ensures.read (subst (λ (ns : List (List ℕ)). LibraryFrom mid ns (Ok library)) names c.in_ok-library.ensures.read)))
-
-pub returns-clause-one_sheet : goal.returns-clause-one_sheet
-returns-clause-one_sheet g c =
-    subst HasOneSheet (sym c.in_ok-project.ensures) (opened_one_sheet c.args.name.now c.in_ok-sheet.sheet c.in_ok-library.library.items)
-
-pub returns-clause-files : goal.returns-clause-files
-returns-clause-files g c =
-    kept_on (g.F.Folder.files c.args.folder.now) (g.F.Folder.files c.read_sheet_file.new.folder) (g.F.Folder.files c.read_library.new.folder) c.in_ok-sheet.ensures.files c.in_ok-library.ensures.files
+pub returns-clause-whole : goal.returns-clause-whole
+returns-clause-whole g c =
+    let told = g.F.Folder.files c.args.folder.now in
+    let names = c.args.names.now in
+    let read = c.loop-file.invariant.stands.0 in
+    let sheets : List SheetData = c.loop-file.sheets.items in
+    let start : AskedData = record { queue = c.asked.inside.queue.keys; waiting = c.asked.inside.waiting.items; absent = c.asked.inside.absent.keys; symbols = c.asked.inside.symbols.entries } in
+    let is : start ≡ c.loop-file.asked = c.asked.view_is in
+    let stands = subst (λ (a : AskedData). StandsAt told names read [] a sheets) (sym is) c.loop-file.invariant.stands.1 in
+    let none : start.waiting ≡ [] = empty start.waiting (sym c.asked.inside.waiting.ok.0 ∙ c.in_default.ensures.cases.0) in
+    record {
+      sheets = subst (λ (g : Gathered). length g.sheets ≡ length g.queue) (sym c.in_ok-finish.ensures.all) (all_read told names read start sheets stands none);
+      apart = c.in_ok-finish.ensures.apart;
+      symbols_apart = c.in_ok-finish.ensures.symbols_apart;
+    }

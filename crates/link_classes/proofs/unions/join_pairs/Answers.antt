@@ -1,12 +1,12 @@
-use Rattle.std.proofs.Common.{◌++◌, ◌<◌, ℕ, length, arith}
-use Rattle.std.proofs.lemmas.List.Elements.{All-append}
-use Rattle.link_classes.proofs.UnionLemmas.{unions_flat}
+use Rattle.std.proofs.Common.{[], length, arith}
+use Rattle.link_classes.proofs.UnionLemmas.{forest_apart, unions_apart, unions_flat}
 use Rattle.link_classes.proofs.unions.join_pairs.Goals as goal
 
+pub unite_pairs-requires-clause-forest : goal.unite_pairs-requires-clause-forest
+unite_pairs-requires-clause-forest c = forest_apart c.args.labels.now c.requires.apart
+
 pub returns : goal.returns
-returns c = λ before within unions.
+returns c =
     let count = length c.args.labels.now in
-    let pairs = c.args.pairs.now in
-    unions_flat (before ++ pairs) count c.unite_pairs.new.parents c.flatten.new.parents (omega arith) (omega arith)
-    (All-append (λ (p : ℕ × ℕ). (p.0 < count) × (p.1 < count)) before pairs within c.requires.within)
-    (c.unite_pairs.ensures.adds before unions) c.flatten.ensures.forest c.flatten.ensures.above c.flatten.ensures.labels
+    unions_flat c.args.pairs.now count c.unite_pairs.new.parents c.flatten.new.parents (omega arith) (omega arith) c.requires.within
+    (c.unite_pairs.ensures.adds [] (unions_apart c.args.labels.now c.requires.apart)) c.flatten.ensures.forest c.flatten.ensures.above c.flatten.ensures.labels

@@ -1,13 +1,12 @@
 use Rattle.std.proofs.Common.{sym, arith}
-use Rattle.link_classes.specs.Flattening.{AreTied}
-use Rattle.link_classes.specs.steps.Unions.{AreJoined}
+use Rattle.link_classes.specs.steps.Unions.{ArePaired, AreJoined}
 use Rattle.link_classes.proofs.LabelLemmas.{joined_back}
 use Rattle.link_classes.proofs.UnionLemmas.{joined_raised, joined_set, joined_tops, label_written, labels_joined, same_tops, tied_turn, top_stays}
 use Rattle.link_classes.proofs.unions.unite.Goals as goal
 
 pub returns-then-a-b-clause-joined : goal.returns-then-a-b-clause-joined
 returns-then-a-b-clause-joined c = λ pairs tied joined.
-    let R = AreTied pairs in
+    let R = ArePaired pairs in
     let first : AreJoined R c.top-a.new.parents = joined_raised R c.args.parents.now c.top-a.new.parents (omega arith) joined c.top-a.ensures.above in
     let second : AreJoined R c.top-b.new.parents = joined_raised R c.top-a.new.parents c.top-b.new.parents (omega arith) first c.top-b.ensures.above in
     let tops = joined_tops R c.args.parents.now c.top-a.new.parents c.args.first c.args.second c.top-a.result c.top-b.result (tied_turn pairs) joined first c.top-a.ensures.leads c.top-b.ensures.leads tied in
@@ -26,7 +25,7 @@ returns-then-a-b-clause-tied c = λ f labels.
 
 pub returns-else-a-b-clause-joined : goal.returns-else-a-b-clause-joined
 returns-else-a-b-clause-joined c = λ pairs tied joined.
-    let R = AreTied pairs in
+    let R = ArePaired pairs in
     let first : AreJoined R c.top-a.new.parents = joined_raised R c.args.parents.now c.top-a.new.parents (omega arith) joined c.top-a.ensures.above in
     let second : AreJoined R c.top-b.new.parents = joined_raised R c.top-a.new.parents c.top-b.new.parents (omega arith) first c.top-b.ensures.above in
     let a_top = top_stays c.top-a.new.parents c.top-b.new.parents c.top-a.result (omega arith) c.top-a.ensures.top c.top-b.ensures.above in

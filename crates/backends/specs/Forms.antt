@@ -1,0 +1,10 @@
+-- The text of a net list in each form (own).
+use Rattle.std.specs.Prelude.{ℕ, List}
+use Rattle.backends.specs.declared.form.Form.{Form}
+use Rattle.backends.specs.declared.form.Form.TheVariants as forms
+use Rattle.net_names.specs.declared.nets.Nets.{Nets}
+use Rattle.backends.specs.ListText.{list_text}
+
+-- the text in a form
+abbrev pub net_text : Form → Nets → List ℕ
+net_text forms.List nets = list_text nets

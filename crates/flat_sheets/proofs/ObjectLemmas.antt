@@ -1,0 +1,122 @@
+-- What each object adds to the conductors and the listed parts of a project.
+use Rattle.std.proofs.Common.{◌≡◌, ℕ, Bool, true, false, List, [], ◌∷◌, ◌++◌, Option, Some, None, map, refl, sym, ap, subst, ◌∙◌}
+use Rattle.std.specs.Prelude.{filter, not, is_some}
+use Rattle.std.specs.List.{cons_option, filter_map, flat_map}
+use Rattle.std.specs.Option.{option_to_list}
+use Rattle.geda_model.specs.declared.shape.Shape.{Shape}
+use Rattle.geda_model.specs.declared.object.Body.TheVariants as bodies
+use Rattle.geda_model.specs.Data.{TextData}
+use Rattle.geda_model.specs.Shapes.{ComponentData}
+use Rattle.geda_model.specs.Sheets.{ObjectData}
+use Rattle.geda_model.specs.Projects.{ProjectData}
+use Rattle.attr_rules.specs.Attributes.{attrs, attached, or_else}
+use Rattle.attr_rules.specs.Libraries.{library_of}
+use Rattle.hierarchy.specs.declared.instances.Instance.{Instance}
+use Rattle.pin_place.specs.declared.pins.PlacedPin.{PlacedPin}
+use Rattle.pin_place.specs.Pins.{pins_of}
+use Rattle.flat_sheets.specs.declared.package.Package.{Package}
+use Rattle.flat_sheets.specs.Occurrences.{FlatObject, OccurrenceData, object_at}
+use Rattle.flat_sheets.specs.ListedParts.{listed_part}
+use Rattle.flat_sheets.specs.Conductors.{RoleData, drawn_of, hidden_of, hidden_pins, is_drawn, pin_conductor}
+use Rattle.flat_sheets.specs.steps.ObjectContents.{drawn_if, drawn_in, drawn_of_component, drawn_pin, flat, hidden_if, hidden_in, hidden_of_component, hidden_pin, part_if, parts_in, role_at}
+
+or_else-none : (values : List (List ℕ)) → or_else values [] ≡ values
+or_else-none [] = refl
+or_else-none (v ∷ vs) = refl
+
+-- a shape inherits nothing
+attrs-shape : (name : List ℕ) (s : Shape) (texts : List TextData)
+    → attrs (record { body = bodies.Shape s; attrs = texts }) None name ≡ attached (record { body = bodies.Shape s; attrs = texts }) name
+unfolding attrs
+attrs-shape name s texts = or_else-none _
+
+-- the attributes of a shape are the attached ones
+pub attrs-of_shape : (name : List ℕ) (o : ObjectData) (s : Shape) → o.body ≡ bodies.Shape s → attrs o None name ≡ attached o name
+attrs-of_shape name o s e = rw e (attrs-shape name s o.attrs)
+
+module _ (place id : ℕ) (role : RoleData) where
+  -- the drawn pins of a component
+  drawn_pins-are : (pins : List PlacedPin) → map (pin_conductor place id role) (filter is_drawn pins) ≡ flat_map (drawn_pin place id role) pins
+  drawn_pins-are [] = refl
+  drawn_pins-are (pin ∷ pins) = by (is_drawn pin) refl (drawn_pins-are pins)
+    where
+      by : (b : Bool) → is_drawn pin ≡ b
+          → map (pin_conductor place id role) (filter is_drawn pins) ≡ flat_map (drawn_pin place id role) pins
+          → map (pin_conductor place id role) (filter is_drawn (pin ∷ pins)) ≡ flat_map (drawn_pin place id role) (pin ∷ pins)
+      by true e h = rw e (ap (λ rest. pin_conductor place id role pin ∷ rest) h)
+      by false e h = rw e h
+
+  -- its hidden pins, where it is a listed part
+  hidden_pins-are : is_some role.refdes ≡ true → (pins : List PlacedPin)
+      → map (pin_conductor place id role) (filter (λ pin. not (is_drawn pin)) pins) ≡ flat_map (hidden_pin place id role) pins
+  hidden_pins-are listed [] = refl
+  hidden_pins-are listed (pin ∷ pins) = by (is_drawn pin) refl (hidden_pins-are listed pins)
+    where
+      by : (b : Bool) → is_drawn pin ≡ b
+          → map (pin_conductor place id role) (filter (λ pin. not (is_drawn pin)) pins) ≡ flat_map (hidden_pin place id role) pins
+          → map (pin_conductor place id role) (filter (λ pin. not (is_drawn pin)) (pin ∷ pins)) ≡ flat_map (hidden_pin place id role) (pin ∷ pins)
+      by true e h = rw (e, listed) h
+      by false e h = rw (e, listed) (ap (λ rest. pin_conductor place id role pin ∷ rest) h)
+
+  -- one that is none has none
+  no_hidden_pins : is_some role.refdes ≡ false → (pins : List PlacedPin) → flat_map (hidden_pin place id role) pins ≡ []
+  no_hidden_pins unlisted [] = refl
+  no_hidden_pins unlisted (pin ∷ pins) = rw unlisted (no_hidden_pins unlisted pins)
+
+module _ (p : ProjectData) (place : ℕ) (i : Instance) (id : ℕ) where
+  drawn_of-pins : (o : ObjectData) → map (pin_conductor place id (role_at p i o)) (filter is_drawn (pins_of o (library_of p o))) ≡ drawn_of_component p place i id o
+  drawn_of-pins o = drawn_pins-are place id (role_at p i o) (pins_of o (library_of p o))
+
+  hidden_of-pins : (o : ObjectData) → hidden_pins (flat place i id o) (library_of p o) (role_at p i o) ≡ hidden_of_component p place i id o
+  hidden_of-pins o = by (is_some (role_at p i o).refdes) refl
+    where
+      by : (b : Bool) → is_some (role_at p i o).refdes ≡ b → hidden_pins (flat place i id o) (library_of p o) (role_at p i o) ≡ hidden_of_component p place i id o
+      by true e = rw e (hidden_pins-are place id (role_at p i o) e (pins_of o (library_of p o)))
+      by false e = rw e (sym (no_hidden_pins place id (role_at p i o) e (pins_of o (library_of p o))))
+
+  -- what is drawn of a component
+  pub drawn_of-component : (o : ObjectData) (c : ComponentData) → o.body ≡ bodies.Component c → drawn_of_component p place i id o ≡ drawn_of p (flat place i id o)
+  drawn_of-component o c e =
+      let as_component : record { body = bodies.Component c; attrs = o.attrs } ≡ o = λ j. record { body = sym e j; attrs = o.attrs } in
+      subst (λ (x : ObjectData). drawn_of_component p place i id x ≡ drawn_of p (flat place i id x)) as_component (sym (drawn_of-pins (record { body = bodies.Component c; attrs = o.attrs })))
+
+  -- its hidden pins
+  pub hidden_of-component : (o : ObjectData) (c : ComponentData) → o.body ≡ bodies.Component c → hidden_of_component p place i id o ≡ hidden_of p (flat place i id o)
+  hidden_of-component o c e =
+      let as_component : record { body = bodies.Component c; attrs = o.attrs } ≡ o = λ j. record { body = sym e j; attrs = o.attrs } in
+      subst (λ (x : ObjectData). hidden_of_component p place i id x ≡ hidden_of p (flat place i id x)) as_component (sym (hidden_of-pins (record { body = bodies.Component c; attrs = o.attrs })))
+
+module _ (p : ProjectData) where
+  -- what is drawn of the objects that stand there
+  pub drawn_in-are : (os : List OccurrenceData) → drawn_in p os ≡ flat_map (drawn_of p) (filter_map (object_at p) os)
+  drawn_in-are [] = refl
+  drawn_in-are (o ∷ os) = by (object_at p o) (drawn_in-are os)
+    where
+      by : (f : Option FlatObject) → drawn_in p os ≡ flat_map (drawn_of p) (filter_map (object_at p) os)
+          → drawn_if p f ++ drawn_in p os ≡ flat_map (drawn_of p) (cons_option f (filter_map (object_at p) os))
+      by None h = h
+      by (Some f) h = ap (λ rest. drawn_of p f ++ rest) h
+
+  -- their hidden pins
+  pub hidden_in-are : (os : List OccurrenceData) → hidden_in p os ≡ flat_map (hidden_of p) (filter_map (object_at p) os)
+  hidden_in-are [] = refl
+  hidden_in-are (o ∷ os) = by (object_at p o) (hidden_in-are os)
+    where
+      by : (f : Option FlatObject) → hidden_in p os ≡ flat_map (hidden_of p) (filter_map (object_at p) os)
+          → hidden_if p f ++ hidden_in p os ≡ flat_map (hidden_of p) (cons_option f (filter_map (object_at p) os))
+      by None h = h
+      by (Some f) h = ap (λ rest. hidden_of p f ++ rest) h
+
+  part_first : (part : Option Package) (parts : List Package) → option_to_list part ++ parts ≡ cons_option part parts
+  part_first None parts = refl
+  part_first (Some part) parts = refl
+
+  -- the listed parts among them
+  pub parts_in-are : (os : List OccurrenceData) → parts_in p os ≡ filter_map (listed_part p) (filter_map (object_at p) os)
+  parts_in-are [] = refl
+  parts_in-are (o ∷ os) = by (object_at p o) (parts_in-are os)
+    where
+      by : (f : Option FlatObject) → parts_in p os ≡ filter_map (listed_part p) (filter_map (object_at p) os)
+          → part_if p f ++ parts_in p os ≡ filter_map (listed_part p) (cons_option f (filter_map (object_at p) os))
+      by None h = h
+      by (Some f) h = ap (λ rest. option_to_list (listed_part p f) ++ rest) h ∙ part_first (listed_part p f) (filter_map (listed_part p) (filter_map (object_at p) os))

@@ -1,0 +1,39 @@
+-- The ids of each sheet: after one more object, and after all.
+use Rattle.std.proofs.Common.{◌≡◌, ℕ, Bool, true, false, List, [], ◌∷◌, ◌++◌, Option, Some, None, refl, ap, ◌∙◌}
+use Rattle.std.specs.BTreeMap.{Updates, get, is_at}
+use Rattle.std.specs.List.{filter}
+use Rattle.std.specs.Map.{keys_of}
+use Rattle.std.specs.Option.{unwrap_or}
+use Rattle.std.specs.Str.{bytes_eq}
+use Rattle.std.proofs.lemmas.List.{append-nil}
+use Rattle.std.proofs.lemmas.Map.Text.{is_eq-slice_cmp}
+use Rattle.std.proofs.lemmas.Slice.Eq.{bytes_eq-Decides}
+use Rattle.geda_model.specs.declared.change.Placed.{Placed}
+use Rattle.geda_model.specs.Projects.{is_on}
+use Rattle.flat_sheets.specs.Order.{by_bytes}
+use Rattle.flat_sheets.specs.steps.SheetIds.{AddsId, IdsBySheet, id_on, ids_at, ids_in}
+
+-- a list is taken out, made longer and put back
+pub adds_id : (row : ℕ × Placed) (old mid new : IdsBySheet) (known : Option (List ℕ)) (key ids : List ℕ)
+    → known ≡ get by_bytes old row.1.sheet → key ≡ row.1.sheet → ids ≡ unwrap_or known [] ++ row.0 ∷ []
+    → Updates by_bytes old mid row.1.sheet None → Updates by_bytes mid new key (Some ids) → AddsId row old new
+adds_id row old mid new known key ids is is_key made out back name = by (bytes_eq row.1.sheet name) refl
+  where
+    by : (b : Bool) → bytes_eq row.1.sheet name ≡ b → ids_at new name ≡ ids_at old name ++ id_on name row
+    by true e =
+        let hit : is_at (by_bytes row.1.sheet) name ≡ true = is_eq-slice_cmp row.1.sheet name ∙ e in
+        let same : row.1.sheet ≡ name = (bytes_eq-Decides row.1.sheet name).0 e in
+        rw (back.0 name, is_key, hit, e, made, is, same) refl
+    by false e =
+        let miss : is_at (by_bytes row.1.sheet) name ≡ false = is_eq-slice_cmp row.1.sheet name ∙ e in
+        rw (back.0 name, is_key, miss, out.0 name, miss, e, append-nil (ids_at old name)) refl
+
+-- the ids of those objects that stand on a sheet
+pub ids_in-are : (rows : List (ℕ × Placed)) (name : List ℕ) → ids_in rows name ≡ keys_of (filter (is_on name) rows)
+ids_in-are [] name = refl
+ids_in-are (row ∷ rows) name = by (is_on name row) refl (ids_in-are rows name)
+  where
+    by : (b : Bool) → is_on name row ≡ b → ids_in rows name ≡ keys_of (filter (is_on name) rows)
+        → ids_in (row ∷ rows) name ≡ keys_of (filter (is_on name) (row ∷ rows))
+    by true e h = rw e (ap (λ ids. row.0 ∷ ids) h)
+    by false e h = rw e h

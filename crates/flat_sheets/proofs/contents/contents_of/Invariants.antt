@@ -1,0 +1,12 @@
+use Rattle.std.proofs.Common.{◌≡◌, ◌++◌}
+use Rattle.flat_sheets.specs.steps.ObjectContents.{drawn_in, hidden_in, parts_in}
+use Rattle.flat_sheets.specs.steps.PortLabels.{AreLabelSets}
+use Rattle.flat_sheets.proofs.contents.contents_of.Given as goal
+
+abbrev pub invariant-loop-occurrence : goal.invariant-loop-occurrence
+invariant-loop-occurrence l = record {
+  drawn : l.contents.conductors.drawn.items ++ drawn_in l.project.parts l.occurrence-iterator ≡ drawn_in l.project.parts l.occurrences.keys;
+  hidden : l.contents.conductors.hidden.items ++ hidden_in l.project.parts l.occurrence-iterator ≡ hidden_in l.project.parts l.occurrences.keys;
+  parts : l.contents.parts.items ++ parts_in l.project.parts l.occurrence-iterator ≡ parts_in l.project.parts l.occurrences.keys;
+  labels : AreLabelSets l.project.parts l.contents.labels;
+}

@@ -1,0 +1,6 @@
+pub mod Order
+pub mod Occurrences
+pub mod Ports
+pub mod ListedParts
+pub mod Conductors
+pub mod steps

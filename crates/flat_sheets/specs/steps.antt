@@ -1,0 +1,4 @@
+-- Steps of the code; no public clause cites them.
+pub mod SheetIds
+pub mod PortLabels
+pub mod ObjectContents

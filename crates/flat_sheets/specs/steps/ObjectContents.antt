@@ -1,0 +1,101 @@
+-- Steps of the code; no public clause cites them.
+-- What each object adds to the conductors and the listed parts of a project.
+use Rattle.std.specs.Prelude.{ℕ, ◌&&◌, if◌then◌else◌, not, List, [], ◌∷◌, Option, Some, None, codes, is_some, map}
+use Rattle.std.specs.FinMap.{get}
+use Rattle.std.specs.List.{flat_map, slice_get}
+use Rattle.std.specs.Option.{option_to_list}
+use Rattle.geda_model.specs.declared.shape.Shape.{Shape}
+use Rattle.geda_model.specs.declared.shape.Shape.TheVariants as shapes
+use Rattle.geda_model.specs.Sheets.{ObjectData, SymbolData}
+use Rattle.geda_model.specs.Projects.{ProjectData}
+use Rattle.attr_rules.specs.Attributes.{attached}
+use Rattle.attr_rules.specs.Components.{has_sources, refdes_of}
+use Rattle.attr_rules.specs.Libraries.{library_of}
+use Rattle.hierarchy.specs.declared.instances.Instance.{Instance}
+use Rattle.pin_place.specs.declared.pins.PlacedPin.{PlacedPin}
+use Rattle.pin_place.specs.Pins.{pins_of}
+use Rattle.pin_place.specs.SymbolPins.{point}
+use Rattle.link_classes.specs.declared.conductors.FlatConductor.{FlatConductor}
+use Rattle.flat_sheets.specs.declared.package.Package.{Package}
+use Rattle.flat_sheets.specs.Occurrences.{FlatObject, OccurrenceData, flat_object, object_at}
+use Rattle.flat_sheets.specs.Ports.{pins_above}
+use Rattle.flat_sheets.specs.ListedParts.{listed_part, package_under, refdes_in, under}
+use Rattle.flat_sheets.specs.Conductors.{RoleData, drawn_of, hidden_of, is_drawn, pin_conductor, segment_conductor}
+
+-- the role of a component with a library symbol in an instance
+abbrev pub role_in : ProjectData → Instance → ObjectData → Option SymbolData → RoleData
+role_in p i o library = record {
+  refdes = refdes_in p i o library;
+  leads_down = has_sources o library;
+  leads_up = pins_above p i (refdes_of o library);
+}
+
+-- the pin, if it is drawn
+abbrev pub drawn_pin : ℕ → ℕ → RoleData → PlacedPin → List FlatConductor
+drawn_pin place id role pin =
+    if is_drawn pin then pin_conductor place id role pin ∷ [] else []
+
+-- the pin, if it is a hidden one of a listed part
+abbrev pub hidden_pin : ℕ → ℕ → RoleData → PlacedPin → List FlatConductor
+hidden_pin place id role pin =
+    if is_some role.refdes && not (is_drawn pin) then pin_conductor place id role pin ∷ [] else []
+
+-- an object as it stands in the instance at a place
+abbrev pub flat : ℕ → Instance → ℕ → ObjectData → FlatObject
+flat place i id o = record { place = place; instance = i; id = id; object = o }
+
+-- what is drawn of an object that is this shape: a segment with its `netname`s
+abbrev pub drawn_of_shape : ℕ → Instance → ℕ → ObjectData → Shape → List FlatConductor
+drawn_of_shape place i id o (shapes.Net x1 y1 x2 y2 color) =
+    segment_conductor place id (map (under i.path) (attached o (codes "netname")))
+    (point x1 y1) (point x2 y2) ∷ []
+drawn_of_shape place i id o other = []
+
+-- the role of a component of the project
+abbrev pub role_at : ProjectData → Instance → ObjectData → RoleData
+role_at p i o = role_in p i o (library_of p o)
+
+-- the drawn pins of a component
+abbrev pub drawn_of_component : ProjectData → ℕ → Instance → ℕ → ObjectData → List FlatConductor
+drawn_of_component p place i id o =
+    flat_map (drawn_pin place id (role_at p i o)) (pins_of o (library_of p o))
+
+-- its hidden pins
+abbrev pub hidden_of_component : ProjectData → ℕ → Instance → ℕ → ObjectData → List FlatConductor
+hidden_of_component p place i id o =
+    flat_map (hidden_pin place id (role_at p i o)) (pins_of o (library_of p o))
+
+-- what it says of its package, if it is a listed part
+abbrev pub part_of_component : ProjectData → Instance → ObjectData → Option Package
+part_of_component p i o = package_under o (library_of p o) (role_at p i o).refdes
+
+-- the object of an id in the instance at a place of some instances
+abbrev pub object_in : ProjectData → List Instance → ℕ → ℕ → Option FlatObject
+object_in p is place id = flat_object place id (slice_get is place) (get p.objects id)
+
+-- what is drawn of an object, if there is one
+abbrev pub drawn_if : ProjectData → Option FlatObject → List FlatConductor
+drawn_if p None = []
+drawn_if p (Some f) = drawn_of p f
+
+-- its hidden pins
+abbrev pub hidden_if : ProjectData → Option FlatObject → List FlatConductor
+hidden_if p None = []
+hidden_if p (Some f) = hidden_of p f
+
+-- the listed part that it is
+abbrev pub part_if : ProjectData → Option FlatObject → List Package
+part_if p None = []
+part_if p (Some f) = option_to_list (listed_part p f)
+
+-- what is drawn of the objects that stand there
+abbrev pub drawn_in : ProjectData → List OccurrenceData → List FlatConductor
+drawn_in p os = flat_map (λ o. drawn_if p (object_at p o)) os
+
+-- their hidden pins
+abbrev pub hidden_in : ProjectData → List OccurrenceData → List FlatConductor
+hidden_in p os = flat_map (λ o. hidden_if p (object_at p o)) os
+
+-- the listed parts among them
+abbrev pub parts_in : ProjectData → List OccurrenceData → List Package
+parts_in p os = flat_map (λ o. part_if p (object_at p o)) os

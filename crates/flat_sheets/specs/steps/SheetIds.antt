@@ -1,0 +1,49 @@
+-- Steps of the code; no public clause cites them.
+-- The ids of each sheet, gathered in one pass over all objects, and the objects of all instances,
+-- entered one by one.
+use Rattle.std.specs.Prelude.{◌≡◌, ℕ, if◌then◌else◌, List, [], ◌∷◌, ◌++◌}
+use Rattle.std.specs.BTreeMap.{BTreeMap, get}
+use Rattle.std.specs.BTreeSet.{insert_key}
+use Rattle.std.specs.List.{flat_map, fold}
+use Rattle.std.specs.Option.{unwrap_or}
+use Rattle.geda_model.specs.declared.change.Placed.{Placed}
+use Rattle.geda_model.specs.Projects.{ProjectData, ids_on, is_on}
+use Rattle.hierarchy.specs.declared.instances.Instance.{Instance}
+use Rattle.flat_sheets.specs.Occurrences.{OccurrenceData, by_occurrence}
+use Rattle.flat_sheets.specs.Order.{by_bytes}
+
+-- ids by sheet
+abbrev pub IdsBySheet : Type 0
+IdsBySheet = BTreeMap (List ℕ) (List ℕ)
+
+-- the ids of a sheet; none where it is not there
+abbrev pub ids_at : IdsBySheet → List ℕ → List ℕ
+ids_at table name = unwrap_or (get by_bytes table name) []
+
+-- the id of an object, if that stands on the sheet
+abbrev pub id_on : List ℕ → ℕ × Placed → List ℕ
+id_on name row = if is_on name row then row.0 ∷ [] else []
+
+-- the ids of those objects that stand on a sheet
+abbrev pub ids_in : List (ℕ × Placed) → List ℕ → List ℕ
+ids_in rows name = flat_map (id_on name) rows
+
+-- an object has been put behind the others of its sheet
+abbrev pub AddsId : ℕ × Placed → IdsBySheet → IdsBySheet → Type 0
+AddsId row old new = (name : List ℕ) → ids_at new name ≡ ids_at old name ++ id_on name row
+
+-- the table has the ids of these objects
+abbrev pub AreIdsOf : List (ℕ × Placed) → IdsBySheet → Type 0
+AreIdsOf rows table = (name : List ℕ) → ids_at table name ≡ ids_in rows name
+
+-- the table has the ids of a project
+abbrev pub AreIdsBySheet : ProjectData → IdsBySheet → Type 0
+AreIdsBySheet p table = (name : List ℕ) → ids_at table name ≡ ids_on p name
+
+-- an object in the instance at a place
+abbrev pub occurrence : ℕ → Instance → ℕ → OccurrenceData
+occurrence place i id = record { route = i.route; instance = place; id = id }
+
+-- those that are listed, and then these
+abbrev pub entered : List OccurrenceData → List OccurrenceData → List OccurrenceData
+entered listed os = fold (insert_key by_occurrence) listed os

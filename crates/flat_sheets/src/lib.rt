@@ -1,0 +1,20 @@
+//! A project as one flat list of what joins in it: each object of each sheet, in each instance of
+//! the sheet.
+//!
+//! Rules: docs/RULES.md, "Conductors", "Ports" and "Packages". Definitions: specs/Conductors.antt,
+//! which stands on Occurrences.antt, Ports.antt and ListedParts.antt.
+#![tactic(auto)]
+
+mod conductors;
+mod contents;
+mod occurrence;
+mod order;
+mod package;
+mod ports;
+mod project;
+mod roles;
+mod sheet_ids;
+mod texts;
+
+pub use package::Package;
+pub use project::{FlatProject, flatten};

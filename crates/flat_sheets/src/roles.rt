@@ -1,0 +1,96 @@
+// What a component is in an instance of its sheet.
+ghost use Rattle.std.specs.Prelude.{◌≡◌, ◌||◌, if◌then◌else◌, All, IfOk, OnOk};
+ghost use Rattle.std.specs.Prelude.{None, Some, option_copied};
+ghost use Rattle.geda_model.specs.Names.{IsLineByte};
+ghost use Rattle.attr_rules.specs.Components.{has_sources};
+ghost use Rattle.flat_sheets.specs.ListedParts.{is_no_part, under};
+ghost use Rattle.flat_sheets.specs.steps.PortLabels.{AreLabelSets};
+ghost use Rattle.flat_sheets.specs.steps.ObjectContents.{role_in};
+
+use crate::ports::{is_port, pins_above};
+use crate::texts::line_under;
+use attr_rules::{has_sources, is_graphical, refdes_of};
+use geda_model::{Line, Object, Project, Symbol};
+use hierarchy::Instance;
+use link_classes::PortPins;
+use std::alloc::{AllocError, Global};
+use std::collections::{HashMap, HashSet};
+use std::marker::Model;
+
+/// What a component is in an instance of its sheet.
+#[derive(Drop)]
+pub struct Role {
+    /// Its printed refdes, if it is a listed part.
+    pub refdes: Option<Line>,
+    /// Whether it leads down to sheets below.
+    pub leads_down: bool,
+    /// The pins above for which it stands, if it is a port.
+    pub leads_up: Option<PortPins>,
+}
+
+impl Model for Role {
+    ghost use Rattle.flat_sheets.specs.Conductors.{RoleData};
+
+    ghost Value = { RoleData };
+
+    ghost view = { λ r. record {
+      refdes = r.refdes;
+      leads_down = r.leads_down;
+      leads_up = r.leads_up;
+    } };
+}
+
+fn is_unlisted(object: &Object, library: Option<&Symbol>, leads_down: bool, is_port: bool) -> bool
+    requires { leads_down ≡ has_sources object.now (option_copied library) }
+    ensures { result ≡ (is_no_part object.now (option_copied library.entry) || is_port) }
+{
+    is_graphical(object, library) || leads_down || is_port
+}
+
+fn printed_refdes(
+    alloc: Global,
+    is_unlisted: bool,
+    instance: &Instance,
+    refdes: &str,
+) -> Result<Option<Line>, AllocError>
+    requires { All IsLineByte refdes.now }
+    ensures { IfOk result (λ printed. printed ≡
+        (if is_unlisted then None else Some (under instance.now.path refdes.now))) }
+{
+    if is_unlisted {
+        return Ok(None);
+    }
+    Ok(Some(line_under(alloc, &instance.path, refdes)?))
+}
+
+/// What a component is in an instance of its sheet (docs/RULES.md, "Packages" and "Ports"). The
+/// labels of components above are kept.
+pub fn role_of(
+    alloc: Global,
+    project: &Project,
+    known: &mut HashMap<u32, HashSet<String>>,
+    instance: &Instance,
+    object: &Object,
+    library: Option<&Symbol>,
+) -> Result<Role, AllocError>
+    requires known { AreLabelSets project.now.parts known.old }
+    ensures role { IfOk result (λ role. role ≡
+        role_in project.now.parts instance.now object.now (option_copied library.entry)) }
+    ensures known { OnOk result (AreLabelSets project.now.parts known.new) }
+{
+    let leads_down = has_sources(object, library);
+    let Some(refdes) = refdes_of(object, library) else {
+        return Ok(Role {
+            refdes: None,
+            leads_down,
+            leads_up: None,
+        });
+    };
+    let is_port = is_port(alloc, project, known, instance, refdes)?;
+    let is_unlisted = is_unlisted(object, library, leads_down, is_port);
+    Ok(Role {
+        refdes: printed_refdes(alloc, is_unlisted, instance, refdes)?,
+        leads_down,
+        leads_up: pins_above(alloc, is_port, instance, refdes)?,
+    })
+}

@@ -1,0 +1,58 @@
+// The ids of the objects of each sheet.
+ghost use Rattle.std.specs.Prelude.{◌≡◌, IfOk, OnOk, map};
+ghost use Rattle.geda_model.specs.Tables.{row_now};
+ghost use Rattle.flat_sheets.specs.steps.SheetIds.{AddsId, AreIdsBySheet, AreIdsOf, ids_at};
+
+use geda_model::{Items, Name, Placed, Project};
+use std::alloc::{AllocError, Global};
+use std::collections::BTreeMap;
+
+fn add_id(
+    alloc: Global,
+    table: &mut BTreeMap<Name, Items<u32>>,
+    id: u32,
+    placed: &Placed,
+) -> Result<(), AllocError>
+    ensures { OnOk result (AddsId (id, placed.now) table.old table.new) }
+{
+    let known = table.remove(&placed.sheet);
+    let mut ids = known.unwrap_or(Items::from_vec(Vec::new(alloc))).into_vec();
+    ids.push(id)?;
+    let name = placed.sheet.clone()?;
+    table.insert(name, Items::from_vec(ids))?;
+    Ok(())
+}
+
+fn ids_of_rows(
+    alloc: Global,
+    rows: &[(u32, &Placed)],
+) -> Result<BTreeMap<Name, Items<u32>>, AllocError>
+    ensures { IfOk result (AreIdsOf (map row_now rows.now)) }
+{
+    let mut table = BTreeMap::new(alloc);
+    for row in rows {
+        add_id(alloc, &mut table, row.0, row.1)?;
+    }
+    Ok(table)
+}
+
+/// The ids of the objects of each sheet, rising; a sheet without objects is left out.
+pub fn ids_by_sheet(
+    alloc: Global,
+    project: &Project,
+) -> Result<BTreeMap<Name, Items<u32>>, AllocError>
+    ensures { IfOk result (AreIdsBySheet project.now.parts) }
+{
+    let rows = project.objects_by_id(alloc)?;
+    ids_of_rows(alloc, rows.as_slice())
+}
+
+/// The ids of the objects of a sheet.
+pub fn ids_at<'a>(table: &'a BTreeMap<Name, Items<u32>>, sheet: &Name) -> &'a [u32]
+    ensures { result.now ≡ ids_at table.now sheet.now }
+{
+    match table.get(sheet) {
+        Some(ids) => ids.as_slice(),
+        None => &[],
+    }
+}

@@ -1,7 +1,0 @@
-use Rattle.std.proofs.Common.{◌≡◌, ◌++◌, drop}
-use Rattle.std.specs.List.{flat_map}
-use Rattle.gafd.specs.ListText.{package_text}
-use Rattle.gafd.proofs.list_text.put_packages.Given as goal
-
-abbrev pub invariant-loop-package : goal.invariant-loop-package
-invariant-loop-package l = l.out.items ++ flat_map package_text (drop l.package-index l.packages) ≡ l.fn.out.items ++ flat_map package_text l.packages
