@@ -1,84 +1,18 @@
-"""Folders with known answers, for the rules of project_rules.py: `case_table`.
+"""Folders with known answers, for the rules of project_rules.py: `case_table`. Here are those of
+one sheet; hierarchy_cases.py has those of several.
 
 In what is wanted `|` stands for a tab, and the lines `parts N` and `nets N` are left out: the
 packages stand before the empty text, the nets behind it.
 """
 import pathlib
 
-TOP = pathlib.Path(__file__).resolve().parent.parent
-VERSION = "v 20130925 2\n"
-
-
-def text(content):
-    return f"T 0 0 5 10 1 1 0 0 {content.count(chr(10)) + 1}\n{content}\n"
-
-
-def block(contents):
-    return "{\n" + "".join(map(text, contents)) + "}\n" if contents else ""
-
-
-def pin(x, y, *contents, at=None, kind=0):
-    """A pin whose active end is a point, with attached texts."""
-    far = at or (x + 50, y)
-    return f"P {x} {y} {far[0]} {far[1]} 1 {kind} 0\n" + block(contents)
-
-
-def numbered(x, y, number, kind="pas"):
-    return pin(x, y, f"pinnumber={number}", f"pinseq={number}", f"pintype={kind}")
-
-
-def symbol(*parts):
-    """A symbol: parts that are drawn, and the contents of free texts."""
-    return VERSION + "".join(part if part.endswith("\n") else text(part) for part in parts)
-
-
-def component(basename, x, y, *contents, angle=0, mirror=0):
-    return f"C {x} {y} 1 {angle} {mirror} {basename}\n" + block(contents)
-
-
-def embedded(basename, parts, *contents):
-    parts = symbol(*parts).removeprefix(VERSION)
-    return f"C 0 0 1 0 0 EMBEDDED{basename}\n[\n{parts}]\n" + block(contents)
-
-
-def part(x, y, refdes, *contents, angle=0, mirror=0):
-    """A part of two pins: one at the point, and one 300 to the right before it is turned."""
-    contents = (f"refdes={refdes}", *contents)
-    return component("two.sym", x, y, *contents, angle=angle, mirror=mirror)
-
-
-def one(kind, x, y, refdes, *contents):
-    """A part of one pin of a kind at a point."""
-    return component(f"k-{kind}.sym", x, y, f"refdes={refdes}", *contents)
-
-
-def wire(x1, y1, x2, y2, *names):
-    return f"N {x1} {y1} {x2} {y2} 4\n" + block([f"netname={name}" for name in names])
-
-
-def gate(y, *contents):
-    """A gate of a quad package."""
-    return component("7400.sym", 0, y, *contents)
-
-
-KINDS = ("in", "out", "io", "oc", "oe", "pas", "tp", "tri", "clk", "pwr")
-TITLE = "B 0 0 17000 11000 15 0 0 0 -1 -1 0 -1 -1 -1 -1 -1\n"
-SLOTDEFS = ("slotdef=1:1,2,3", "slotdef=2:4,5,6", "slotdef=3:9,10,8", "slotdef=4:12,13,11")
-LIBRARY = {f"k-{kind}.sym": symbol(numbered(0, 0, 1, kind)) for kind in KINDS}
-LIBRARY["two.sym"] = symbol(numbered(0, 0, 1), numbered(300, 0, 2), "device=TWO")
-LIBRARY["title-B.sym"] = symbol(TITLE, "graphical=1")
-LIBRARY["frame.sym"] = symbol(numbered(0, 0, 1), "graphical=1", "source=low.sch", "refdes=F1")
-LIBRARY["box.sym"] = symbol("source=low.sch")
-LIBRARY["power.sym"] = symbol(pin(0, 0, "pinnumber=1"), "net=Vcc:1")
-LIBRARY["bad.sym"] = VERSION + "N 0 0 1 0 4\nC 0 0 1 0 0 two.sym\n"
-LIBRARY["worse.sym"] = VERSION + "N 0 0 1 4\n"
-LIBRARY[".hid.sym"] = LIBRARY["x" * 101] = LIBRARY["é.sym"] = LIBRARY["worse.sym"]
-LIBRARY["x" * 100] = symbol("device=LONG")
-LIBRARY["-_+.sym"] = symbol("device=DASH")
-LIBRARY["7400.sym"] = symbol(
-    numbered(300, 400, 1, "in"), numbered(300, 0, 2, "in"), numbered(1000, 200, 3, "out"),
-    "device=7400", "numslots=4", *SLOTDEFS, "net=Vcc:14", "net=GND:7",
+import hierarchy_cases
+from drawing import (
+    LIBRARY, VERSION, alone, answer, block, component, embedded, gate, numbered, one, part, pin,
+    text, wire,
 )
+
+TOP = pathlib.Path(__file__).resolve().parent.parent
 STAGE = (
     component("title-B.sym", 40000, 40000)
     + part(44000, 44000, "R1", "value=10k")
@@ -104,10 +38,6 @@ def slotted(*contents):
     """A part of three pins with slots, which is embedded, and no two of whose pins touch."""
     pins = [numbered(0, 100 * k, k) for k in (1, 2)] + [pin(0, 300, "pinnumber=5", "pinseq=3")]
     return embedded("s.sym", [*pins, *SLOTTED], "refdes=U1", *contents)
-
-
-def alone(refdes, *numbers):
-    return [f"unconnected_pin-{k}|{refdes}-{number}" for k, number in enumerate(numbers, 1)]
 
 
 def sheets():
@@ -176,12 +106,16 @@ def own_sheets():
         component("box.sym", 0, 0, "refdes=S1") + component("bad.sym", 0, 0)
         + component("worse.sym", 0, 0)
     ), (1, "bad.sym:3: Nested")
-    yield "a source is not understood", (
+    yield "a component with a source is no part, also where the folder has no such sheet", (
         component("box.sym", 0, 0, "refdes=S1")
-    ), (9, "x.sch: NotYet")
-    yield "nor is one of a component without refdes", (
-        one("pas", 0, 0, "A1") + component("none.sym", 0, 0, "source=a")
-    ), (9, "x.sch: NotYet")
+    ), [""]
+    yield "nor has it hidden pins, but its drawn ones join what they touch", (
+        one("pas", 0, 0, "A1") + one("pas", 0, 0, "S1", "source=a", "net=X:1,2", "net=Y:3")
+        + one("pas", 0, 0, "A2") + one("pas", 0, 500, "A3", "net=Y:1")
+    ), ["A1|-|-|-", "A2|-|-|-", "A3|-|-|-", "", "X|A1-1 A2-1", "Y|A3-1"]
+    yield "so does one without refdes", (
+        one("pas", 0, 0, "A1") + component("k-pas.sym", 0, 0, "source=a")
+    ), ["A1|-|-|-", "", "unnamed_net1|A1-1"]
     yield "a graphical component has no pins, is no part, and has no source", (
         component("frame.sym", 0, 0) + one("pas", 0, 0, "A1")
         + component("k-pas.sym", 0, 0, "refdes=G1", "graphical=1", "net=X:1")
@@ -338,29 +272,26 @@ def own_sheets():
     ), ["Q1|-|-|-", "", *alone("Q1", 1, 2)]
 
 
-def answer(wanted):
-    """What is wanted as status, output and error line."""
-    if isinstance(wanted, tuple):
-        return wanted[0], b"", f"gafd: {wanted[1]}\n".encode()
-    middle = wanted.index("")
-    lines = [f"parts {middle}", *wanted[:middle], f"nets {len(wanted) - middle - 1}"]
-    lines += wanted[middle + 1 :]
-    return 0, "".join(f"{line}\n" for line in lines).replace("|", "\t").encode(), b""
-
-
 def case_table():
-    """Each what it shows, the files of the folder, the sheet that is asked for, and its answer."""
+    """Each what it shows, the files of the folder, the words, and its answer."""
     library = {name: data.encode() for name, data in LIBRARY.items()}
     two = (TOP / "examples" / "one.sch").read_bytes()
     wanted = ["R1|RESISTOR|10k|-", "R2|RESISTOR|22k|-", "", "unnamed_net1|R1-2 R2-1",
               "unconnected_pin-1|R1-1", "unconnected_pin-2|R2-2"]
-    yield "two resistors with a wire between them", {"one.sch": two}, "one.sch", answer(wanted)
-    yield "an empty sheet", {"x.sch": VERSION.encode()}, "x.sch", answer([""])
-    yield "no sheet", {"y.sch": VERSION.encode()}, "x.sch", answer((1, "x.sch: missing"))
+    yield "two resistors with a wire between them", {"one.sch": two}, ["one.sch"], answer(wanted)
+    examples = {it.name: it.read_bytes() for it in (TOP / "examples").iterdir() if it.is_file()}
+    for name in ("preamp", "stereo"):
+        told = examples[f"{name}.list"]
+        yield f"the example {name}", examples, [f"{name}.sch"], (0, told, b"")
+    yield "an empty sheet", {"x.sch": VERSION.encode()}, ["x.sch"], answer([""])
+    yield "no sheet", {"y.sch": VERSION.encode()}, ["x.sch"], answer((1, "x.sch: missing"))
     itself = VERSION + component("x.sch", 0, 0)
     refused = answer((1, "x.sch:2: Nested"))
-    yield "a sheet that asks for itself", {"x.sch": itself.encode()}, "x.sch", refused
+    yield "a sheet that asks for itself", {"x.sch": itself.encode()}, ["x.sch"], refused
     broken = {**library, "x.sch": (itself + component("bad.sym", 0, 0) + "N 0\n").encode()}
-    yield "a sheet that is refused", broken, "x.sch", answer((1, "x.sch:4: FieldCount"))
+    yield "a sheet that is refused", broken, ["x.sch"], answer((1, "x.sch:4: FieldCount"))
     for what, objects, wanted in sheets():
-        yield what, {**library, "x.sch": (VERSION + objects).encode()}, "x.sch", answer(wanted)
+        yield what, {**library, "x.sch": (VERSION + objects).encode()}, ["x.sch"], answer(wanted)
+    for what, files, words, wanted in hierarchy_cases.folders():
+        files = {name: data.encode() for name, data in files.items()}
+        yield what, {**library, **files}, words, answer(wanted)

@@ -1,15 +1,15 @@
 #!/usr/bin/env python3
 """Compares `netlist` of the built program with the rules of docs/RULES.md, told again in
-project_rules.py: sheets with the symbols that lie beside them.
+project_rules.py: sheets with those below them, and the symbols that lie beside them.
 
 Usage:
-  projects.py [--seed S] [--count N] [PROGRAM]    N random sheets (1, 4000), ten in a folder
+  projects.py [--seed S] [--count N] [PROGRAM]    N random runs (1, 4000), ten in a folder
   projects.py --limits [PROGRAM]                  folders at the limits, of up to 64 MiB
   projects.py --folder FOLDER [PROGRAM]           each .sch of a folder
   projects.py --cases                             the rules told here on folders with known answers
 
 PROGRAM is out/gafd of the repository where none is named; the known answers come before the random
-sheets. Status, what goes out and the error line must be those told here. At the first difference
+runs. Status, what goes out and the error line must be those told here. At the first difference
 the folder is cut down to what matters, kept and printed, and the status is 1. With --cases no
 program is run.
 """
@@ -27,9 +27,10 @@ sys.dont_write_bytecode = True
 import compare
 from geda_files import Fault, read_sheet
 from project_cases import case_table
+from project_limits import limits
 from project_rules import answer_of
 from random_files import random_file
-from random_projects import limits, random_folder
+from random_projects import random_folder
 
 PROGRAM = pathlib.Path(__file__).resolve().parent.parent / "out" / "gafd"
 LONGEST = 60
@@ -44,11 +45,11 @@ def put(folder, files):
         path.write_bytes(data)
 
 
-def difference(program, folder, name, wanted):
-    """What differs from the wanted answer, for a sheet of a folder that has been made."""
+def difference(program, folder, words, wanted):
+    """What differs from the wanted answer, for words in a folder that has been made."""
     try:
-        words = [program, "netlist", name]
-        run = subprocess.run(words, cwd=folder, capture_output=True, timeout=LONGEST)
+        command = [program, "netlist", *words]
+        run = subprocess.run(command, cwd=folder, capture_output=True, timeout=LONGEST)
     except subprocess.TimeoutExpired:
         return f"no end within {LONGEST} seconds"
     got = run.returncode, run.stdout, run.stderr
@@ -61,17 +62,21 @@ def difference(program, folder, name, wanted):
     return f"line {line} is {was!r}, wanted {should!r}"
 
 
-def differs(program, files, name):
+def differs(program, files, words):
     with tempfile.TemporaryDirectory() as folder:
         put(folder, files)
-        return difference(program, folder, name, answer_of(files, name))
+        return difference(program, folder, words, answer_of(files, words))
 
 
-def shrunk(program, files, name):
-    """The files and the lines without which there is no difference."""
+def shrunk(program, files, words):
+    """The words, the files and the lines without which there is no difference."""
+    for word in list(words):
+        fewer = [other for other in words if other != word]
+        if differs(program, files, fewer):
+            words = fewer
     for other in list(files):
         fewer = {known: data for known, data in files.items() if known != other}
-        if other != name and differs(program, fewer, name):
+        if other not in words and differs(program, fewer, words):
             files = fewer
     for other in files:
         size = 64
@@ -79,80 +84,86 @@ def shrunk(program, files, name):
             lines, at = files[other].split(b"\n"), 0
             while at < len(lines):
                 less = {**files, other: b"\n".join(lines[:at] + lines[at + size :])}
-                if differs(program, less, name):
+                if differs(program, less, words):
                     files, lines = less, lines[:at] + lines[at + size :]
                 else:
                     at += size
             size //= 2
-    return files
+    return files, words
 
 
-def keep(program, what, files, name, said):
+def keep(program, what, files, words, said):
     """Prints a difference with the folder that is kept, and answers the status."""
     kept = pathlib.Path(tempfile.mkdtemp(prefix="gafd-differs-"))
-    print(f"{what}: {name}: {said}", flush=True)
+    told = " ".join(words) if len(words) < 100 else f"{len(words)} words"
+    print(f"{what}: netlist {told}: {said}", flush=True)
     if len(files) > 100 or sum(map(len, files.values())) > MOST_SHRUNK:
         put(kept, files)
         print(f"kept in {kept}")
         return 1
     put(kept / "whole", files)
-    less = shrunk(program, files, name)
+    less, words = shrunk(program, files, words)
     put(kept, less)
-    status, out, err = answer_of(less, name)
-    print(f"cut down: {differs(program, less, name)}\n")
-    print(less[name].decode(errors="replace") if name in less else "no such sheet")
+    status, out, err = answer_of(less, words)
+    print(f"cut down: netlist {' '.join(words)}: {differs(program, less, words)}\n")
+    for name, data in less.items():
+        print(f"{name}:\n{data.decode(errors='replace')}")
     print(f"wanted: status {status}\n{(out + err).decode()}")
     print(f"kept in {kept}: {', '.join(less)}; as it was drawn in {kept / 'whole'}")
     return 1
 
 
 def sort_of(answer):
-    """For the summary: how a sheet ends."""
-    status, _, err = answer
-    return {0: "net lists", 9: "not yet"}.get(status) or err.decode().split()[-1]
+    """For the summary: how a run ends; net lists by whether they have parts of sheets below."""
+    status, out, err = answer
+    if status != 0:
+        return err.decode().split()[-1]
+    parts = out.split(b"\nnets ")[0].split(b"\n")[1:]
+    are_below = any(b"/" in part.split(b"\t")[0] for part in parts)
+    return "net lists of several levels" if are_below else "net lists"
 
 
 def compare_folders(program, folders):
-    """Compares folders, each with what it shows and the names of its sheets."""
+    """Compares folders, each with what it shows and the words of its runs."""
     started, sorts = time.perf_counter(), collections.Counter()
-    for what, files, names in folders:
+    for what, files, runs in folders:
         with tempfile.TemporaryDirectory() as folder:
             put(folder, files)
-            for name in names:
-                wanted = answer_of(files, name)
-                if said := difference(program, folder, name, wanted):
-                    return keep(program, what, files, name, said)
+            for words in runs:
+                wanted = answer_of(files, words)
+                if said := difference(program, folder, words, wanted):
+                    return keep(program, what, files, words, said)
                 sorts[sort_of(wanted)] += 1
     told = ", ".join(f"{number} {sort}" for sort, number in sorts.most_common())
     seconds = time.perf_counter() - started
-    print(f"{sum(sorts.values())} sheets are the same: {told}; {seconds:.1f} s")
+    print(f"{sum(sorts.values())} runs are the same: {told}; {seconds:.1f} s")
     return 0
 
 
 def random_folders(seed, count):
-    for what, files, name, _ in case_table():
-        yield what, files, [name]
+    for what, files, words, _ in case_table():
+        yield what, files, [words]
     for number in range(0, count, 10):
-        files, names = random_folder(seed, number)
-        yield f"folder {number} of seed {seed}", files, names[: count - number]
+        files, runs = random_folder(seed, number)
+        yield f"folder {number} of seed {seed}", files, runs[: count - number]
 
 
 def limit_folders():
-    for what, files in limits():
+    for what, files, words in limits():
         print(what, flush=True)
-        yield what, files, ["x.sch"]
+        yield what, files, [words]
 
 
 def folder_of(top):
     files = {path.name: path.read_bytes() for path in pathlib.Path(top).iterdir() if path.is_file()}
-    return str(top), files, sorted(name for name in files if name.endswith(".sch"))
+    return str(top), files, [[name] for name in sorted(files) if name.endswith(".sch")]
 
 
 def self_test():
     """The rules told here, on folders with known answers, and on plain sheets as compare.py has
     them: what it has drawn, and what it tells of random files."""
     failed = 0
-    cases = [(what, answer_of(files, name), wanted) for what, files, name, wanted in case_table()]
+    cases = [(what, answer_of(files, words), wanted) for what, files, words, wanted in case_table()]
     known = len(cases)
     for number in range(500):
         drawing = compare.Drawing(random.Random(f"plain {number}"))

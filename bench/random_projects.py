@@ -1,14 +1,18 @@
-"""Random folders of sheets and symbols, in which much collides, and folders at the limits.
+"""Random folders of sheets and symbols, in which much collides.
 
-A folder is a dictionary from names of files to bytes.
+A folder is a dictionary from names of files to bytes. Its sheets stand in four levels, most of them
+over sheets of lower ones; labels of pins, refdes, and names are drawn from the same few words.
 """
 import random
 
 import compare
-from random_files import VERSION, damaged, texts_of_size
+from random_files import VERSION, damaged
 
 REFDES = ["R1", "R1", "R2", "R10", "U1", "U1", "U?", "R 3", "r\n1", "R/1", "é", "?", "R1\t"]
+REFDES += ["IN", "IN", "OUT", "U1/R1", "U1/U1", "U1/U1/R1"]
+LABELS = ["IN", "IN", "IN", "OUT", "OUT", "R1", "U1", "R 3", "U1/R1", "r\n1", "é"]
 NETNAMES = ["X", "Y", "GND", "Vcc", "a/b", "a/a", "/", "a/b/c", "N L", "N!L", "X\nY", "é"]
+NETNAMES += ["U1/X", "R1/X", "U1/U1/X"]
 NETNAMES += ["unnamed_net1", "unnamed_net1", "unnamed_net2", "unnamed_net3", "unnamed_net01"]
 NETNAMES += ["unconnected_pin-1", "unconnected_pin-2", "unconnected_pin-2", "unconnected_pin-4"]
 NETNAMES += ["x" * 210]
@@ -28,6 +32,8 @@ NUMSLOTS = ["2", "2", "4", "0", "0", "x", "1", "0003", "00003"]
 GRAPHICAL = ["1", "1", "1", "0", "01", "1 ", "1\n"]
 VALUES = ["10k", "a\tb", "a\nb", "Y Z", "é", "-"]
 PLAIN = ["refdes=", "=R7", "refdes =R7", "refdes= R7", "refdes", "Refdes=R7", "hello", "net= X:1"]
+NO_SHEETS = ["none.sch", "s3.sch,s4.sch", "S3.sch", "s3.sch ", "sub/s3.sch", "x.sym", "a.sym"]
+NO_SHEETS += [".hid.sym", "é.sym", "E_"] * 3 + ["bad.sym"]
 NAMES = ["a.sym", "b.sym", "c-1.sym", "-d+2.sym", "E_", "x" * 100]
 RARE_NAMES = ["bad.sym", "s0.sch", "box.sym"]
 NO_NAMES = [".hid.sym", "é.sym", "y" * 101, "none.sym", "A.sym", "sub/a.sym", "..", "EMBEDDE"]
@@ -36,8 +42,9 @@ NO_NAMES = [".hid.sym", "é.sym", "y" * 101, "none.sym", "A.sym", "sub/a.sym", "
 class File(compare.Drawing):
     """A file that is drawn: how often it has which attributes is drawn once."""
 
-    def __init__(self, rng):
-        self.rng = rng
+    def __init__(self, rng, labels=LABELS, below=()):
+        self.rng, self.labels, self.below = rng, labels, below
+        self.refdes = REFDES + labels * rng.choice([2, 8, 20])
         self.strays = rng.choice([0, 0, 0, 0.2])
         self.text = VERSION.decode()
         self.often = {
@@ -51,6 +58,8 @@ class File(compare.Drawing):
                 "graphical": [0, 0, 0.1],
                 "netname": [0, 0.1, 0.4],
                 "plain": [0, 0.1],
+                "label": [0, 0.6, 0.9, 1],
+                "source": [0, 0, 0.1, 0.3],
             }.items()
         }
         self.nets = rng.sample(NETS, rng.choice([1, 3, len(NETS)]))
@@ -65,7 +74,7 @@ class File(compare.Drawing):
 
     def attributes(self):
         """What components have attached, and symbols have free."""
-        found = self.some("refdes", REFDES, 2) + self.some("net", self.nets, 3)
+        found = self.some("refdes", self.refdes, 2) + self.some("net", self.nets, 3)
         if self.rng.random() < self.often["bad"]:
             found.append(f"net={self.rng.choice(BAD_NETS)}")
         if self.rng.random() < self.often["slot"]:
@@ -75,6 +84,7 @@ class File(compare.Drawing):
             found += self.some(name, VALUES)
         if self.rng.random() < self.often["plain"]:
             found.append(self.rng.choice(PLAIN))
+        found += self.some("source", [*self.below * 3, self.rng.choice(NO_SHEETS)], 2)
         self.rng.shuffle(found)
         return found
 
@@ -104,6 +114,9 @@ class File(compare.Drawing):
         found = [] if number is None else [f"pinnumber={number}"]
         found += [] if seq is None else [f"pinseq={seq}"]
         found += self.rng.choice([[], [], ["pinnumber=5"], ["net=X:1", "slot=2"], ["refdes=P"]])
+        if self.rng.random() < self.often["label"]:
+            found.append(f"pinlabel={self.rng.choice(self.labels)}")
+            found += self.rng.choice([[], [], [], [f"pinlabel={self.rng.choice(LABELS)}"]])
         self.block(found)
 
     def other(self):
@@ -132,9 +145,9 @@ class File(compare.Drawing):
         for it in draw:
             it(*([free.pop(0)] if it == self.content else []))
 
-    def component(self):
+    def component(self, attached=None):
         rng = self.rng
-        names = rng.choice([NAMES] * 17 + [NO_NAMES] * 2 + [RARE_NAMES])
+        names = rng.choice([NAMES] * 150 + [NO_NAMES] * 15 + [RARE_NAMES])
         (x, y), angle, mirror = self.point(), rng.choice([0, 90, 180, 270]), rng.choice([0, 0, 1])
         is_embedded = rng.random() < 0.3
         basename = ("EMBEDDED" if is_embedded else "") + rng.choice(names)
@@ -143,64 +156,70 @@ class File(compare.Drawing):
             self.line("[")
             self.symbol()
             self.line("]")
-        attached = self.attributes() + (["source=low.sch"] if rng.random() < 0.005 else [])
+        attached = self.attributes() if attached is None else attached
         self.block(attached + (self.slots() if rng.random() < 0.1 else []))
+
+    def composite(self):
+        """A component over a sheet; paths of several lengths often are equal."""
+        refdes = self.rng.choice(["U1", "U1", "U1", "U1/U1", "U1/U1", "U2", "R1", *self.labels])
+        self.component([f"refdes={refdes}", f"source={self.rng.choice(self.below)}"])
 
     def sheet(self):
         draw = [self.wire] * 4 + [self.component] * 4 + [self.other, self.pin]
+        draw += [self.composite] * self.rng.choice([0, 1, 1, 3]) if self.below else []
         for _ in range(self.rng.choice([0, 1, 2, 4, 8, 8, 12, 12, 20, 60])):
             self.rng.choice(draw)()
 
 
-def drawn(rng, what):
-    file = File(rng)
+def drawn(rng, what, *more):
+    file = File(rng, *more)
     getattr(file, what)()
     return file.text.encode()
 
 
-def random_folder(seed, number, sheets=10):
-    """A folder, and the names of its sheets."""
+LEVELS = [["s0.sch", "s1.sch", "s2.sch"], ["s3.sch", "s4.sch"], ["s5.sch", "s6.sch"], ["s7.sch"]]
+SHEETS = sum(LEVELS, [])
+
+
+def sheets_below(rng, level):
+    """The sheets that the sheets of a level may name: some of the next one, one of a lower one."""
+    lower = LEVELS[level + 1 :]
+    return rng.sample(lower[0], rng.randint(1, len(lower[0]))) + rng.choice(lower) if lower else []
+
+
+def drawn_words(rng):
+    """The words of a run: mostly one sheet or a few, most of them of the highest level."""
+    if rng.random() < 0.02:
+        return rng.choice([[], ["s0.sch", "none.sch"], ["s0.sch", "s1.sch", "s0.sch"], ["-s0.sch"]])
+    first = rng.sample(LEVELS[0], rng.choice([1, 1, 1, 1, 2, 3]))
+    other = rng.sample(SHEETS, rng.choice([0, 0, 0, 0, 0, 1, 1, 2, 5]))
+    words = list(dict.fromkeys(first + other))
+    rng.shuffle(words)
+    return words
+
+
+def random_folder(seed, number, runs=10):
+    """A folder, and the words of its runs."""
     rng = random.Random(f"{seed} {number}")
-    names = [f"s{place}.sch" for place in range(sheets)]
-    files = {name: drawn(rng, "sheet") for name in names}
+    have_loops, files = rng.random() < 0.15, {}
+    labels = rng.sample(LABELS, rng.choice([1, 2, 2, 4]))
+    for level, names in enumerate(LEVELS):
+        for name in names:
+            below = SHEETS if have_loops else sheets_below(rng, level)
+            files[name] = drawn(rng, "sheet", labels, below)
+    if rng.random() < 0.05:
+        name = rng.choice(SHEETS)
+        files[name] = damaged(rng, damaged(rng, files[name]))
     for name in NAMES + [".hid.sym", "é.sym", "y" * 101, "sub/a.sym"]:
         if rng.random() < 0.9:
-            files[name] = drawn(rng, "symbol")
+            below = SHEETS if have_loops else rng.sample(SHEETS[3:], 2)
+            files[name] = drawn(rng, "symbol", labels, below)
     files["bad.sym"] = damaged(rng, damaged(rng, drawn(rng, "symbol")))
+    files["EMBEDDEDa.sym"] = files["bad.sym"]
     for name, graphical in (("box.sym", 0), ("E_", 1)):
         if rng.random() < 0.2:
             source = File(rng)
-            source.content("source=low.sch")
+            source.content(f"source={rng.choice(SHEETS)}")
             source.content(f"graphical={graphical}")
             files[name] = source.text.encode()
-    return files, names
-
-
-def components(names, more=b""):
-    return VERSION + b"".join(b"C 0 0 1 0 0 %s\n" % name.encode() for name in names) + more
-
-
-def limits():
-    """Folders at the limits, by what they show; the sheet is x.sch."""
-    source = b"C 0 0 1 0 0 no.sym\n{\nT 0 0 5 10 1 1 0 0 1\nsource=a\n}\n"
-    many = [f"{number}.sym" for number in range(8_193)]
-    for count, more in [(8_192, b""), (8_193, b""), (8_193, source)]:
-        files = dict.fromkeys(many[:count], VERSION)
-        files["x.sch"] = components(many, more)
-        yield f"{count} symbols{', and a source' if more else ''}", files
-    files = {**dict.fromkeys(many, VERSION), "8192.sym": VERSION + b"N\n"}
-    yield "8193 symbols, the last one refused", {**files, "x.sch": components(many)}
-    full = texts_of_size(4_194_304)
-    names = [f"{number}.sym" for number in range(16)]
-    sheet = components(names)
-    rest = 4_194_304 - (len(sheet) - len(VERSION))
-    for size, more in [(rest, b""), (rest + 1, b""), (rest + 1, source)]:
-        files = dict.fromkeys(names, full)
-        files.update({"15.sym": texts_of_size(size), "x.sch": sheet + more})
-        yield f"a last symbol of {size} bytes{', and a source' if more else ''}", files
-    blank = texts_of_size(rest - 1).rstrip(b"\n") + b"\r" * 50 + b"\n\n"
-    yield "the same in more bytes than are counted", {**files, "15.sym": blank, "x.sch": sheet}
-    blocks = VERSION + b"N 0 0 1 0 4\n{\n}\n" * 200_000
-    yield "a symbol too large", {"x.sch": components(["a.sym"]), "a.sym": full + b"x"}
-    yield "a symbol of too many parts", {"x.sch": components(["a.sym"]), "a.sym": blocks}
-    yield "a folder in place of a symbol", {"x.sch": components(["a.sym"]), "a.sym/b": b""}
+    return files, [drawn_words(rng) for _ in range(runs)]
