@@ -17,8 +17,7 @@ import tempfile
 sys.dont_write_bytecode = True
 
 from part_shapes import board
-from parts import PROGRAM
-from projects import put
+from projects import PROGRAM, put
 from reading import measured
 from sheet_shapes import instances
 

@@ -23,10 +23,9 @@ sys.dont_write_bytecode = True
 import part_shapes
 import sheet_shapes
 from project_rules import answer_of
-from projects import put
+from projects import PROGRAM, put
 from reading import measured
 
-PROGRAM = pathlib.Path(__file__).resolve().parent.parent / "out" / "gafd"
 RUNS = 5
 SECONDS = 15
 LONGEST = 60
