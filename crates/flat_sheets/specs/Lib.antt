@@ -1,6 +1,7 @@
 pub mod Order
 pub mod Occurrences
 pub mod Ports
+pub mod LabelSets
 pub mod ListedParts
 pub mod Conductors
 pub mod steps

@@ -8,18 +8,19 @@ ghost use Rattle.flat_sheets.specs.steps.ObjectContents.{drawn_if, drawn_in, dra
 ghost use Rattle.flat_sheets.specs.steps.ObjectContents.{hidden_if, hidden_in, hidden_of_component};
 ghost use Rattle.flat_sheets.specs.steps.ObjectContents.{flat, object_in, part_if, parts_in};
 ghost use Rattle.flat_sheets.specs.steps.ObjectContents.{part_of_component};
-ghost use Rattle.flat_sheets.specs.steps.PortLabels.{AreLabelSets};
+ghost use Rattle.flat_sheets.specs.LabelSets.{AreLabelSets};
 
 use crate::conductors::FlatConductors;
 use crate::occurrence::Occurrence;
 use crate::package::{Package, package_under};
+use crate::ports::LabelSets;
 use crate::roles::{Role, role_of};
 use attr_rules::library_of;
 use geda_model::{Body, Object, Project};
 use hierarchy::Instance;
 use pin_place::pins_of;
 use std::alloc::{AllocError, Global};
-use std::collections::{BTreeSet, HashMap, HashSet};
+use std::collections::{BTreeSet, HashMap};
 
 fn instance_at(instances: &[Instance], place: usize) -> Option<&Instance>
     ensures { option_copied result ≡ slice_get instances.now place }
@@ -35,7 +36,7 @@ pub struct ProjectContents {
     /// What each listed component says of its package.
     pub parts: Vec<Package>,
     /// The labels of the components above, by id, as far as they were asked for.
-    pub labels: HashMap<u32, HashSet<String>>,
+    pub labels: LabelSets,
 }
 
 impl ProjectContents {

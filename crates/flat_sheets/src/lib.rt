@@ -16,5 +16,9 @@ mod roles;
 mod sheet_ids;
 mod texts;
 
+pub use occurrence::Occurrence;
+pub use order::occurrences;
 pub use package::Package;
+pub use ports::{LabelSets, is_port};
 pub use project::{FlatProject, flatten};
+pub use texts::line_under;

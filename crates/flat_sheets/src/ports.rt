@@ -3,7 +3,8 @@ ghost use Rattle.std.specs.Prelude.{◌≡◌, if◌then◌else◌, IfOk, None, 
 ghost use Rattle.std.specs.List.{filter_map, list_any};
 ghost use Rattle.std.specs.Str.{bytes_eq};
 ghost use Rattle.flat_sheets.specs.Ports.{component_above, is_port, labels_of, pins_at};
-ghost use Rattle.flat_sheets.specs.steps.PortLabels.{AddsLabel, AreLabelSets, HasLabels};
+ghost use Rattle.flat_sheets.specs.LabelSets.{AreLabelSets, HasLabels};
+ghost use Rattle.flat_sheets.specs.steps.PortLabels.{AddsLabel};
 
 use attr_rules::library_of;
 use geda_model::{Block, Project};
@@ -12,6 +13,9 @@ use link_classes::PortPins;
 use pin_place::{PlacedPin, pins_of};
 use std::alloc::{AllocError, Global};
 use std::collections::{HashMap, HashSet};
+
+/// The labels of the pins of components, by the id of the component, as far as they were asked for.
+pub type LabelSets = HashMap<u32, HashSet<String>>;
 
 fn component_above(instance: &Instance) -> Option<u32>
     ensures { result ≡ component_above instance.now }
@@ -54,7 +58,7 @@ fn labels_of(alloc: Global, project: &Project, id: u32) -> Result<HashSet<String
 fn has_label(
     alloc: Global,
     project: &Project,
-    known: &mut HashMap<u32, HashSet<String>>,
+    known: &mut LabelSets,
     id: u32,
     label: &str,
 ) -> Result<bool, AllocError>
@@ -77,7 +81,7 @@ fn has_label(
 pub fn is_port(
     alloc: Global,
     project: &Project,
-    known: &mut HashMap<u32, HashSet<String>>,
+    known: &mut LabelSets,
     instance: &Instance,
     refdes: &str,
 ) -> Result<bool, AllocError>

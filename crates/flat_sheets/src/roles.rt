@@ -4,17 +4,16 @@ ghost use Rattle.std.specs.Prelude.{None, Some, option_copied};
 ghost use Rattle.geda_model.specs.Names.{IsLineByte};
 ghost use Rattle.attr_rules.specs.Components.{has_sources};
 ghost use Rattle.flat_sheets.specs.ListedParts.{is_no_part, under};
-ghost use Rattle.flat_sheets.specs.steps.PortLabels.{AreLabelSets};
+ghost use Rattle.flat_sheets.specs.LabelSets.{AreLabelSets};
 ghost use Rattle.flat_sheets.specs.steps.ObjectContents.{role_in};
 
-use crate::ports::{is_port, pins_above};
+use crate::ports::{LabelSets, is_port, pins_above};
 use crate::texts::line_under;
 use attr_rules::{has_sources, is_graphical, refdes_of};
 use geda_model::{Line, Object, Project, Symbol};
 use hierarchy::Instance;
 use link_classes::PortPins;
 use std::alloc::{AllocError, Global};
-use std::collections::{HashMap, HashSet};
 use std::marker::Model;
 
 /// What a component is in an instance of its sheet.
@@ -68,7 +67,7 @@ fn printed_refdes(
 pub fn role_of(
     alloc: Global,
     project: &Project,
-    known: &mut HashMap<u32, HashSet<String>>,
+    known: &mut LabelSets,
     instance: &Instance,
     object: &Object,
     library: Option<&Symbol>,

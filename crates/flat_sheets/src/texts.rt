@@ -4,7 +4,8 @@ ghost use Rattle.std.specs.String.{string_bytes};
 ghost use Rattle.geda_model.specs.Names.{IsLineByte};
 ghost use Rattle.flat_sheets.specs.ListedParts.{under};
 
-use geda_model::{Block, Line, NameFault};
+use geda_model::{Block, Line};
+use hierarchy::line_of;
 use std::alloc::{AllocError, Global};
 
 fn text_under(alloc: Global, path: &str, text: &str) -> Result<String, AllocError>
@@ -16,17 +17,6 @@ fn text_under(alloc: Global, path: &str, text: &str) -> Result<String, AllocErro
     }
     made.push_str(text)?;
     Ok(made)
-}
-
-fn line_of(alloc: Global, text: &str) -> Result<Line, AllocError>
-    requires { All IsLineByte text.now }
-    ensures { IfOk result (λ line. line ≡ text.now) }
-{
-    match Line::new(alloc, text) {
-        Ok(line) => Ok(line),
-        Err(NameFault::NoMemory) => Err(AllocError),
-        Err(NameFault::NotAName) => unreachable!(),
-    }
 }
 
 /// A line as it prints in an instance with this path.

@@ -1,6 +1,6 @@
 -- The sheets of a project with the components that have sheets below them (gEDA master attribute
--- document, `source`; the rest is own). The place of a sheet is that among the names of the sheets in
--- order, counted from 0.
+-- document, `source`; the rest is own). The place of a sheet is that among the names of the sheets
+-- in order, counted from 0.
 use Rattle.std.specs.Prelude.{ℕ, ◌+◌, ◌==◌, Bool, false, not, if◌then◌else◌, List, [], Option, None, Some, codes, length, map, slice_index_or, sum_by}
 use Rattle.std.specs.List.{filter, filter_map, list_any, position, range_with_len}
 use Rattle.std.specs.Str.{bytes_eq}

@@ -1,13 +1,16 @@
 // Why a project has no hierarchy.
 use std::alloc::{AllocError, AllocFailed};
+use thiserror::Error;
 
 /// Why a project has no hierarchy.
-#[derive(Clone, Copy, Debug, PartialEq, Eq)]
+#[derive(Clone, Copy, Debug, PartialEq, Eq, Error)]
 pub enum ElabFault {
     /// There would be over 4,096 instances, a route of over 16 ids, or a sum over instances of
     /// weights of over 4,000,000.
+    #[error("too many instances")]
     TooManyInstances,
     /// Memory ran out.
+    #[error("out of memory")]
     NoMemory,
 }
 

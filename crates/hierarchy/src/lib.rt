@@ -23,3 +23,4 @@ pub use elaboration::{Hierarchy, elaborate, known_law, once_law, short_law, ways
 pub use fault::ElabFault;
 pub use instances::Instance;
 pub use lost::Lost;
+pub use texts::line_of;

@@ -1,4 +1,5 @@
--- Ways of which each follows the one before it, and the places of the ways above the last one (own).
+-- Ways of which each follows the one before it, and the places of the ways above the last one
+-- (own).
 use Rattle.std.specs.Prelude.{◌≡◌, ◌==◌, ◌+◌, ◌-◌, ◌<◌, ◌⊎◌, ℕ, if◌then◌else◌, List, [], ◌∷◌, ◌++◌, Option, None, drop, length, slice_index_or}
 use Rattle.std.specs.List.{slice_get}
 use Rattle.hierarchy.specs.declared.way.Step.{Step}

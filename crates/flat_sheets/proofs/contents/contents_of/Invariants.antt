@@ -1,6 +1,6 @@
 use Rattle.std.proofs.Common.{◌≡◌, ◌++◌}
 use Rattle.flat_sheets.specs.steps.ObjectContents.{drawn_in, hidden_in, parts_in}
-use Rattle.flat_sheets.specs.steps.PortLabels.{AreLabelSets}
+use Rattle.flat_sheets.specs.LabelSets.{AreLabelSets}
 use Rattle.flat_sheets.proofs.contents.contents_of.Given as goal
 
 abbrev pub invariant-loop-occurrence : goal.invariant-loop-occurrence
