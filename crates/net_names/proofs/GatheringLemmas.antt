@@ -1,6 +1,6 @@
 -- A class that takes in the conductors of one label becomes the class of that label, with the least
 -- of its names alone.
-use Rattle.std.proofs.Common.{◌≡◌, ℕ, ◌+◌, ◌==◌, ◌&&◌, ◌||◌, ◌<◌, false, cond, List, [], ◌∷◌, Option, Some, None, Ordering, length, get_or, set, drop, filter, filter_map, flat_map, fold, refl, sym, ap, ◌∙◌, arith, inl, inr}
+use Rattle.std.proofs.Common.{◌≡◌, ℕ, ◌+◌, ◌==◌, ◌&&◌, ◌||◌, ◌<◌, false, cond, List, [], ◌∷◌, ◌++◌, Option, Some, None, Ordering, length, get_or, set, drop, filter, filter_map, flat_map, fold, refl, sym, ap, ◌∙◌, arith, inl, inr}
 use Rattle.std.specs.declared.cmp.Ordering.TheVariants.{Less, Equal, Greater}
 use Rattle.std.specs.List.{list_any}
 use Rattle.std.specs.Ordering.{match_ordering}
@@ -8,12 +8,12 @@ use Rattle.std.specs.BTreeSet.{insert_key}
 use Rattle.std.specs.Prelude.{slice_get}
 use Rattle.std.proofs.Math.Bool.{or_assoc, or-false}
 use Rattle.std.proofs.lemmas.Bool.{cases_eq, eq-eqb, ne_eqb}
-use Rattle.std.proofs.lemmas.List.{drop_more, get_or-set_same, get_or-set_other, length-set}
+use Rattle.std.proofs.lemmas.List.{append-nil, append_assoc, drop_more, get_or-set_same, get_or-set_other, length-set}
 use Rattle.std.proofs.lemmas.List.Sums.{fold-append}
 use Rattle.link_classes.specs.declared.conductors.FlatConductor.{FlatConductor}
 use Rattle.link_classes.specs.Links.{names_of}
 use Rattle.flat_sheets.specs.Order.{once_in_order}
-use Rattle.net_names.specs.NetClasses.{Labelled, labelled_from, ClassPinData, class_pin_of, by_member, NetClassData, is_drawn_pin, is_single_pin, has_global_name, net_class}
+use Rattle.net_names.specs.NetClasses.{Labelled, labelled_from, ClassPinData, class_pin_of, NetClassData, is_drawn_pin, is_single_pin, has_global_name, net_class}
 use Rattle.net_names.specs.NetLists.{by_name}
 use Rattle.net_names.specs.steps.Gathering.{GrowingClassData, empty_class, with_pin, lesser, with_conductor, joined_at, gathered_from, one_or_none, as_net_class}
 
@@ -42,14 +42,14 @@ grown g [] = g
 grown g (l ∷ ls) = grown (with_labelled g l) ls
 
 pins_with : (pins : List ClassPinData) (o : Option ClassPinData) (h : Labelled → Option ClassPinData) (ls : List Labelled) (l : Labelled) → h l ≡ o
-    → fold (insert_key by_member) (with_pin pins o) (filter_map h ls) ≡ fold (insert_key by_member) pins (filter_map h (l ∷ ls))
+    → with_pin pins o ++ filter_map h ls ≡ pins ++ filter_map h (l ∷ ls)
 pins_with pins None h ls l e = rw e refl
-pins_with pins (Some pin) h ls l e = rw e refl
+pins_with pins (Some pin) h ls l e = rw e (append_assoc pins (pin ∷ []) (filter_map h ls))
 
--- its pins are each once and in order
+-- its pins are those of all, as they come
 pub grown_pins : (g : GrowingClassData) (ls : List Labelled)
-    → (grown g ls).pins ≡ fold (insert_key by_member) g.pins (filter_map class_pin_of ls)
-grown_pins g [] = refl
+    → (grown g ls).pins ≡ g.pins ++ filter_map class_pin_of ls
+grown_pins g [] = sym (append-nil g.pins)
 grown_pins g (l ∷ ls) = grown_pins (with_labelled g l) ls ∙ pins_with g.pins (class_pin_of l) class_pin_of ls l refl
 
 -- from the second conductor on it is no single pin

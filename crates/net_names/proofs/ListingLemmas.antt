@@ -4,8 +4,7 @@ use Rattle.std.specs.Prelude.{slice_get, is_some}
 use Rattle.std.specs.declared.cmp.Ordering.TheVariants.{Less, Equal, Greater}
 use Rattle.std.specs.List.{range_with_len}
 use Rattle.std.specs.Ordering.{match_ordering, on}
-use Rattle.std.specs.BTreeSet.{insert_key}
-use Rattle.std.proofs.lemmas.List.{length-map, get_or-map, length-replicate, get_or-replicate}
+use Rattle.std.proofs.lemmas.List.{append-nil, append_assoc, length-map, get_or-map, length-replicate, get_or-replicate}
 use Rattle.std.proofs.lemmas.Bool.{ne_eqb}
 use Rattle.std.proofs.lemmas.List.FromFn.{fill_by_all}
 use Rattle.link_classes.specs.declared.conductors.FlatConductor.{FlatConductor}
@@ -96,16 +95,16 @@ nameless_same c e = by c.names refl
         ∙ sym (ap (λ (names : List (List ℕ)). record { pins = c.pins; names = names; global = c.global; is_single_pin = c.is_single_pin }) f)
     by (name ∷ names) f = absurd (let g : true ≡ false = sym (has_first name names) ∙ sym (ap (λ (xs : List (List ℕ)). not (length xs == 0)) f) ∙ e in cc)
 
--- nets put in order one by one are those of the classes that have members and a name, in order
+-- nets put in one by one are those of the classes that have members and a name
 with_nets : (ks : List Net) (cs : List NetClassData)
-    → fold with_named ks (map with_least cs) ≡ fold (insert_key by_net_name) ks (map named_net (filter is_named (filter has_pins cs)))
-with_nets ks [] = refl
+    → fold with_named ks (map with_least cs) ≡ ks ++ map named_net (filter is_named (filter has_pins cs))
+with_nets ks [] = sym (append-nil ks)
 with_nets ks (c ∷ cs) = with_nets (with_named ks (with_least c)) cs ∙ by (has_pins c) (is_named c) refl
   where
     by : (a b : Bool) → is_named c ≡ b
-        → fold (insert_key by_net_name) (cond (a && is_named (with_least c)) (insert_key by_net_name ks (named_net (with_least c))) ks) (map named_net (filter is_named (filter has_pins cs)))
-        ≡ fold (insert_key by_net_name) ks (map named_net (filter is_named (cond a (c ∷ filter has_pins cs) (filter has_pins cs))))
-    by true true e = rw (named_same c, e, net_same c) refl
+        → cond (a && is_named (with_least c)) (ks ++ named_net (with_least c) ∷ []) ks ++ map named_net (filter is_named (filter has_pins cs))
+        ≡ ks ++ map named_net (filter is_named (cond a (c ∷ filter has_pins cs) (filter has_pins cs)))
+    by true true e = rw (named_same c, e, net_same c) (append_assoc ks (named_net c ∷ []) (map named_net (filter is_named (filter has_pins cs))))
     by true false e = rw (named_same c, e) refl
     by false b e = refl
 
@@ -119,18 +118,18 @@ unnamed_test c e = rw e refl
 unconnected_test : NamelessTest is_unconnected
 unconnected_test c e = rw e refl
 
--- classes put in order one by one are those that have members and pass, in order
+-- classes put in one by one are those that have members and pass
 with_classes : (test : NetClassData → Bool) → NamelessTest test → (ks cs : List NetClassData)
-    → fold (with_class test) ks (map with_least cs) ≡ fold (insert_key by_least_pin) ks (filter test (filter has_pins cs))
-with_classes test nameless ks [] = refl
+    → fold (with_class test) ks (map with_least cs) ≡ ks ++ filter test (filter has_pins cs)
+with_classes test nameless ks [] = sym (append-nil ks)
 with_classes test nameless ks (c ∷ cs) = with_classes test nameless (with_class test ks (with_least c)) cs ∙ by (has_pins c) (is_named c) (test c) refl refl
   where
     by : (a b d : Bool) → is_named c ≡ b → test c ≡ d
-        → fold (insert_key by_least_pin) (cond (a && test (with_least c)) (insert_key by_least_pin ks (with_least c)) ks) (filter test (filter has_pins cs))
-        ≡ fold (insert_key by_least_pin) ks (filter test (cond a (c ∷ filter has_pins cs) (filter has_pins cs)))
+        → cond (a && test (with_least c)) (ks ++ with_least c ∷ []) ks ++ filter test (filter has_pins cs)
+        ≡ ks ++ filter test (cond a (c ∷ filter has_pins cs) (filter has_pins cs))
     by false b d e f = refl
     by true true d e f = rw (nameless (with_least c) (named_same c ∙ e), nameless c e) refl
-    by true false true e f = rw (nameless_same c e, f) refl
+    by true false true e f = rw (nameless_same c e, f) (append_assoc ks (c ∷ []) (filter test (filter has_pins cs)))
     by true false false e f = rw (nameless_same c e, f) refl
 
 -- numbers as they are given one by one are those of the definition
@@ -183,9 +182,9 @@ nets_by_steps conductors labels growing taken taken_alone named unnamed unconnec
     let used = flat_map names_of conductors in
     let cs = map (net_class_of (labelled_from 0 conductors labels)) (range_with_len 0 (length conductors)) in
     let least : map as_net_class growing ≡ map with_least cs = ap (map as_net_class) same ∙ gathered_classes conductors labels len in
-    let nets_named = n ∙ ap (fold with_named []) least ∙ with_nets [] cs in
-    let classes_unnamed = u ∙ ap (fold (with_class is_unnamed) []) least ∙ with_classes is_unnamed unnamed_test [] cs in
-    let classes_alone = v ∙ ap (fold (with_class is_unconnected) []) least ∙ with_classes is_unconnected unconnected_test [] cs in
+    let nets_named = n ∙ ap (λ (xs : List NetClassData). once_in_order by_net_name (fold with_named [] xs)) least ∙ ap (once_in_order by_net_name) (with_nets [] cs) in
+    let classes_unnamed = u ∙ ap (λ (xs : List NetClassData). once_in_order by_least_pin (fold (with_class is_unnamed) [] xs)) least ∙ ap (once_in_order by_least_pin) (with_classes is_unnamed unnamed_test [] cs) in
+    let classes_alone = v ∙ ap (λ (xs : List NetClassData). once_in_order by_least_pin (fold (with_class is_unconnected) [] xs)) least ∙ ap (once_in_order by_least_pin) (with_classes is_unconnected unconnected_test [] cs) in
     let with_unnamed = numbers_grow (codes "unnamed_net") sorts.Unnamed used taken unnamed (filter is_unnamed (filter has_pins cs)) named nets t classes_unnamed first in
     let with_alone = numbers_grow (codes "unconnected_pin-") sorts.Unconnected used taken_alone unconnected (filter is_unconnected (filter has_pins cs)) nets all a classes_alone second in
     in_parts (filter has_pins cs) used named nets all nets_named with_unnamed with_alone

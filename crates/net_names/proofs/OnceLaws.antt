@@ -1,14 +1,17 @@
 -- What `once_in_order` gives, in a total order.
 use Rattle.std.proofs.Common.{◌≡◌, Bool, true, false, cond, List, [], ◌∷◌, Option, Some, None, Ordering, fold, refl, sym, ap, ◌∙◌}
-use Rattle.std.specs.Prelude.{IsSome}
+use Rattle.std.specs.Prelude.{IsSome, not, ◌&&◌, filter, slice_get}
 use Rattle.std.specs.declared.cmp.Ordering.TheVariants.{Less, Equal, Greater}
-use Rattle.std.specs.Ordering.{is_eq, match_ordering, ordering_reverse}
+use Rattle.std.specs.Ordering.{eq_by_cmp, is_eq, is_lt, match_ordering, ordering_reverse}
 use Rattle.std.specs.Option.{option_or}
-use Rattle.std.specs.List.{find, AllByRecursion}
-use Rattle.std.specs.List.Sorted.{IsStrictlySortedBy}
+use Rattle.std.specs.List.{find, AllByRecursion, dedup, dedup_from}
+use Rattle.std.specs.List.Retain.{IsFiltered, DiffersFromLast}
+use Rattle.std.specs.List.Sorted.{IsStrictlySortedBy, IsSorted, IsStable, ties}
 use Rattle.std.specs.Cmp.{IsTotalOrder, tied_itself}
 use Rattle.std.specs.BTreeSet.{insert_key}
 use Rattle.std.proofs.lemmas.List.Elements.{All-from_recursion}
+use Rattle.std.proofs.lemmas.List.Filters.{dedup_is}
+use Rattle.std.proofs.lemmas.List.Kept.{IsStrictlySortedBy-dedup}
 use Rattle.flat_sheets.specs.Order.{once_in_order, is_equal, IsOnceInOrder}
 
 pub option_or-none : {A : Type 0} (a : Option A) → option_or a None ≡ a
@@ -146,3 +149,118 @@ module _ {K : Type 0} {cmp : K → K → Ordering} (o : IsTotalOrder cmp) where
         each = All-from_recursion (λ x. IsSome (find (is_equal cmp x) listed)) xs (moved (λ x h. rw (find_once x xs) h) xs (each_found xs));
         first = All-from_recursion (λ y. find (is_equal cmp y) xs ≡ Some y) listed (moved (λ y h. sym (find_once y xs) ∙ h) listed (each_first listed up));
       }
+
+  -- nothing above a key equals it
+  none_above : (q : K) (xs : List K) → AllByRecursion (λ y. cmp q y ≡ Less) xs → find (is_equal cmp q) xs ≡ None
+  none_above q [] a = refl
+  none_above q (x ∷ xs) a = rw a.0 (none_above q xs a.1)
+
+  found_first : (q : K) (xs : List K) → find (is_equal cmp q) (q ∷ xs) ≡ Some q
+  found_first q xs = rw (tied_itself o q) refl
+
+  -- the first of a list is found in no list that begins above it
+  not_below : (x y : K) (xs ys : List K) → cmp x y ≡ Less → Ascends (y ∷ ys) → find (is_equal cmp x) (x ∷ xs) ≡ find (is_equal cmp x) (y ∷ ys) → ⊥
+  not_below x y xs ys e s f =
+      let none = none_above x (y ∷ ys) (e, below_all x y ys e s.0) in
+      let g : Some x ≡ None = sym (found_first x xs) ∙ f ∙ none in
+      cc
+
+  -- what is found behind the first key is found in the whole list, but for what equals that key
+  past_first : (q x : K) (xs : List K) → AllByRecursion (λ y. cmp x y ≡ Less) xs → (r : Ordering) → cmp q x ≡ r
+      → find (is_equal cmp q) xs ≡ cond (is_eq (cmp q x)) None (find (is_equal cmp q) (x ∷ xs))
+  past_first q x xs a Equal e = rw e (none_equal q x xs e a)
+  past_first q x xs a Less e = rw e refl
+  past_first q x xs a Greater e = rw e refl
+
+  -- two rising lists in which the same keys are found are one list
+  ascends_same : (xs ys : List K) → Ascends xs → Ascends ys → ((q : K) → find (is_equal cmp q) xs ≡ find (is_equal cmp q) ys) → xs ≡ ys
+  ascends_same [] [] s t h = refl
+  ascends_same [] (y ∷ ys) s t h = absurd (let e : None ≡ Some y = h y ∙ found_first y ys in cc)
+  ascends_same (x ∷ xs) [] s t h = absurd (let e : Some x ≡ None = sym (found_first x xs) ∙ h x in cc)
+  ascends_same (x ∷ xs) (y ∷ ys) s t h = by (cmp x y) refl (ascends_same xs ys s.1 t.1)
+    where
+      by : (r : Ordering) → cmp x y ≡ r → (((q : K) → find (is_equal cmp q) xs ≡ find (is_equal cmp q) ys) → xs ≡ ys) → x ∷ xs ≡ y ∷ ys
+      by Less e rest = absurd (not_below x y xs ys e t (h x))
+      by Greater e rest = absurd (not_below y x ys xs (above y x e) s (sym (h y)))
+      by Equal e rest =
+          let found : find (is_equal cmp x) (y ∷ ys) ≡ Some y = rw e refl in
+          let both : Some x ≡ Some y = sym (found_first x xs) ∙ h x ∙ found in
+          let one : x ≡ y = cc in
+          let later : (q : K) → find (is_equal cmp q) xs ≡ find (is_equal cmp q) ys = λ q.
+          past_first q x xs s.0 (cmp q x) refl
+          ∙ ap (λ (f : Option K). cond (is_eq (cmp q x)) None f) (h q)
+          ∙ ap (λ (z : K). cond (is_eq (cmp q z)) None (find (is_equal cmp q) (y ∷ ys))) one
+          ∙ sym (past_first q y ys t.0 (cmp q y) refl) in
+          ap (λ (z : K). z ∷ xs) one ∙ ap (λ (zs : List K). y ∷ zs) (rest later)
+
+  -- two equal keys compare alike
+  same_side : (q x k : K) → cmp x k ≡ Equal → cmp q x ≡ cmp q k
+  same_side q x k e = o.antisymm q x ∙ ap ordering_reverse (o.congr x k q e) ∙ sym (o.antisymm q k)
+
+  -- a key that equals the one before it is not the first to be found
+  passed_by : (q k x : K) (f : Option K) (r : Ordering) → cmp q k ≡ r → cmp q x ≡ r
+      → cond (is_eq (cmp q k)) (Some k) f ≡ cond (is_eq (cmp q k)) (Some k) (cond (is_eq (cmp q x)) (Some x) f)
+  passed_by q k x f Less e g = rw (e, g) refl
+  passed_by q k x f Equal e g = rw e refl
+  passed_by q k x f Greater e g = rw (e, g) refl
+
+  find_dedup_from : (q k : K) (xs : List K) → find (is_equal cmp q) (dedup_from (eq_by_cmp cmp) k xs) ≡ find (is_equal cmp q) (k ∷ xs)
+  find_dedup_from q k [] = refl
+  find_dedup_from q k (x ∷ xs) = by (cmp x k) refl (find_dedup_from q k xs) (find_dedup_from q x xs)
+    where
+      by : (r : Ordering) → cmp x k ≡ r
+          → find (is_equal cmp q) (dedup_from (eq_by_cmp cmp) k xs) ≡ find (is_equal cmp q) (k ∷ xs)
+          → find (is_equal cmp q) (dedup_from (eq_by_cmp cmp) x xs) ≡ find (is_equal cmp q) (x ∷ xs)
+          → find (is_equal cmp q) (cond (is_eq r) (dedup_from (eq_by_cmp cmp) k xs) (k ∷ dedup_from (eq_by_cmp cmp) x xs)) ≡ find (is_equal cmp q) (k ∷ x ∷ xs)
+      by Less e g h = ap (λ (f : Option K). cond (is_eq (cmp q k)) (Some k) f) h
+      by Greater e g h = ap (λ (f : Option K). cond (is_eq (cmp q k)) (Some k) f) h
+      by Equal e g h = g ∙ passed_by q k x (find (is_equal cmp q) xs) (cmp q k) refl (same_side q x k e)
+
+  find_dedup : (q : K) (xs : List K) → find (is_equal cmp q) (dedup (eq_by_cmp cmp) xs) ≡ find (is_equal cmp q) xs
+  find_dedup q [] = refl
+  find_dedup q (x ∷ xs) = find_dedup_from q x xs
+
+  -- to tie with a key is to equal it
+  tie_equal : (q y : K) → ties (λ (a b : K). is_lt (cmp a b)) q y ≡ is_equal cmp q y
+  tie_equal q y = ap (λ (r : Ordering). not (is_lt (cmp q y)) && not (is_lt r)) (o.antisymm y q) ∙ by (cmp q y)
+    where
+      by : (r : Ordering) → (not (is_lt r) && not (is_lt (ordering_reverse r))) ≡ is_eq r
+      by Less = refl
+      by Equal = refl
+      by Greater = refl
+
+  -- what is found is the first of what ties
+  find_tied : (q : K) (xs : List K) → find (is_equal cmp q) xs ≡ slice_get (filter (ties (λ (a b : K). is_lt (cmp a b)) q) xs) 0
+  find_tied q [] = refl
+  find_tied q (x ∷ xs) = by (is_equal cmp q x) _ (tie_equal q x) _ _ (find_tied q xs)
+    where
+      by : (b d : Bool) → d ≡ b → (f : Option K) (ks : List K) → f ≡ slice_get ks 0 → cond b (Some x) f ≡ slice_get (cond d (x ∷ ks) ks) 0
+      by true d e f ks h = rw e refl
+      by false d e f ks h = rw e h
+
+  rises : (xs : List K) → IsStrictlySortedBy cmp xs → Ascends xs
+  unfolding IsStrictlySortedBy
+  rises [] s = tt
+  rises (x ∷ xs) s = (s.0, rises xs s.1)
+
+  same_dedup_from : (same : K → K → Bool) → ((x y : K) → same x y ≡ eq_by_cmp cmp x y) → (k : K) (xs : List K) → dedup_from same k xs ≡ dedup_from (eq_by_cmp cmp) k xs
+  same_dedup_from same agree k [] = refl
+  same_dedup_from same agree k (x ∷ xs) = rw (agree x k, same_dedup_from same agree k xs, same_dedup_from same agree x xs) refl
+
+  same_dedup : (same : K → K → Bool) → ((x y : K) → same x y ≡ eq_by_cmp cmp x y) → (xs : List K) → dedup same xs ≡ dedup (eq_by_cmp cmp) xs
+  same_dedup same agree [] = refl
+  same_dedup same agree (x ∷ xs) = same_dedup_from same agree x xs
+
+  -- a list that is sorted stably, of which equals after the first are left out
+  pub once_from_sort : (same : K → K → Bool) → ((x y : K) → same x y ≡ eq_by_cmp cmp x y)
+      → (xs ys zs : List K) → IsSorted cmp ys → IsStable cmp xs ys → IsFiltered (DiffersFromLast same) [] ys zs → zs ≡ once_in_order cmp xs
+  once_from_sort same agree xs ys zs sorted stable left =
+      let once = dedup (eq_by_cmp cmp) ys in
+      let first : (q : K) → find (is_equal cmp q) ys ≡ find (is_equal cmp q) xs = λ q.
+      find_tied q ys ∙ ap (λ (ks : List K). slice_get ks 0) (stable q) ∙ sym (find_tied q xs) in
+      dedup_is same ys zs left
+      ∙ same_dedup same agree ys
+      ∙ ascends_same once (once_in_order cmp xs)
+      (rises once (IsStrictlySortedBy-dedup o (λ _ _. refl) ys sorted))
+      (ascends_fold [] xs tt)
+      (λ q. find_dedup q ys ∙ first q ∙ sym (find_once q xs))

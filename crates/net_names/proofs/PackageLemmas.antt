@@ -2,7 +2,7 @@
 use Rattle.std.proofs.Common.{◌≡◌, ℕ, Bool, true, false, cond, List, [], ◌∷◌, Option, Some, None, refl, sym, ap, ◌∙◌}
 use Rattle.std.specs.Prelude.{map, T, ◌&&◌}
 use Rattle.std.specs.declared.cmp.Ordering.TheVariants.{Less, Equal}
-use Rattle.std.specs.BTreeMap.{IsOrdered, Updates, is_at}
+use Rattle.std.specs.BTreeMap.{IsOrdered, is_at}
 use Rattle.std.specs.Cmp.{tied_itself}
 use Rattle.std.specs.FinMap.Entries as table
 use Rattle.std.specs.List.{AllByRecursion, cons_option, filter_map, find, slice_get}
@@ -18,7 +18,7 @@ use Rattle.net_names.specs.declared.packages.PackageAttributes.{PackageAttribute
 use Rattle.flat_sheets.specs.Order.{by_bytes, is_equal, once_in_order}
 use Rattle.net_names.specs.Packages.{attr_in_package, package_attr, package_of, packages_by}
 use Rattle.net_names.specs.steps.Orders.{by_bytes_total}
-use Rattle.net_names.specs.steps.PackageRows.{AreRowsOf, PackageRows, TakesIn, no_attributes, package_of_row, row_after, row_and_part, row_at, row_with, with_attributes_of}
+use Rattle.net_names.specs.steps.PackageRows.{AreRowsOf, PackageRows, no_attributes, package_of_row, row_after, row_and_part, row_at, row_with, with_attributes_of}
 use Rattle.net_names.proofs.OnceLaws.{find_once, is_once_in_order, option_or-assoc, option_or-none}
 
 -- ---- one part
@@ -41,20 +41,31 @@ equal_false a b e = is_eq-slice_cmp b a ∙ refuted (bytes_eq b a) (λ h.
 equal_true : (a b : List ℕ) → bytes_eq a b ≡ true → is_equal by_bytes b a ≡ true
 equal_true a b e = rw (same_bytes a b e, tied_itself by_bytes_total b) refl
 
--- a row is taken out, taken further and put back
-pub takes_in : (part : Package) (old mid new : PackageRows) (row : Option PackageAttributes) (made : PackageAttributes)
-    → row ≡ row_at old part.refdes → made ≡ row_and_part part row
-    → Updates by_bytes old mid part.refdes None → Updates by_bytes mid new part.refdes (Some made) → TakesIn part old new
-takes_in part old mid new row made is is_made out back q = by (bytes_eq part.refdes q) refl
+-- attributes are those that are known and those of a part, where each one is
+pub made_of : (made known : PackageAttributes) (part : Package)
+    → made.device ≡ option_or known.device part.device → made.value ≡ option_or known.value part.value → made.footprint ≡ option_or known.footprint part.footprint
+    → made ≡ with_attributes_of part known
+made_of made known part d v f =
+    let first = ap (λ (x : Option (List ℕ)). record { device = x; value = made.value; footprint = made.footprint }) d in
+    let second = ap (λ (x : Option (List ℕ)). record { device = option_or known.device part.device; value = x; footprint = made.footprint }) v in
+    let third = ap (λ (x : Option (List ℕ)). record { device = option_or known.device part.device; value = option_or known.value part.value; footprint = x }) f in
+    let all : made ≡ with_attributes_of part known = first ∙ second ∙ third in
+    all
+
+-- a row is taken further
+pub takes_in : (part : Package) (old : PackageRows) (made : PackageAttributes) (q : List ℕ) (now : Option PackageAttributes)
+    → made ≡ row_and_part part (row_at old part.refdes) → now ≡ cond (is_at (by_bytes part.refdes) q) (Some made) (row_at old q)
+    → now ≡ row_with q part (row_at old q)
+takes_in part old made q now is_made put = put ∙ by (bytes_eq part.refdes q) refl
   where
     by : (b : Bool) → bytes_eq part.refdes q ≡ b
-        → row_at new q ≡ cond b (Some (row_and_part part (row_at old q))) (row_at old q)
+        → cond (is_at (by_bytes part.refdes) q) (Some made) (row_at old q) ≡ cond b (Some (row_and_part part (row_at old q))) (row_at old q)
     by true e =
         let hit : is_at (by_bytes part.refdes) q ≡ true = is_eq-slice_cmp part.refdes q ∙ e in
-        back.0 q ∙ rw (hit, is_made, is, same_bytes part.refdes q e) refl
+        rw (hit, is_made, same_bytes part.refdes q e) refl
     by false e =
         let miss : is_at (by_bytes part.refdes) q ≡ false = is_eq-slice_cmp part.refdes q ∙ e in
-        back.0 q ∙ rw miss (out.0 q ∙ rw miss refl)
+        rw miss refl
 
 -- ---- all parts
 

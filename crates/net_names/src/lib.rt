@@ -12,7 +12,9 @@ mod net_classes;
 mod net_list;
 mod nets;
 mod numbering;
+mod once;
 mod packages;
+mod taken;
 
 pub use flat_sheets::Package;
 pub use laws::{each_stands_once, one_net_list};

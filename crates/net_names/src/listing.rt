@@ -7,7 +7,7 @@ use crate::gathering::gathered;
 use crate::named::listed;
 use crate::net_classes::{NetClasses, in_order};
 use crate::nets::{NetList, NetSort};
-use crate::numbering::{number_classes, taken_names};
+use crate::numbering::number_classes;
 use geda_model::Items;
 use link_classes::FlatConductor;
 use std::alloc::{AllocError, Global};
@@ -25,9 +25,7 @@ pub fn nets_by(
     requires in_range { ArePlaces labels.now (length conductors.items) }
     ensures { IfOk result (λ nets. nets ≡ nets_by conductors.items labels.now) }
 {
-    let taken_unnamed = taken_names(alloc, conductors.as_slice(), "unnamed_net")?;
-    let taken_unconnected = taken_names(alloc, conductors.as_slice(), "unconnected_pin-")?;
-    let growing = gathered(alloc, conductors, labels)?;
+    let (growing, taken) = gathered(alloc, conductors, labels)?;
     let NetClasses {
         named,
         unnamed,
@@ -40,7 +38,7 @@ pub fn nets_by(
         "unnamed_net",
         NetSort::Unnamed,
         unnamed,
-        taken_unnamed,
+        taken.unnamed,
     )?;
     number_classes(
         alloc,
@@ -48,7 +46,7 @@ pub fn nets_by(
         "unconnected_pin-",
         NetSort::Unconnected,
         unconnected,
-        taken_unconnected,
+        taken.unconnected,
     )?;
     Ok(Items::from_vec(nets))
 }

@@ -8,13 +8,12 @@ use crate::nets::{Members, Net, NetSort};
 use geda_model::{Block, Items};
 use std::alloc::{AllocError, Global};
 use std::cmp::Ordering;
-use std::collections::BTreeSet;
 use std::marker::Model;
 
-fn members(alloc: Global, pins: BTreeSet<ClassPin>) -> Result<Members, AllocError>
-    ensures { IfOk result (λ members. members ≡ map (λ p. p.member) pins.keys) }
+fn members(alloc: Global, pins: Vec<ClassPin>) -> Result<Members, AllocError>
+    ensures { IfOk result (λ members. members ≡ map (λ p. p.member) pins.items) }
 {
-    let mut members = Vec::new(alloc);
+    let mut members = Vec::with_capacity(alloc, pins.len())?;
     for pin in pins {
         let ClassPin { member, .. } = pin;
         members.push(member)?;
@@ -105,9 +104,9 @@ impl Ord for NamedNet {
     }
 }
 
-/// Nets in order of their names, as a list.
-pub fn listed(alloc: Global, named: BTreeSet<NamedNet>) -> Result<Vec<Net>, AllocError>
-    ensures { IfOk result (λ nets. nets.items ≡ named.keys) }
+/// Nets that stand in order of their names, as they print.
+pub fn listed(alloc: Global, named: Vec<NamedNet>) -> Result<Vec<Net>, AllocError>
+    ensures { IfOk result (λ nets. nets.items ≡ named.items) }
 {
     let mut nets = Vec::new(alloc);
     for named in named {

@@ -11,17 +11,17 @@ use crate::gathering::GrowingClass;
 use crate::named::{NamedNet, net_of};
 use crate::names::CountedName;
 use crate::nets::NetSort;
+use crate::once::once_in_order;
 use std::alloc::{AllocError, Global};
 use std::cmp::Ordering;
-use std::collections::BTreeSet;
 use std::marker::Model;
 
 /// The conductors of one net, without its names. Classes are ordered by their least pins, the
 /// places of these last.
 #[derive(Debug, Drop)]
 pub struct NetClass {
-    /// Its pins, each pair of refdes and number once.
-    pub pins: BTreeSet<ClassPin>,
+    /// Its pins in order, each pair of refdes and number once.
+    pub pins: Vec<ClassPin>,
     /// Whether it has a global name.
     pub global: bool,
     /// Whether it is a single drawn pin.
@@ -35,7 +35,7 @@ impl Model for NetClass {
     ghost Value = { NetClassData };
 
     ghost view = { λ c. record {
-      pins = c.pins.keys;
+      pins = c.pins.items;
       names = [];
       global = c.global;
       is_single_pin = c.is_single_pin;
@@ -48,8 +48,8 @@ fn compare_pins(first: &ClassPin, second: &ClassPin) -> Ordering
     first.cmp(second).then(first.place.cmp(&second.place))
 }
 
-fn least_pin(pins: &BTreeSet<ClassPin>) -> Option<&ClassPin>
-    ensures { option_copied result ≡ slice_get pins.now.keys 0 }
+fn least_pin(pins: &[ClassPin]) -> Option<&ClassPin>
+    ensures { option_copied result ≡ slice_get pins.now 0 }
 {
     pins.first()
 }
@@ -118,25 +118,28 @@ impl Ord for NetClass {
     ghost matches_eq = { Prim.search (comparing, rules) };
 
     fn cmp(&self, other: &NetClass) -> Ordering {
-        compare_least(least_pin(&self.pins), least_pin(&other.pins))
+        compare_least(
+            least_pin(self.pins.as_slice()),
+            least_pin(other.pins.as_slice()),
+        )
     }
 }
 
-/// Classes that have members, in order: the nets of those with a name, those that print as unnamed,
-/// and those that print as unconnected.
+/// Classes that have members: the nets of those with a name, those that print as unnamed, and those
+/// that print as unconnected.
 #[derive(Debug, Drop)]
 pub struct NetClasses {
     /// With a name.
-    pub named: BTreeSet<NamedNet>,
+    pub named: Vec<NamedNet>,
     /// Of two and more conductors, or of a single one that is no drawn pin.
-    pub unnamed: BTreeSet<NetClass>,
+    pub unnamed: Vec<NetClass>,
     /// Of a single drawn pin.
-    pub unconnected: BTreeSet<NetClass>,
+    pub unconnected: Vec<NetClass>,
 }
 
-fn name_and_class(growing: GrowingClass) -> (Option<CountedName>, NetClass)
-    ensures name { result.0 ≡ growing.least }
-    ensures class { result.1 ≡ as_nameless growing }
+fn name_and_class(growing: GrowingClass) -> Result<(Option<CountedName>, NetClass), AllocError>
+    ensures name { IfOk result (λ r. r.0 ≡ growing.least) }
+    ensures class { IfOk result (λ r. r.1 ≡ as_nameless growing) }
 {
     let GrowingClass {
         pins,
@@ -145,38 +148,36 @@ fn name_and_class(growing: GrowingClass) -> (Option<CountedName>, NetClass)
         least,
         ..
     } = growing;
-    (
-        least,
-        NetClass {
-            pins,
-            global,
-            is_single_pin,
-        },
-    )
+    let class = NetClass {
+        pins: once_in_order(pins)?,
+        global,
+        is_single_pin,
+    };
+    Ok((least, class))
 }
 
 impl NetClasses {
     fn take(&mut self, alloc: Global, growing: GrowingClass) -> Result<(), AllocError>
         ensures named { OnOk result
-            (self.new.named.keys ≡ with_named self.old.named.keys (as_net_class growing)) }
-        ensures unnamed { OnOk result (self.new.unnamed.keys
-            ≡ with_class is_unnamed self.old.unnamed.keys (as_net_class growing)) }
-        ensures unconnected { OnOk result (self.new.unconnected.keys
-            ≡ with_class is_unconnected self.old.unconnected.keys (as_net_class growing)) }
+            (self.new.named.items ≡ with_named self.old.named.items (as_net_class growing)) }
+        ensures unnamed { OnOk result (self.new.unnamed.items
+            ≡ with_class is_unnamed self.old.unnamed.items (as_net_class growing)) }
+        ensures unconnected { OnOk result (self.new.unconnected.items
+            ≡ with_class is_unconnected self.old.unconnected.items (as_net_class growing)) }
     {
-        if growing.pins.len() == 0 {
+        let (name, class) = name_and_class(growing)?;
+        if class.pins.len() == 0 {
             return Ok(());
         }
-        let (name, class) = name_and_class(growing);
         if let Some(name) = name {
             let net = net_of(alloc, name.text, NetSort::Named, class)?;
-            self.named.insert(NamedNet { net })?;
+            self.named.push(NamedNet { net })?;
             return Ok(());
         }
         if class.is_single_pin {
-            self.unconnected.insert(class)?;
+            self.unconnected.push(class)?;
         } else {
-            self.unnamed.insert(class)?;
+            self.unnamed.push(class)?;
         }
         Ok(())
     }
@@ -184,18 +185,22 @@ impl NetClasses {
 
 /// The classes that have members, in order.
 pub fn in_order(alloc: Global, growing: Vec<GrowingClass>) -> Result<NetClasses, AllocError>
-    ensures named { IfOk result (λ o. o.named.keys ≡ named_in_order growing.items) }
-    ensures unnamed { IfOk result (λ o. o.unnamed.keys ≡ in_order is_unnamed growing.items) }
+    ensures named { IfOk result (λ o. o.named.items ≡ named_in_order growing.items) }
+    ensures unnamed { IfOk result (λ o. o.unnamed.items ≡ in_order is_unnamed growing.items) }
     ensures unconnected { IfOk result
-        (λ o. o.unconnected.keys ≡ in_order is_unconnected growing.items) }
+        (λ o. o.unconnected.items ≡ in_order is_unconnected growing.items) }
 {
-    let mut ordered = NetClasses {
-        named: BTreeSet::new(alloc),
-        unnamed: BTreeSet::new(alloc),
-        unconnected: BTreeSet::new(alloc),
+    let mut passed = NetClasses {
+        named: Vec::new(alloc),
+        unnamed: Vec::new(alloc),
+        unconnected: Vec::new(alloc),
     };
     for class in growing {
-        ordered.take(alloc, class)?;
+        passed.take(alloc, class)?;
     }
-    Ok(ordered)
+    Ok(NetClasses {
+        named: once_in_order(passed.named)?,
+        unnamed: once_in_order(passed.unnamed)?,
+        unconnected: once_in_order(passed.unconnected)?,
+    })
 }

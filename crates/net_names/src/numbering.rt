@@ -1,66 +1,28 @@
 // Nets without names, numbered from 1 in the order of their classes. Numbers whose texts are names
 // of conductors are skipped.
-ghost use Rattle.std.specs.Prelude.{◌≡◌, ◌==◌, ◌++◌, ◌+◌, ◌<◌, ◌^◌};
+ghost use Rattle.std.specs.Prelude.{◌≡◌, ◌++◌, ◌+◌, ◌<◌, ◌^◌};
 ghost use Rattle.std.specs.Prelude.{IfOk, OnOk, decimal, length};
-ghost use Rattle.std.specs.List.{flat_map, fold, starts_with};
-ghost use Rattle.link_classes.specs.Links.{names_of};
 ghost use Rattle.net_names.specs.steps.Numbering.{AreNumbered, IsNextFree};
-ghost use Rattle.net_names.specs.steps.Numbering.{taken_names, with_taken};
 
 use crate::named::net_of;
 use crate::names::NetName;
 use crate::net_classes::NetClass;
 use crate::nets::{Net, NetSort};
 use geda_model::Block;
-use link_classes::FlatConductor;
 use std::alloc::{AllocError, Global};
 use std::collections::BTreeSet;
 
-fn begins_with(name: &str, prefix: &str) -> bool
-    ensures { result ≡ starts_with ◌==◌ name.now prefix.now }
-{
-    name.as_bytes().starts_with(prefix.as_bytes())
-}
-
-fn take_names(
-    taken: &mut BTreeSet<NetName>,
-    prefix: &str,
-    names: &[Block],
-) -> Result<(), AllocError>
-    ensures { OnOk result
-        (taken.new.keys ≡ fold (with_taken prefix.now) taken.old.keys names.now) }
-{
-    for name in names {
-        if begins_with(name.as_str(), prefix) {
-            let text = name.clone()?;
-            taken.insert(NetName { text })?;
-        }
-    }
-    Ok(())
-}
-
-/// The names of conductors that begin with a prefix, each once.
-pub fn taken_names(
-    alloc: Global,
-    conductors: &[FlatConductor],
-    prefix: &str,
-) -> Result<BTreeSet<NetName>, AllocError>
-    ensures { IfOk result
-        (λ taken. taken.keys ≡ taken_names prefix.now (flat_map names_of conductors.now)) }
-{
-    let mut taken = BTreeSet::new(alloc);
-    for conductor in conductors {
-        take_names(&mut taken, prefix, conductor.global_names.as_slice())?;
-        take_names(&mut taken, prefix, conductor.drawn_names.as_slice())?;
-    }
-    Ok(taken)
-}
+// Room for the longer prefix and eight digits, so that most names take one block of memory.
+const NAME_ROOM: usize = 24;
 
 fn numbered_name(alloc: Global, prefix: &str, number: usize) -> Result<NetName, AllocError>
     ensures { IfOk result (λ name. name ≡ prefix.now ++ decimal number) }
 {
-    let text = Block::from_string(format!(in alloc; "{prefix}{number}")?);
-    Ok(NetName { text })
+    let mut text = String::with_capacity(alloc, NAME_ROOM)?;
+    write!(text, "{prefix}{number}")?;
+    Ok(NetName {
+        text: Block::from_string(text),
+    })
 }
 
 /// The first number from one on whose text is not taken, and that text. Names that were met are
@@ -92,11 +54,11 @@ pub fn number_classes(
     nets: &mut Vec<Net>,
     prefix: &str,
     sort: NetSort,
-    classes: BTreeSet<NetClass>,
+    classes: Vec<NetClass>,
     taken: BTreeSet<NetName>,
 ) -> Result<(), AllocError>
     ensures { OnOk result
-        (AreNumbered prefix.now sort taken.keys classes.keys nets.old.items nets.new.items) }
+        (AreNumbered prefix.now sort taken.keys classes.items nets.old.items nets.new.items) }
 {
     // Each of the two counts is below 2^63, so that no number is too great.
     let _ = classes.len();

@@ -1,10 +1,11 @@
 // The packages of a list of parts.
 ghost use Rattle.std.specs.Prelude.{◌≡◌, IfOk, OnOk, map};
 ghost use Rattle.std.specs.BTreeMap.{IsOrdered};
+ghost use Rattle.std.specs.Option.{option_or};
 ghost use Rattle.flat_sheets.specs.Order.{by_bytes};
 ghost use Rattle.net_names.specs.Packages.{packages_by};
 ghost use Rattle.net_names.specs.steps.PackageRows.{AreRowsOf, TakesIn, no_attributes};
-ghost use Rattle.net_names.specs.steps.PackageRows.{package_of_row, with_attributes_of};
+ghost use Rattle.net_names.specs.steps.PackageRows.{package_of_row};
 
 use crate::nets::Packages;
 use flat_sheets::Package;
@@ -33,9 +34,24 @@ fn no_attributes() -> PackageAttributes
     }
 }
 
-fn with_attributes_of(part: Package, known: PackageAttributes) -> (Line, PackageAttributes)
-    ensures refdes { result.0 ≡ part.refdes }
-    ensures attributes { result.1 ≡ with_attributes_of part known }
+fn take_attributes(
+    known: &mut PackageAttributes,
+    device: Option<Block>,
+    value: Option<Block>,
+    footprint: Option<Block>,
+)
+    ensures device { known.new.device ≡ option_or known.old.device device }
+    ensures value { known.new.value ≡ option_or known.old.value value }
+    ensures footprint { known.new.footprint ≡ option_or known.old.footprint footprint }
+{
+    known.device = known.device.take().or(device);
+    known.value = known.value.take().or(value);
+    known.footprint = known.footprint.take().or(footprint);
+}
+
+/// Takes in a part. An attribute that its package has already stays.
+fn take_part(rows: &mut BTreeMap<Line, PackageAttributes>, part: Package) -> Result<(), AllocError>
+    ensures { OnOk result (TakesIn part rows.old rows.new) }
 {
     let Package {
         refdes,
@@ -43,21 +59,8 @@ fn with_attributes_of(part: Package, known: PackageAttributes) -> (Line, Package
         value,
         footprint,
     } = part;
-    let attributes = PackageAttributes {
-        device: known.device.or(device),
-        value: known.value.or(value),
-        footprint: known.footprint.or(footprint),
-    };
-    (refdes, attributes)
-}
-
-/// Takes in a part. An attribute that its package has already stays.
-fn take_part(rows: &mut BTreeMap<Line, PackageAttributes>, part: Package) -> Result<(), AllocError>
-    ensures { OnOk result (TakesIn part rows.old rows.new) }
-{
-    let known = rows.remove(&part.refdes).unwrap_or(no_attributes());
-    let (refdes, attributes) = with_attributes_of(part, known);
-    rows.insert(refdes, attributes)?;
+    let known = rows.entry(refdes)?.or_insert(no_attributes());
+    take_attributes(known, device, value, footprint);
     Ok(())
 }
 

@@ -1,10 +1,10 @@
 -- Steps of the code; no public clause cites them.
--- Conductors put into the classes of their labels one by one, and classes put in order one by one.
-use Rattle.std.specs.Prelude.{ℕ, ◌+◌, ◌<◌, ◌==◌, ◌&&◌, ◌||◌, not, if◌then◌else◌, Bool, true, false, List, [], ◌∷◌, Option, Some, None, length, map, replicate, slice_index, slice_index_or, slice_set}
+-- Conductors put into the classes of their labels one by one, and classes put in order.
+use Rattle.std.specs.Prelude.{ℕ, ◌+◌, ◌<◌, ◌==◌, ◌&&◌, ◌||◌, not, if◌then◌else◌, Bool, true, false, List, [], ◌∷◌, ◌++◌, Option, Some, None, length, map, replicate, slice_index, slice_index_or, slice_set}
 use Rattle.std.specs.List.{fold}
 use Rattle.std.specs.Ordering.{match_ordering}
-use Rattle.std.specs.BTreeSet.{insert_key}
 use Rattle.link_classes.specs.declared.conductors.FlatConductor.{FlatConductor}
+use Rattle.flat_sheets.specs.Order.{once_in_order}
 use Rattle.net_names.specs.declared.nets.Net.{Net}
 use Rattle.net_names.specs.NetClasses.{ClassPinData, class_pin, by_member, NetClassData, is_drawn_pin, has_pins}
 use Rattle.net_names.specs.NetLists.{by_least_pin, by_name, is_named, named_net}
@@ -14,8 +14,8 @@ use Rattle.net_names.specs.steps.Orders.{by_net_name}
 abbrev pub ArePlaces : List ℕ → ℕ → Type 0
 ArePlaces labels count = (i : ℕ) → i < length labels → slice_index labels i < count
 
--- a class while it grows: its pins, whether it has no conductor yet, whether it is a single drawn
--- pin, whether it has a global name, and the least of its names
+-- a class while it grows: its pins as they come, whether it has no conductor yet, whether it is a
+-- single drawn pin, whether it has a global name, and the least of its names
 pub record GrowingClassData : Type 0 where
   pub pins : List ClassPinData
   pub is_empty : Bool
@@ -33,10 +33,10 @@ empty_class = record {
   least = None;
 }
 
--- with one more pin, unless its pair of refdes and number is there
+-- with one more pin, if there is one
 abbrev pub with_pin : List ClassPinData → Option ClassPinData → List ClassPinData
 with_pin pins None = pins
-with_pin pins (Some pin) = insert_key by_member pins pin
+with_pin pins (Some pin) = pins ++ pin ∷ []
 
 -- the lesser one of a name and of the least so far; of two equal ones the former
 abbrev pub lesser : Option (List ℕ) → List ℕ → Option (List ℕ)
@@ -80,7 +80,7 @@ one_or_none (Some a) = a ∷ []
 -- a class that is whole, without its names
 abbrev pub as_nameless : GrowingClassData → NetClassData
 as_nameless g = record {
-  pins = g.pins;
+  pins = once_in_order by_member g.pins;
   names = [];
   global = g.global;
   is_single_pin = g.is_single_pin;
@@ -89,26 +89,28 @@ as_nameless g = record {
 -- a class that is whole: of its names it has the least alone
 abbrev pub as_net_class : GrowingClassData → NetClassData
 as_net_class g = record {
-  pins = g.pins;
+  pins = once_in_order by_member g.pins;
   names = one_or_none g.least;
   global = g.global;
   is_single_pin = g.is_single_pin;
 }
 
--- named nets in order, with that of one more class if it has members and a name
+-- named nets, with that of one more class if it has members and a name
 abbrev pub with_named : List Net → NetClassData → List Net
 with_named nets c =
-    if has_pins c && is_named c then insert_key by_net_name nets (named_net c) else nets
+    if has_pins c && is_named c then nets ++ named_net c ∷ [] else nets
 
 -- the nets of those that have members and a name, in order
 abbrev pub named_in_order : List GrowingClassData → List Net
-named_in_order growing = fold with_named [] (map as_net_class growing)
+named_in_order growing =
+    once_in_order by_net_name (fold with_named [] (map as_net_class growing))
 
--- classes in order, with one more if it has members and passes
+-- classes, with one more if it has members and passes
 abbrev pub with_class : (NetClassData → Bool) → List NetClassData → NetClassData → List NetClassData
 with_class test classes c =
-    if has_pins c && test c then insert_key by_least_pin classes c else classes
+    if has_pins c && test c then classes ++ c ∷ [] else classes
 
 -- those that have members and pass, in order
 abbrev pub in_order : (NetClassData → Bool) → List GrowingClassData → List NetClassData
-in_order test growing = fold (with_class test) [] (map as_net_class growing)
+in_order test growing =
+    once_in_order by_least_pin (fold (with_class test) [] (map as_net_class growing))

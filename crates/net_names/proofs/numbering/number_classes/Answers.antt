@@ -1,5 +1,6 @@
-use Rattle.std.proofs.Common.{◌++◌, ◌<◌, ◌^◌, ℕ, List, length, arith, sym, ap, ◌∙◌}
-use Rattle.std.proofs.lemmas.List.{append-nil}
+use Rattle.std.proofs.Common.{◌≡◌, [], ◌++◌, ◌<◌, ◌^◌, ℕ, List, length, arith, sym, ap, ◌∙◌}
+use Rattle.std.specs.Vec.Iter.{into_iter_items}
+use Rattle.std.proofs.lemmas.List.{append-nil, nil_from_length}
 use Rattle.net_names.specs.declared.nets.Net.{Net}
 use Rattle.net_names.specs.NetClasses.{NetClassData}
 use Rattle.net_names.specs.NetLists.{net_of, numbered}
@@ -17,9 +18,11 @@ loop-class-preserved c =
     let later = c.free_name.new.taken.keys in
     let number = c.in_ok-number.number in
     let next = c.in_ok-number.ensures.number in
-    let one_fewer = ap length c.in-Some.ensures.steps in
+    let steps = c.in-Some.ensures.steps in
+    let one_fewer = ap length steps.0 in
     let small : number < 2 ^ 64 = omega (arith, kept.small, kept.room, next.fewer, one_fewer) in
     record {
+      len = omega (arith, kept.len, steps.1, one_fewer);
       small = kept.small;
       room = omega (arith, kept.room, next.fewer, one_fewer);
       same = take_later prefix first taken later c.loop-class.next number kept.same next;
@@ -27,15 +30,16 @@ loop-class-preserved c =
           let below : number < stop = omega (arith, enough, kept.room, next.fewer, one_fewer) in
           let name = c.name.view_is ∙ c.in_ok-number.ensures.name in
           let made = c.in_ok-net_of.ensures ∙ ap (λ (text : List ℕ). net_of text sort c.in-Some.class) name in
-          grows prefix sort first taken later c.loop-class.next number stop c.in-Some.class c.next.new.self c.loop-class.class-iterator
-          c.in_ok-net_of.field-0 c.loop-class.nets.items c.push.new.self.items _ small below kept.same next made c.in_ok-push.ensures.items c.in-Some.ensures.steps
+          grows prefix sort first taken later c.loop-class.next number stop c.in-Some.class (into_iter_items c.next.new.self) (into_iter_items c.loop-class.class-iterator)
+          c.in_ok-net_of.field-0 c.loop-class.nets.items c.push.new.self.items _ small below kept.same next made c.in_ok-push.ensures.items steps.0
           (kept.rest stop enough);
     }
 
 pub returns : goal.returns
 returns c = λ stop enough.
     let kept = c.loop-class.invariant.rest stop enough in
+    let none : [] ≡ into_iter_items c.loop-class.class-iterator = sym (nil_from_length (into_iter_items c.loop-class.class-iterator) (sym c.loop-class.invariant.len ∙ c.in-None.ensures.steps.0)) in
     sym (append-nil c.loop-class.nets.items)
     ∙ ap (λ (nets : List Net). c.loop-class.nets.items ++ nets) (sym (numbered_none c.args.prefix.now c.args.sort (free_below c.args.prefix.now c.args.taken.keys c.loop-class.next stop)))
-    ∙ ap (λ (cs : List NetClassData). c.loop-class.nets.items ++ numbered c.args.prefix.now c.args.sort (free_below c.args.prefix.now c.args.taken.keys c.loop-class.next stop) cs) (sym c.in-None.ensures.steps.0)
+    ∙ ap (λ (cs : List NetClassData). c.loop-class.nets.items ++ numbered c.args.prefix.now c.args.sort (free_below c.args.prefix.now c.args.taken.keys c.loop-class.next stop) cs) none
     ∙ kept

@@ -1,12 +1,15 @@
-use Rattle.std.proofs.Common.{◌∙◌, ap}
-use Rattle.net_names.specs.steps.PackageRows.{with_attributes_of}
-use Rattle.net_names.proofs.PackageLemmas.{takes_in}
+use Rattle.std.proofs.Common.{Option, ◌∙◌, ap, rules}
+use Rattle.std.specs.Option.{unwrap_or}
+use Rattle.net_names.specs.declared.packages.PackageAttributes.{PackageAttributes}
+use Rattle.net_names.specs.steps.PackageRows.{no_attributes, with_attributes_of}
+use Rattle.net_names.proofs.PackageLemmas.{made_of, takes_in}
 use Rattle.net_names.proofs.packages.take_part.Goals as goal
 
 pub returns : goal.returns
 returns c =
     let part = c.args.part in
-    let known = rw c.no_attributes.ensures at c.unwrap_or-known.ensures in
-    let made = c.with_attributes_of-refdes.ensures.attributes ∙ ap (with_attributes_of part) known in
-    let back = rw c.with_attributes_of-refdes.ensures.refdes at c.in_ok-insert.ensures.updates in
-    takes_in part c.args.rows.now c.remove.new.self c.insert.new.self c.remove.result c.with_attributes_of-refdes.result.1 c.remove.ensures.value made c.remove.ensures.updates back
+    let each = c.take_attributes.ensures in
+    let known = rw c.no_attributes.ensures at c.or_insert-known.ensures.value in
+    let row = known ∙ ap (λ (row : Option PackageAttributes). unwrap_or row no_attributes) c.in_ok-rows.ensures.value in
+    let made = made_of c.take_attributes.new.known c.or_insert-known.result.now part each.device each.value each.footprint ∙ ap (with_attributes_of part) row in
+    λ q. takes_in part c.args.rows.now c.take_attributes.new.known q _ made (search rules)
