@@ -1,32 +1,13 @@
 -- The list text of a net list (own): a line a package and a line a net.
-use Rattle.std.specs.Prelude.{ℕ, Bool, ◌==◌, ◌||◌, if◌then◌else◌, List, ◌∷◌, ◌++◌, Option, Some, None, length, map, codes}
+use Rattle.std.specs.Prelude.{ℕ, List, ◌∷◌, ◌++◌, Option, Some, None, length, map, codes}
 use Rattle.std.specs.List.{flat_map}
 use Rattle.std.specs.Fmt.{decimal}
 use Rattle.geda_defs.specs.Lines.{spaced, ended}
+use Rattle.printed_texts.specs.PrintedTexts.{flat, pin_words, word}
 use Rattle.link_classes.specs.declared.member.Member.{Member}
 use Rattle.net_names.specs.declared.nets.Net.{Net}
 use Rattle.flat_sheets.specs.declared.package.Package.{Package}
 use Rattle.net_names.specs.declared.nets.Nets.{Nets}
-
--- a tab, an LF or a CR
-abbrev pub is_break : ℕ → Bool
-is_break b = (b == 9) || ((b == 10) || (b == 13))
-
--- each space, tab, CR and LF becomes `_`
-abbrev pub word_byte : ℕ → ℕ
-word_byte b = if (b == 32) || is_break b then 95 else b
-
--- a refdes, a pin number or the name of a net, as it prints
-abbrev pub word : List ℕ → List ℕ
-word text = map word_byte text
-
--- each tab, CR and LF becomes a space
-abbrev pub flat_byte : ℕ → ℕ
-flat_byte b = if is_break b then 32 else b
-
--- another value, as it prints
-abbrev pub flat : List ℕ → List ℕ
-flat text = map flat_byte text
 
 -- a value, or `-` for an absent one
 abbrev pub field : Option (List ℕ) → List ℕ
@@ -40,7 +21,7 @@ package_line p =
 
 -- a member: refdes, `-`, pin number
 abbrev pub member_text : Member → List ℕ
-member_text m = word m.refdes ++ 45 ∷ word m.pin
+member_text m = pin_words m.refdes m.pin
 
 -- the name of a net, a tab, and its members parted by one space
 abbrev pub net_line : Net → List ℕ

@@ -2,7 +2,10 @@
 ghost use Rattle.std.specs.Prelude.{◌≡◌, IfOk};
 ghost use Rattle.backends.specs.Forms.{net_text};
 
+use crate::bill_text::bill_text;
 use crate::list_text::list_text;
+use crate::pcb_text::pcb_text;
+use crate::tango_text::tango_text;
 use net_names::Nets;
 use std::alloc::{AllocError, Global};
 
@@ -11,13 +14,23 @@ use std::alloc::{AllocError, Global};
 pub enum Form {
     /// A line for each package and each net.
     List,
+    /// A block of lines for each package and each net that joins pins, as Tango reads them.
+    Tango,
+    /// A line for each net that joins pins, as PCB reads them.
+    Pcb,
+    /// A bill of materials as CSV: a record for each group of packages that are one article.
+    Bom,
 }
 
-/// The text of a net list in a form (docs/FORMATS.md, "List text").
+/// The text of a net list in a form (docs/FORMATS.md, "List text", "Tango text", "PCB text" and
+/// "Bill of materials").
 pub fn net_text(alloc: Global, form: Form, nets: &Nets) -> Result<Vec<u8>, AllocError>
     ensures { IfOk result (λ text. text.items ≡ net_text form nets.now) }
 {
     match form {
         Form::List => list_text(alloc, nets),
+        Form::Tango => tango_text(alloc, nets),
+        Form::Pcb => pcb_text(alloc, nets),
+        Form::Bom => bill_text(alloc, nets),
     }
 }
