@@ -1,0 +1,89 @@
+-- Which command the arguments of a command line ask for (own).
+use Rattle.std.specs.Prelude.{◌≢◌, ⊤, ℕ, Bool, ◌==◌, ◌&&◌, if◌then◌else◌, List, [], ◌∷◌, Option}
+use Rattle.std.specs.Prelude.{Some, None, length, map, codes, String, string_bytes, option_map}
+use Rattle.std.specs.Prelude.{option_and_then}
+use Rattle.std.specs.List.{AllPairs, list_all}
+use Rattle.std.specs.declared.alloc.Global.{Global}
+use Rattle.std.specs.Str.{bytes_eq}
+use Rattle.geda_defs.specs.Lists.{each_once}
+use Rattle.geda_model.specs.Names.{is_name}
+use Rattle.backends.specs.declared.form.Form.{Form}
+use Rattle.backends.specs.declared.form.Form.TheVariants as forms
+use Rattle.option_words.specs.Words.{Parts, parts_of}
+use Rattle.command_words.specs.declared.command.Command.{Command}
+use Rattle.command_words.specs.declared.command.Command.TheVariants.{Netlist, Drc, Export}
+
+-- the file that a word names: the word is a Name
+abbrev pub file_of : List ℕ → Option (List ℕ)
+file_of word = if is_name word then Some word else None
+
+-- no text stands twice
+abbrev pub are_distinct : List (List ℕ) → Bool
+are_distinct texts = length (each_once texts) == length texts
+
+-- each word names a file, and no other one names it too
+abbrev pub are_files : List (List ℕ) → Bool
+are_files words = list_all is_name words && are_distinct words
+
+-- the sheets that words name: one or more files that differ
+abbrev pub sheets_of : List (List ℕ) → Option (List (List ℕ))
+sheets_of [] = None
+sheets_of (word ∷ others) = if are_files (word ∷ others) then Some (word ∷ others) else None
+
+-- the form of a name
+abbrev pub form_named : List ℕ → Option Form
+form_named name =
+    if bytes_eq name (codes "list") then Some forms.List
+    else if bytes_eq name (codes "tango") then Some forms.Tango
+    else if bytes_eq name (codes "pcb") then Some forms.Pcb
+    else if bytes_eq name (codes "bom") then Some forms.Bom
+    else None
+
+-- the form that the value of `--form` names; the list where there is none
+abbrev pub form_of : Option (List ℕ) → Option Form
+form_of None = Some forms.List
+form_of (Some name) = form_named name
+
+-- the file that the value of `--matrix` names, where there is one
+abbrev pub matrix_of : Option (List ℕ) → Option (Option (List ℕ))
+matrix_of None = Some None
+matrix_of (Some word) = option_map (λ file. Some file) (file_of word)
+
+-- the net list, from the form's name and the words that name sheets
+abbrev pub netlist_of : Parts → Option Command
+netlist_of parts =
+    option_and_then (λ form. option_map (Netlist form) (sheets_of parts.words))
+    (form_of parts.value)
+
+-- the check, from the matrix's file and the words that name sheets
+abbrev pub drc_of : Parts → Option Command
+drc_of parts =
+    option_and_then (λ matrix. option_map (Drc matrix) (sheets_of parts.words))
+    (matrix_of parts.value)
+
+-- the export of the one file that is named
+abbrev pub export_of : List (List ℕ) → Option Command
+export_of (word ∷ []) = option_map Export (file_of word)
+export_of words = None
+
+-- the command of this name, with the words behind it: each command has one option or none
+abbrev pub command_with : List ℕ → List (List ℕ) → Option Command
+command_with command words =
+    if bytes_eq command (codes "netlist")
+    then option_and_then netlist_of (parts_of (Some (codes "form")) words)
+    else if bytes_eq command (codes "drc")
+    then option_and_then drc_of (parts_of (Some (codes "matrix")) words)
+    else if bytes_eq command (codes "export")
+    then option_and_then (λ parts. export_of parts.words) (parts_of None words)
+    else None
+
+-- the command that the arguments ask for; none where they are used wrongly
+abbrev pub command_of : List (String Global) → Option Command
+command_of [] = None
+command_of (command ∷ words) = command_with (string_bytes command) (map string_bytes words)
+
+-- the sheets of a command differ
+abbrev pub NamesApart : Command → Type 0
+NamesApart (Netlist form sheets) = AllPairs ◌≢◌ sheets
+NamesApart (Drc matrix sheets) = AllPairs ◌≢◌ sheets
+NamesApart (Export file) = ⊤

@@ -1,0 +1,147 @@
+// The commands, and which of them the arguments ask for.
+ghost use Rattle.std.specs.Prelude.{◌≡◌, None, Some, IfOk, codes, map, option_and_then};
+ghost use Rattle.std.specs.Prelude.{option_copied, string_bytes};
+ghost use Rattle.option_words.specs.Reads.{Gives, parts_seen};
+ghost use Rattle.option_words.specs.Words.{parts_of};
+ghost use Rattle.command_words.specs.Commands.{NamesApart, command_of, drc_of, export_of, form_of};
+ghost use Rattle.command_words.specs.Commands.{matrix_of, netlist_of};
+
+use crate::files::{file_of, sheets_of};
+use backends::Form;
+use geda_model::{Items, Name};
+use option_words::{Parts, WordFault, read_parts};
+use std::alloc::Global;
+
+/// What the program can do (docs/FORMATS.md, "Command lines").
+#[derive(Debug, Drop)]
+pub enum Command {
+    /// Prints the net list of sheets in a form.
+    Netlist {
+        /// The form.
+        form: Form,
+        /// The sheets, at least one. Their names differ.
+        sheets: Items<Name>,
+    },
+    /// Prints what the check finds on sheets.
+    Drc {
+        /// The file of the matrix; `None` for the usual matrix.
+        matrix: Option<Name>,
+        /// The sheets, at least one. Their names differ.
+        sheets: Items<Name>,
+    },
+    /// Prints the canonical text of a sheet, or of a symbol where the name ends in `.sym`.
+    Export {
+        /// The file of the sheet or symbol.
+        file: Name,
+    },
+}
+
+/// The form that the value of `--form` names, and `list` where there is none.
+fn form_of(value: Option<&str>) -> Option<Form>
+    ensures { result ≡ form_of (option_copied value.entry) }
+{
+    match value {
+        None | Some("list") => Some(Form::List),
+        Some("tango") => Some(Form::Tango),
+        Some("pcb") => Some(Form::Pcb),
+        Some("bom") => Some(Form::Bom),
+        Some(_) => None,
+    }
+}
+
+/// The file that the value of `--matrix` names, where there is one.
+fn matrix_of(alloc: Global, value: Option<&str>) -> Result<Option<Name>, WordFault>
+    ensures { Gives (λ matrix. matrix) result (matrix_of (option_copied value.entry)) }
+{
+    match value {
+        Some(word) => Ok(Some(file_of(alloc, word)?)),
+        None => Ok(None),
+    }
+}
+
+/// The net list in the form and of the sheets that these parts name.
+fn netlist_of(alloc: Global, parts: Parts<'_>) -> Result<Command, WordFault>
+    ensures asked { Gives (λ command. command) result (netlist_of (parts_seen parts.entry)) }
+    ensures apart { IfOk result NamesApart }
+{
+    let form = form_of(parts.value).ok_or(WordFault::Usage)?;
+    let sheets = sheets_of(alloc, parts.words.as_slice())?;
+    Ok(Command::Netlist {
+        form,
+        sheets: Items::from_vec(sheets),
+    })
+}
+
+/// The check by the matrix and of the sheets that these parts name.
+fn drc_of(alloc: Global, parts: Parts<'_>) -> Result<Command, WordFault>
+    ensures asked { Gives (λ command. command) result (drc_of (parts_seen parts.entry)) }
+    ensures apart { IfOk result NamesApart }
+{
+    let matrix = matrix_of(alloc, parts.value)?;
+    let sheets = sheets_of(alloc, parts.words.as_slice())?;
+    Ok(Command::Drc {
+        matrix,
+        sheets: Items::from_vec(sheets),
+    })
+}
+
+/// The export of the one file that the words name.
+fn export_of(alloc: Global, words: &[&str]) -> Result<Command, WordFault>
+    ensures asked { Gives (λ command. command) result (export_of (map (λ w. w.now) words.now)) }
+    ensures apart { IfOk result NamesApart }
+{
+    let [word] = words else {
+        return Err(WordFault::Usage);
+    };
+    let file = file_of(alloc, *word)?;
+    Ok(Command::Export { file })
+}
+
+/// The net list that the words behind `netlist` ask for.
+fn netlist(alloc: Global, words: &[String]) -> Result<Command, WordFault>
+    ensures asked { Gives (λ command. command) result (option_and_then netlist_of
+        (parts_of (Some (codes "form")) (map string_bytes words.now))) }
+    ensures apart { IfOk result NamesApart }
+{
+    let parts = read_parts(alloc, Some("form"), words)?;
+    netlist_of(alloc, parts)
+}
+
+/// The check that the words behind `drc` ask for.
+fn drc(alloc: Global, words: &[String]) -> Result<Command, WordFault>
+    ensures asked { Gives (λ command. command) result (option_and_then drc_of
+        (parts_of (Some (codes "matrix")) (map string_bytes words.now))) }
+    ensures apart { IfOk result NamesApart }
+{
+    let parts = read_parts(alloc, Some("matrix"), words)?;
+    drc_of(alloc, parts)
+}
+
+/// The export that the words behind `export` ask for.
+fn export(alloc: Global, words: &[String]) -> Result<Command, WordFault>
+    ensures asked { Gives (λ command. command) result
+        (option_and_then (λ parts. export_of parts.words)
+        (parts_of None (map string_bytes words.now))) }
+    ensures apart { IfOk result NamesApart }
+{
+    let parts = read_parts(alloc, None, words)?;
+    export_of(alloc, parts.words.as_slice())
+}
+
+/// The command that the arguments of a command line ask for.
+///
+/// `Usage` exactly where they ask for none (docs/FORMATS.md, "Command lines").
+pub fn command_of(alloc: Global, arguments: &[String]) -> Result<Command, WordFault>
+    ensures asked { Gives (λ command. command) result (command_of arguments.now) }
+    ensures apart { IfOk result NamesApart }
+{
+    let Some((command, words)) = arguments.split_first() else {
+        return Err(WordFault::Usage);
+    };
+    match command.as_str() {
+        "netlist" => netlist(alloc, words),
+        "drc" => drc(alloc, words),
+        "export" => export(alloc, words),
+        _ => Err(WordFault::Usage),
+    }
+}
