@@ -1,0 +1,6 @@
+pub mod ListLemmas
+pub mod FaultLemmas
+pub mod RepeatLemmas
+pub mod SlotLemmas
+pub mod ObjectLemmas
+pub mod Cases

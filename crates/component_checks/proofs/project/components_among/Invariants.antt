@@ -1,0 +1,13 @@
+use Rattle.std.proofs.Common.{◌≡◌, ◌++◌}
+use Rattle.std.specs.List.{filter_map}
+use Rattle.flat_sheets.specs.LabelSets.{AreLabelSets}
+use Rattle.component_checks.specs.steps.CheckedObjects.{checked_at}
+use Rattle.component_checks.proofs.project.components_among.Given as goal
+
+abbrev pub invariant-loop-occurrence : goal.invariant-loop-occurrence
+invariant-loop-occurrence l = record {
+  components :
+      l.components.items ++ filter_map (checked_at l.project.parts) l.occurrence-iterator
+      ≡ filter_map (checked_at l.project.parts) l.occurrences.keys;
+  known : AreLabelSets l.project.parts l.known;
+}

@@ -1,0 +1,4 @@
+pub mod CheckedComponents
+pub mod OnComponents
+pub mod OnPackages
+pub mod steps

@@ -1,0 +1,5 @@
+-- Steps of the code; no public clause cites them.
+pub mod Repeats
+pub mod FoundBy
+pub mod SlotRows
+pub mod CheckedObjects

@@ -1,0 +1,48 @@
+-- Steps of the code; no public clause cites them.
+-- What is found on a component by what several components have in common.
+use Rattle.std.specs.Prelude.{ℕ, not, ◌&&◌, Bool, List, ◌++◌, is_some}
+use Rattle.printed_texts.specs.PrintedTexts.{two_words, word}
+use Rattle.text_tallies.specs.NameSets.{has_name}
+use Rattle.text_tallies.specs.PairSets.{has_pair}
+use Rattle.drc_findings.specs.declared.finding.Finding.{Finding}
+use Rattle.drc_findings.specs.Findings.{an_error, found_if}
+use Rattle.component_checks.specs.CheckedComponents.{CheckedData}
+use Rattle.component_checks.specs.OnComponents.{bad_net, bad_slot, ends_open, is_listed, is_numbered, missing_symbol, refdes_of, slot_of, unknown_pins, unnumbered, without_refdes}
+use Rattle.component_checks.specs.declared.repeats.Repeats.{Repeats}
+
+-- two numbered components have this refdes, and one has it whole; it does not end in `?`
+abbrev pub clashes : Repeats → List ℕ → Bool
+clashes repeats refdes = not (ends_open refdes)
+    && (has_name repeats.numbered refdes && has_name repeats.whole refdes)
+
+-- a numbered component has such a refdes
+abbrev pub is_duplicate_by : Repeats → CheckedData → Bool
+is_duplicate_by repeats c = is_numbered c && clashes repeats (refdes_of c)
+
+-- so it is
+abbrev pub duplicate_by : Repeats → CheckedData → List Finding
+duplicate_by repeats c = found_if (is_duplicate_by repeats c) (an_error 3 (word (refdes_of c)))
+
+-- two listed parts have the refdes and the slot of this one; the refdes does not end in `?`
+abbrev pub is_duplicate_slot_by : Repeats → CheckedData → Bool
+is_duplicate_slot_by repeats c = (is_listed c && is_some c.slot)
+    && (not (ends_open (refdes_of c))
+    && has_pair repeats.slotted (record { first = refdes_of c; second = slot_of c }))
+
+-- so it is
+abbrev pub duplicate_slot_by : Repeats → CheckedData → List Finding
+duplicate_slot_by repeats c = found_if (is_duplicate_slot_by repeats c)
+    (an_error 4 (two_words (word (refdes_of c)) (word (slot_of c))))
+
+-- what is found on the refdes of a component
+abbrev pub found_on_refdes : Repeats → CheckedData → List Finding
+found_on_refdes repeats c =
+    unnumbered c ++ (without_refdes c ++ (duplicate_by repeats c ++ duplicate_slot_by repeats c))
+
+-- what is found on its slot, its pins, its symbol and its nets
+abbrev pub found_on_contents : CheckedData → List Finding
+found_on_contents c = bad_slot c ++ (unknown_pins c ++ (missing_symbol c ++ bad_net c))
+
+-- what is found on a component
+abbrev pub found_by : Repeats → CheckedData → List Finding
+found_by repeats c = found_on_refdes repeats c ++ found_on_contents c

@@ -1,0 +1,128 @@
+// What the attributes and the pins of a component say to the check.
+ghost use Rattle.std.specs.Prelude.{◌≡◌, IfOk, codes, filter, option_copied, option_map};
+ghost use Rattle.std.specs.List.{list_any};
+ghost use Rattle.attr_rules.specs.Attributes.{attr, attrs};
+ghost use Rattle.attr_rules.specs.Components.{refdes_of};
+ghost use Rattle.attr_rules.specs.Slots.{slot_count};
+ghost use Rattle.pin_place.specs.Pins.{pins_of};
+ghost use Rattle.flat_sheets.specs.Conductors.{is_drawn};
+ghost use Rattle.flat_sheets.specs.ListedParts.{under};
+ghost use Rattle.component_checks.specs.CheckedComponents.{is_bad_net, slot_fault};
+
+use attr_rules::{
+    NetFault, SlotFault, attr_of, attrs_of, net_entries, refdes_of, short_number, slot_pins,
+};
+use flat_sheets::line_under;
+use geda_model::{Block, Line, Object, Symbol};
+use hierarchy::Instance;
+use pin_place::{PlacedPin, pins_of};
+use std::alloc::{AllocError, Global};
+
+/// The printed refdes of a component that has a refdes.
+pub fn printed_refdes(
+    alloc: Global,
+    instance: &Instance,
+    object: &Object,
+    library: Option<&Symbol>,
+) -> Result<Option<Line>, AllocError>
+    ensures { IfOk result (λ printed. printed ≡ option_map (under instance.now.path)
+        (refdes_of object.now (option_copied library.entry))) }
+{
+    match refdes_of(object, library) {
+        None => Ok(None),
+        Some(refdes) => Ok(Some(line_under(alloc, &instance.path, refdes)?)),
+    }
+}
+
+fn is_bad_net(alloc: Global, value: &str) -> Result<bool, AllocError>
+    ensures { IfOk result (λ bad. bad ≡ is_bad_net value.now) }
+{
+    match net_entries(alloc, value) {
+        Ok(_) => Ok(false),
+        Err(NetFault::BadNet) => Ok(true),
+        Err(NetFault::NoMemory) => Err(AllocError),
+    }
+}
+
+fn some_bad_net(alloc: Global, values: &[Block]) -> Result<bool, AllocError>
+    ensures { IfOk result (λ bad. bad ≡ list_any is_bad_net values.now) }
+{
+    for value in values {
+        if is_bad_net(alloc, value.as_str())? {
+            return Ok(true);
+        }
+    }
+    Ok(false)
+}
+
+/// Whether a value of `net` is bad.
+pub fn has_bad_net(
+    alloc: Global,
+    object: &Object,
+    library: Option<&Symbol>,
+) -> Result<bool, AllocError>
+    ensures { IfOk result (λ bad. bad ≡
+        list_any is_bad_net (attrs object.now (option_copied library.entry) (codes "net"))) }
+{
+    let values = attrs_of(alloc, object, library, "net")?;
+    some_bad_net(alloc, values.as_slice())
+}
+
+/// The first value of an attribute.
+pub fn attr_block(
+    alloc: Global,
+    object: &Object,
+    library: Option<&Symbol>,
+    name: &str,
+) -> Result<Option<Block>, AllocError>
+    ensures { IfOk result (λ value. value ≡
+        attr object.now (option_copied library.entry) name.now) }
+{
+    match attr_of(object, library, name) {
+        Some(value) => Ok(Some(Block::new(alloc, value)?)),
+        None => Ok(None),
+    }
+}
+
+/// Why the `slot` gives no pin numbers, if there is one that gives none.
+pub fn slot_fault(
+    alloc: Global,
+    object: &Object,
+    library: Option<&Symbol>,
+) -> Result<Option<SlotFault>, AllocError>
+    ensures { IfOk result (λ fault. fault ≡ slot_fault object.now (option_copied library.entry)
+        (attr object.now (option_copied library.entry) (codes "slot"))) }
+{
+    let Some(slot) = attr_of(object, library, "slot") else {
+        return Ok(None);
+    };
+    let numslots = attr_of(object, library, "numslots");
+    let slotdefs = attrs_of(alloc, object, library, "slotdef")?;
+    match slot_pins(alloc, slot, numslots, slotdefs.as_slice()) {
+        Ok(_) => Ok(None),
+        Err(SlotFault::NoMemory) => Err(AllocError),
+        Err(fault) => Ok(Some(fault)),
+    }
+}
+
+/// The count of slots, if `numslots` is 1 to 4 digits. It takes no memory.
+pub fn slot_count(object: &Object, library: Option<&Symbol>) -> Option<u32>
+    ensures { result ≡
+        slot_count (attr object.now (option_copied library.entry) (codes "numslots")) }
+{
+    short_number(attr_of(object, library, "numslots")?)
+}
+
+/// The drawn net pins, by place.
+pub fn drawn_pins(
+    alloc: Global,
+    object: &Object,
+    library: Option<&Symbol>,
+) -> Result<Vec<PlacedPin>, AllocError>
+    ensures { IfOk result (λ pins. pins.items ≡
+        filter is_drawn (pins_of object.now (option_copied library.entry))) }
+{
+    let mut pins = pins_of(alloc, object, library)?.into_vec();
+    pins.retain(|pin| pin.end.is_some());
+    Ok(pins)
+}

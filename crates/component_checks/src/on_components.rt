@@ -1,0 +1,58 @@
+// What is found on components.
+ghost use Rattle.std.specs.Prelude.{◌≡◌, OnOk};
+ghost use Rattle.std.specs.List.{flat_map};
+ghost use Rattle.drc_findings.specs.Order.{with_findings};
+ghost use Rattle.component_checks.specs.OnComponents.{found_on_components};
+ghost use Rattle.component_checks.specs.steps.FoundBy.{found_by};
+
+use crate::checked::CheckedComponent;
+use crate::on_contents::add_on_contents;
+use crate::on_refdes::add_on_refdes;
+use crate::repeats::{Repeats, repeats_of};
+use drc_findings::Finding;
+use std::alloc::{AllocError, Global};
+use std::collections::BTreeSet;
+
+#[tactic(auto, using(drc_findings::proofs::FoundLemmas::with_append))]
+fn add_found_on(
+    alloc: Global,
+    found: &mut BTreeSet<Finding>,
+    repeats: &Repeats,
+    component: &CheckedComponent,
+) -> Result<(), AllocError>
+    ensures { OnOk result
+        (found.new.keys ≡ with_findings found.old.keys (found_by repeats.now component.now)) }
+{
+    add_on_refdes(alloc, found, repeats, component)?;
+    add_on_contents(alloc, found, component)
+}
+
+#[tactic(auto, using(drc_findings::proofs::FoundLemmas::with_append))]
+fn add_found_on_each(
+    alloc: Global,
+    found: &mut BTreeSet<Finding>,
+    repeats: &Repeats,
+    components: &[CheckedComponent],
+) -> Result<(), AllocError>
+    ensures { OnOk result (found.new.keys
+        ≡ with_findings found.old.keys (flat_map (found_by repeats.now) components.now)) }
+{
+    for component in components {
+        add_found_on(alloc, found, repeats, component)?;
+    }
+    Ok(())
+}
+
+/// Adds what is found on components: the rules Unnumbered, NoRefdes, DuplicateRefdes,
+/// DuplicateSlot, BadSlot, UnknownPintype, MissingSymbol and BadNet.
+pub fn add_on_components(
+    alloc: Global,
+    found: &mut BTreeSet<Finding>,
+    components: &[CheckedComponent],
+) -> Result<(), AllocError>
+    ensures { OnOk result (found.new.keys
+        ≡ with_findings found.old.keys (found_on_components components.now)) }
+{
+    let repeats = repeats_of(alloc, components)?;
+    add_found_on_each(alloc, found, &repeats, components)
+}

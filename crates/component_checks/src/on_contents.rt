@@ -1,0 +1,129 @@
+// What is found on the slot, the pins, the symbol and the nets of a component.
+ghost use Rattle.std.specs.Prelude.{◌≡◌, OnOk};
+ghost use Rattle.std.specs.List.{flat_map};
+ghost use Rattle.drc_findings.specs.Order.{with_findings};
+ghost use Rattle.component_checks.specs.OnComponents.{bad_net, bad_slot, fault_word};
+ghost use Rattle.component_checks.specs.OnComponents.{missing_symbol, unknown_pin};
+ghost use Rattle.component_checks.specs.steps.FoundBy.{found_on_contents};
+
+use crate::adding::{add_error, add_warning};
+use crate::checked::CheckedComponent;
+use crate::parts::{is_listed, refdes_of};
+use attr_rules::{PinKind, SlotFault};
+use drc_findings::Finding;
+use pin_matrix::same_kind;
+use pin_place::PlacedPin;
+use printed_texts::{numbered_words, pair_words, pin_words};
+use std::alloc::{AllocError, Global};
+use std::collections::BTreeSet;
+
+fn fault_word(fault: SlotFault) -> &'static str
+    ensures { result.now ≡ fault_word fault }
+{
+    match fault {
+        SlotFault::NoSlotdef => "NoSlotdef",
+        SlotFault::BadSlotdef => "BadSlotdef",
+        SlotFault::SlotRange => "SlotRange",
+        SlotFault::NoMemory => "",
+    }
+}
+
+#[tactic(auto, using(crate::proofs::FaultLemmas::fault_again))]
+fn add_bad_slot(
+    alloc: Global,
+    found: &mut BTreeSet<Finding>,
+    component: &CheckedComponent,
+) -> Result<(), AllocError>
+    ensures { OnOk result
+        (found.new.keys ≡ with_findings found.old.keys (bad_slot component.now)) }
+{
+    if let Some(fault) = component.slot_fault {
+        if is_listed(component) {
+            let words = pair_words(alloc, refdes_of(component), fault_word(fault))?;
+            add_error(found, 5, words)?;
+        }
+    }
+    Ok(())
+}
+
+fn add_unknown_pin(
+    alloc: Global,
+    found: &mut BTreeSet<Finding>,
+    component: &CheckedComponent,
+    pin: &PlacedPin,
+) -> Result<(), AllocError>
+    ensures { OnOk result (found.new.keys
+        ≡ with_findings found.old.keys (unknown_pin component.now pin.now)) }
+{
+    if is_listed(component) && same_kind(pin.kind, PinKind::Unknown) {
+        let words = pin_words(alloc, refdes_of(component), pin.number.as_str())?;
+        add_warning(found, 7, words)?;
+    }
+    Ok(())
+}
+
+#[tactic(auto, using(drc_findings::proofs::FoundLemmas::with_append))]
+fn add_unknown_pins(
+    alloc: Global,
+    found: &mut BTreeSet<Finding>,
+    component: &CheckedComponent,
+    pins: &[PlacedPin],
+) -> Result<(), AllocError>
+    ensures { OnOk result (found.new.keys
+        ≡ with_findings found.old.keys (flat_map (unknown_pin component.now) pins.now)) }
+{
+    for pin in pins {
+        add_unknown_pin(alloc, found, component, pin)?;
+    }
+    Ok(())
+}
+
+fn add_missing_symbol(
+    alloc: Global,
+    found: &mut BTreeSet<Finding>,
+    component: &CheckedComponent,
+) -> Result<(), AllocError>
+    ensures { OnOk result
+        (found.new.keys ≡ with_findings found.old.keys (missing_symbol component.now)) }
+{
+    if !component.has_symbol {
+        let sheet = component.sheet.as_str();
+        add_error(
+            found,
+            13,
+            pair_words(alloc, sheet, component.basename.as_str())?,
+        )?;
+    }
+    Ok(())
+}
+
+fn add_bad_net(
+    alloc: Global,
+    found: &mut BTreeSet<Finding>,
+    component: &CheckedComponent,
+) -> Result<(), AllocError>
+    ensures { OnOk result (found.new.keys ≡ with_findings found.old.keys (bad_net component.now)) }
+{
+    if component.has_bad_net {
+        let sheet = component.sheet.as_str();
+        add_error(found, 17, numbered_words(alloc, sheet, component.id)?)?;
+    }
+    Ok(())
+}
+
+/// Adds what is found on the slot, the pins, the symbol and the nets of a component: the rules
+/// BadSlot, UnknownPintype, MissingSymbol and BadNet.
+#[tactic(auto, using(drc_findings::proofs::FoundLemmas::with_append))]
+pub fn add_on_contents(
+    alloc: Global,
+    found: &mut BTreeSet<Finding>,
+    component: &CheckedComponent,
+) -> Result<(), AllocError>
+    ensures { OnOk result
+        (found.new.keys ≡ with_findings found.old.keys (found_on_contents component.now)) }
+{
+    add_bad_slot(alloc, found, component)?;
+    add_unknown_pins(alloc, found, component, component.pins.as_slice())?;
+    add_missing_symbol(alloc, found, component)?;
+    add_bad_net(alloc, found, component)
+}

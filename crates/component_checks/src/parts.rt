@@ -1,0 +1,63 @@
+// What a component is to the rules.
+ghost use Rattle.std.specs.Prelude.{◌≡◌};
+ghost use Rattle.component_checks.specs.OnComponents.{ends_open, is_listed, is_numbered, is_whole};
+ghost use Rattle.component_checks.specs.OnComponents.{refdes_of, slot_of};
+
+use crate::checked::CheckedComponent;
+
+/// Whether it is a listed part. It takes no memory.
+pub fn is_listed(component: &CheckedComponent) -> bool
+    ensures { result ≡ is_listed component.now }
+{
+    if component.refdes.is_none() {
+        return false;
+    }
+    !component.is_hierarchical && !component.is_port
+}
+
+/// Whether it is a listed part, or has a refdes and sheets below. It takes no memory.
+pub fn is_numbered(component: &CheckedComponent) -> bool
+    ensures { result ≡ is_numbered component.now }
+{
+    if component.refdes.is_none() {
+        return false;
+    }
+    component.is_hierarchical || !component.is_port
+}
+
+/// Whether it has sheets below, or no `slot`. It takes no memory.
+pub fn is_whole(component: &CheckedComponent) -> bool
+    ensures { result ≡ is_whole component.now }
+{
+    component.is_hierarchical || component.slot.is_none()
+}
+
+/// The printed refdes; empty where there is none. It takes no memory.
+pub fn refdes_of(component: &CheckedComponent) -> &str
+    ensures { result.now ≡ refdes_of component.now }
+{
+    match &component.refdes {
+        None => "",
+        Some(refdes) => refdes.as_str(),
+    }
+}
+
+/// The `slot`; empty where there is none. It takes no memory.
+pub fn slot_of(component: &CheckedComponent) -> &str
+    ensures { result.now ≡ slot_of component.now }
+{
+    match &component.slot {
+        None => "",
+        Some(slot) => slot.as_str(),
+    }
+}
+
+/// Whether a text ends in `?`. It takes no memory.
+pub fn ends_open(text: &[u8]) -> bool
+    ensures { result ≡ ends_open text.now }
+{
+    if text.len() == 0 {
+        return false;
+    }
+    text[text.len() - 1] == b'?'
+}

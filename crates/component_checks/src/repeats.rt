@@ -1,0 +1,116 @@
+// Which refdes and which slots are given more than once.
+ghost use Rattle.std.specs.Prelude.{◌≡◌, IfOk};
+ghost use Rattle.std.specs.List.{filter_map};
+ghost use Rattle.component_checks.specs.steps.Repeats.{AreRepeats, numbered_name};
+ghost use Rattle.component_checks.specs.steps.Repeats.{pair_of, slotted_pair};
+ghost use Rattle.component_checks.specs.steps.Repeats.{whole_name};
+
+use crate::checked::CheckedComponent;
+use crate::lists::push_if;
+use crate::parts::{is_listed, is_numbered, is_whole};
+use geda_model::{Block, Line};
+use std::alloc::{AllocError, Global};
+use std::collections::BTreeSet;
+use text_tallies::{PairKey, names_once, names_twice, pairs_twice};
+
+/// What several components have in common.
+#[derive(Drop)]
+pub struct Repeats {
+    /// The refdes that two numbered components have.
+    pub numbered: BTreeSet<Line>,
+    /// The refdes of numbered components that are whole.
+    pub whole: BTreeSet<Line>,
+    /// The refdes and slots that two listed parts have.
+    pub slotted: BTreeSet<PairKey>,
+}
+
+fn numbered_name(component: &CheckedComponent) -> Result<Option<Line>, AllocError>
+    ensures { IfOk result (λ name. name ≡ numbered_name component.now) }
+{
+    if !is_numbered(component) {
+        return Ok(None);
+    }
+    component.refdes.clone()
+}
+
+fn whole_name(component: &CheckedComponent) -> Result<Option<Line>, AllocError>
+    ensures { IfOk result (λ name. name ≡ whole_name component.now) }
+{
+    if !is_whole(component) {
+        return Ok(None);
+    }
+    numbered_name(component)
+}
+
+fn pair_of(refdes: &Option<Line>, slot: &Block) -> Result<Option<PairKey>, AllocError>
+    ensures { IfOk result (λ pair. pair ≡ pair_of refdes.now slot.now) }
+{
+    match refdes {
+        None => Ok(None),
+        Some(refdes) => {
+            let first = refdes.clone()?;
+            let second = slot.clone()?;
+            Ok(Some(PairKey { first, second }))
+        }
+    }
+}
+
+/// The refdes and the slot of a listed part that has one.
+pub fn slotted_pair(component: &CheckedComponent) -> Result<Option<PairKey>, AllocError>
+    ensures { IfOk result (λ pair. pair ≡ slotted_pair component.now) }
+{
+    if !is_listed(component) {
+        return Ok(None);
+    }
+    match &component.slot {
+        None => Ok(None),
+        Some(slot) => pair_of(&component.refdes, slot),
+    }
+}
+
+#[tactic(auto, using(crate::proofs::ListLemmas::push_more))]
+fn numbered_names(alloc: Global, components: &[CheckedComponent]) -> Result<Vec<Line>, AllocError>
+    ensures { IfOk result (λ names. names.items ≡ filter_map numbered_name components.now) }
+{
+    let mut names = Vec::new(alloc);
+    for component in components {
+        push_if(&mut names, numbered_name(component)?)?;
+    }
+    Ok(names)
+}
+
+#[tactic(auto, using(crate::proofs::ListLemmas::push_more))]
+fn whole_names(alloc: Global, components: &[CheckedComponent]) -> Result<Vec<Line>, AllocError>
+    ensures { IfOk result (λ names. names.items ≡ filter_map whole_name components.now) }
+{
+    let mut names = Vec::new(alloc);
+    for component in components {
+        push_if(&mut names, whole_name(component)?)?;
+    }
+    Ok(names)
+}
+
+#[tactic(auto, using(crate::proofs::ListLemmas::push_more))]
+fn slotted_pairs(alloc: Global, components: &[CheckedComponent]) -> Result<Vec<PairKey>, AllocError>
+    ensures { IfOk result (λ pairs. pairs.items ≡ filter_map slotted_pair components.now) }
+{
+    let mut pairs = Vec::new(alloc);
+    for component in components {
+        push_if(&mut pairs, slotted_pair(component)?)?;
+    }
+    Ok(pairs)
+}
+
+/// What these components have in common.
+pub fn repeats_of(alloc: Global, components: &[CheckedComponent]) -> Result<Repeats, AllocError>
+    ensures { IfOk result (AreRepeats components.now) }
+{
+    let numbered = numbered_names(alloc, components)?;
+    let whole = whole_names(alloc, components)?;
+    let slotted = slotted_pairs(alloc, components)?;
+    Ok(Repeats {
+        numbered: names_twice(alloc, numbered)?,
+        whole: names_once(alloc, whole)?,
+        slotted: pairs_twice(alloc, slotted)?,
+    })
+}

@@ -1,0 +1,13 @@
+//! The findings of the check: their order, what they print, and how they are gathered.
+//!
+//! The main type is `Finding`. Rules: docs/RULES.md, "Findings", and docs/FORMATS.md, "Report".
+//! Definitions: specs/Findings.antt, specs/Order.antt and specs/Report.antt.
+#![tactic(auto)]
+
+mod finding;
+mod found;
+mod report;
+
+pub use finding::Finding;
+pub use found::{add_same_text, listed, order_law};
+pub use report::report_text;

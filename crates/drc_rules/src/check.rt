@@ -1,0 +1,83 @@
+// The findings of a project.
+ghost use Rattle.std.specs.Prelude.{◌≡◌, IfOk, OnOk, map};
+ghost use Rattle.std.specs.List.Sorted.{IsStrictlySortedBy};
+ghost use Rattle.hierarchy.specs.Instances.{instances_of, lost_of};
+ghost use Rattle.drc_findings.specs.Order.{by_finding, with_findings};
+ghost use Rattle.drc_rules.specs.Findings.{findings, lost_finding};
+
+use component_checks::{add_on_components, add_on_packages, checked_components};
+use drc_findings::{Finding, listed};
+use geda_model::Project;
+use hierarchy::{Hierarchy, Lost};
+use net_checks::add_on_nets;
+use net_names::Nets;
+use pin_matrix::{Level, Matrix};
+use printed_texts::{name_words, pair_words};
+use std::alloc::{AllocError, Global};
+use std::collections::BTreeSet;
+
+fn lost_finding(alloc: Global, lost: &Lost) -> Result<Finding, AllocError>
+    ensures { IfOk result (λ made. made ≡ lost_finding lost.now) }
+{
+    match lost {
+        Lost::MissingSource { sheet, value } => {
+            let words = pair_words(alloc, sheet.as_str(), value.as_str())?;
+            Ok(Finding {
+                code: 14,
+                level: Level::Error,
+                words,
+            })
+        }
+        Lost::SourceLoop { refdes, sheet } => {
+            let words = pair_words(alloc, refdes.as_str(), sheet.as_str())?;
+            Ok(Finding {
+                code: 15,
+                level: Level::Error,
+                words,
+            })
+        }
+        Lost::Unreached { sheet } => {
+            let words = name_words(alloc, sheet.as_str())?;
+            Ok(Finding {
+                code: 16,
+                level: Level::Warning,
+                words,
+            })
+        }
+    }
+}
+
+fn add_lost(alloc: Global, found: &mut BTreeSet<Finding>, lost: &[Lost]) -> Result<(), AllocError>
+    ensures { OnOk result (found.new.keys
+        ≡ with_findings found.old.keys (map lost_finding lost.now)) }
+{
+    for one in lost {
+        found.insert(lost_finding(alloc, one)?)?;
+    }
+    Ok(())
+}
+
+/// The findings of a project with this hierarchy and this net list under a matrix, in order, equal
+/// ones once (docs/RULES.md, "Findings").
+#[tactic(auto, using(drc_findings::proofs::FoundLemmas::with_append))]
+pub fn findings(
+    alloc: Global,
+    project: &Project,
+    hierarchy: &Hierarchy,
+    nets: &Nets,
+    matrix: &Matrix,
+) -> Result<Vec<Finding>, AllocError>
+    requires instances { hierarchy.now.instances ≡ instances_of project.now.parts }
+    requires lost { hierarchy.now.lost ≡ lost_of project.now.parts }
+    ensures findings { IfOk result
+        (λ list. list.items ≡ findings project.now.parts nets.now matrix.now) }
+    ensures rising { IfOk result (λ list. IsStrictlySortedBy by_finding list.items) }
+{
+    let components = checked_components(alloc, project, hierarchy.instances.as_slice())?;
+    let mut found = BTreeSet::new(alloc);
+    add_on_components(alloc, &mut found, &components)?;
+    add_on_packages(alloc, &mut found, &components, nets.packages.as_slice())?;
+    add_on_nets(alloc, &mut found, matrix, nets.nets.as_slice())?;
+    add_lost(alloc, &mut found, hierarchy.lost.as_slice())?;
+    listed(alloc, found)
+}

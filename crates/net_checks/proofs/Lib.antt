@@ -1,0 +1,4 @@
+pub mod KindLemmas
+pub mod ConflictLemmas
+pub mod PinLemmas
+pub mod Cases

@@ -1,0 +1,2 @@
+pub mod OnNets
+pub mod steps

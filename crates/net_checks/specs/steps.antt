@@ -1,0 +1,3 @@
+-- Steps of the code; no public clause cites them.
+pub mod Counts
+pub mod Pins

@@ -1,0 +1,47 @@
+-- Steps of the code; no public clause cites them.
+-- Sets of the pins of nets and of their names, and what is found by them.
+use Rattle.std.specs.Prelude.{◌≡◌, ℕ, Bool, ◌&&◌, ◌||◌, List}
+use Rattle.std.specs.BTreeSet.{BTreeSet}
+use Rattle.std.specs.List.{flat_map, list_any}
+use Rattle.link_classes.specs.declared.member.Member.{Member}
+use Rattle.net_names.specs.declared.nets.Net.{Net}
+use Rattle.printed_texts.specs.PrintedTexts.{pin_words}
+use Rattle.text_tallies.specs.LookAlike.{look_alike}
+use Rattle.text_tallies.specs.NameSets.{HasNames}
+use Rattle.text_tallies.specs.PairSets.{HasPairs, PairData, has_pair, same_pair}
+use Rattle.text_tallies.specs.TwoOfAList.{two_pass}
+use Rattle.drc_findings.specs.declared.finding.Finding.{Finding}
+use Rattle.drc_findings.specs.Findings.{an_error, found_if}
+use Rattle.net_checks.specs.OnNets.{has_pair_in, names_of, pair_of}
+
+-- a member with this refdes and this number
+abbrev pub is_pair : PairData → Member → Bool
+is_pair q m = same_pair q (pair_of m)
+
+-- the pairs of members in a set
+abbrev pub AddsPairs : List Member → BTreeSet PairData → BTreeSet PairData → Type 0
+AddsPairs members old new = (q : PairData)
+    → has_pair new q ≡ (has_pair old q || list_any (is_pair q) members)
+
+-- those that are in the set of those that were seen
+abbrev pub AddsPairsIfSeen :
+    List Member → BTreeSet PairData → BTreeSet PairData → BTreeSet PairData → Type 0
+AddsPairsIfSeen members seen old new = (q : PairData)
+    → has_pair new q ≡ (has_pair old q || (has_pair seen q && list_any (is_pair q) members))
+
+-- the set has the pins that are members of two of these nets
+abbrev pub HasPinsOnTwo : List Net → BTreeSet PairData → Type 0
+HasPinsOnTwo nets on_two = HasPairs (λ q. two_pass (has_pair_in q) nets) on_two
+
+-- the set has the printed texts of names of these nets that differ and print alike
+abbrev pub HasAlikeNames : List Net → BTreeSet (List ℕ) → Type 0
+HasAlikeNames nets alike = HasNames (look_alike (names_of nets)) alike
+
+-- what is found on a member, by the set of the pins on two nets
+abbrev pub member_on_two_by : BTreeSet PairData → Member → List Finding
+member_on_two_by on_two m =
+    found_if (has_pair on_two (pair_of m)) (an_error 12 (pin_words m.refdes m.pin))
+
+-- on members
+abbrev pub pins_on_two_by : BTreeSet PairData → List Member → List Finding
+pins_on_two_by on_two members = flat_map (member_on_two_by on_two) members

@@ -1,0 +1,60 @@
+// Nets that nothing drives.
+ghost use Rattle.std.specs.Prelude.{◌≡◌, OnOk};
+ghost use Rattle.std.specs.List.{list_all};
+ghost use Rattle.drc_findings.specs.Order.{with_findings};
+ghost use Rattle.net_checks.specs.OnNets.{is_driven_kind, is_undriven, not_driven};
+
+use crate::kind_counts::is_of_kind;
+use crate::unconnected::is_unconnected;
+use attr_rules::PinKind;
+use drc_findings::Finding;
+use net_names::{Member, Net};
+use pin_matrix::Level;
+use printed_texts::name_words;
+use std::alloc::{AllocError, Global};
+use std::collections::BTreeSet;
+
+fn is_driven_kind(member: &Member) -> bool
+    ensures { result ≡ is_driven_kind member.now }
+{
+    is_of_kind(member, PinKind::In) || is_of_kind(member, PinKind::Clk)
+}
+
+fn are_driven_kinds(members: &[Member]) -> bool
+    ensures { result ≡ list_all is_driven_kind members.now }
+{
+    members.iter().all(|member| is_driven_kind(member))
+}
+
+fn is_undriven(net: &Net) -> bool
+    ensures { result ≡ is_undriven net.now }
+{
+    if is_unconnected(net) || net.global {
+        return false;
+    }
+    let members = net.members.as_slice();
+    if members.len() == 0 {
+        return false;
+    }
+    are_driven_kinds(members)
+}
+
+/// Adds what is found on a net that nothing drives.
+pub fn add_not_driven(
+    alloc: Global,
+    found: &mut BTreeSet<Finding>,
+    net: &Net,
+) -> Result<(), AllocError>
+    ensures { OnOk result
+        (found.new.keys ≡ with_findings found.old.keys (not_driven net.now)) }
+{
+    if is_undriven(net) {
+        let words = name_words(alloc, net.name.as_str())?;
+        found.insert(Finding {
+            code: 11,
+            level: Level::Error,
+            words,
+        })?;
+    }
+    Ok(())
+}

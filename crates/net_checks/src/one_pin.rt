@@ -1,0 +1,32 @@
+// Nets with one member.
+ghost use Rattle.std.specs.Prelude.{◌≡◌, OnOk};
+ghost use Rattle.drc_findings.specs.Order.{with_findings};
+ghost use Rattle.net_checks.specs.OnNets.{one_pin};
+
+use crate::unconnected::is_unconnected;
+use drc_findings::Finding;
+use net_names::Net;
+use pin_matrix::Level;
+use printed_texts::name_words;
+use std::alloc::{AllocError, Global};
+use std::collections::BTreeSet;
+
+/// Adds what is found on a net with one member.
+pub fn add_one_pin(
+    alloc: Global,
+    found: &mut BTreeSet<Finding>,
+    net: &Net,
+) -> Result<(), AllocError>
+    ensures { OnOk result
+        (found.new.keys ≡ with_findings found.old.keys (one_pin net.now)) }
+{
+    if !is_unconnected(net) && net.members.as_slice().len() == 1 {
+        let words = name_words(alloc, net.name.as_str())?;
+        found.insert(Finding {
+            code: 9,
+            level: Level::Warning,
+            words,
+        })?;
+    }
+    Ok(())
+}

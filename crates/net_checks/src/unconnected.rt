@@ -1,0 +1,75 @@
+// Pins that join nothing.
+ghost use Rattle.std.specs.Prelude.{◌≡◌, OnOk};
+ghost use Rattle.std.specs.List.{flat_map};
+ghost use Rattle.drc_findings.specs.Order.{with_findings};
+ghost use Rattle.net_checks.specs.OnNets.{is_unconnected, unconnected_member, unconnected_pin};
+
+use attr_rules::PinKind;
+use drc_findings::Finding;
+use net_names::{Member, Net, NetSort};
+use pin_matrix::{Matrix, is_correct};
+use printed_texts::pin_words;
+use std::alloc::{AllocError, Global};
+use std::collections::BTreeSet;
+
+/// Whether a net is an unconnected pin. It takes no memory.
+pub fn is_unconnected(net: &Net) -> bool
+    ensures { result ≡ is_unconnected net.now }
+{
+    match net.sort {
+        NetSort::Unconnected => true,
+        NetSort::Named | NetSort::Unnamed => false,
+    }
+}
+
+fn add_member(
+    alloc: Global,
+    found: &mut BTreeSet<Finding>,
+    matrix: &Matrix,
+    net: &Net,
+    member: &Member,
+) -> Result<(), AllocError>
+    ensures { OnOk result (found.new.keys
+        ≡ with_findings found.old.keys (unconnected_member matrix.now net.now member.now)) }
+{
+    let level = matrix.entry(PinKind::Unconnected, member.kind);
+    if is_unconnected(net) && !is_correct(level) {
+        let words = pin_words(alloc, member.refdes.as_str(), member.pin.as_str())?;
+        found.insert(Finding {
+            code: 10,
+            level,
+            words,
+        })?;
+    }
+    Ok(())
+}
+
+#[tactic(auto, using(drc_findings::proofs::FoundLemmas::flat_more))]
+fn add_members(
+    alloc: Global,
+    found: &mut BTreeSet<Finding>,
+    matrix: &Matrix,
+    net: &Net,
+    members: &[Member],
+) -> Result<(), AllocError>
+    ensures { OnOk result (found.new.keys ≡ with_findings found.old.keys
+        (flat_map (unconnected_member matrix.now net.now) members.now)) }
+{
+    for member in members {
+        add_member(alloc, found, matrix, net, member)?;
+    }
+    Ok(())
+}
+
+/// Adds what is found on the member of an unconnected pin.
+pub fn add_unconnected_pin(
+    alloc: Global,
+    found: &mut BTreeSet<Finding>,
+    matrix: &Matrix,
+    net: &Net,
+) -> Result<(), AllocError>
+    ensures { OnOk result (found.new.keys
+        ≡ with_findings found.old.keys (unconnected_pin matrix.now net.now)) }
+{
+    add_members(alloc, found, matrix, net, net.members.as_slice())
+}

@@ -1,0 +1,3 @@
+pub mod Matrices
+pub mod MatrixFiles
+pub mod steps

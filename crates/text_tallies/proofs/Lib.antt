@@ -1,0 +1,3 @@
+pub mod PairLemmas
+pub mod SetLemmas
+pub mod AlikeLemmas

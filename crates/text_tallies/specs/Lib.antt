@@ -1,0 +1,5 @@
+pub mod TwoOfAList
+pub mod NameSets
+pub mod PairSets
+pub mod LookAlike
+pub mod steps
