@@ -9,8 +9,9 @@ import functools
 import re
 
 DIGITS = re.compile(r"[0-9]{1,4}")
+KINDS = ("unknown", "in", "out", "io", "oc", "oe", "pas", "tp", "tri", "clk", "pwr")
 
-Pin = collections.namedtuple("Pin", "end number label")
+Pin = collections.namedtuple("Pin", "end number label kind")
 
 
 def attributes(texts):
@@ -63,13 +64,19 @@ def net_entry(value):
     return (name, numbers) if name and colon and numbers else None
 
 
+def kind_of(pintype):
+    """The kind that a value of `pintype` says; unknown for any other value, and for none."""
+    return pintype if pintype in KINDS else "unknown"
+
+
 class Component:
     """A component under its id with the symbols that were read, by name."""
 
     def __init__(self, key, item, symbols):
         self.key, self.item = key, item
-        is_embedded = item.parts is not None
-        self.parts = item.parts if is_embedded else symbols.get(item.values[-1].decode(), [])
+        is_embedded, self.basename = item.parts is not None, item.values[-1].decode()
+        self.has_symbol = is_embedded or self.basename in symbols
+        self.parts = item.parts if is_embedded else symbols.get(self.basename, [])
         self.place = (lambda point: point) if is_embedded else self.placed
         self.attached = list(attributes(item.texts))
         self.inherited = list(attributes(part for part in self.parts if part.letter == b"T"))
@@ -110,11 +117,16 @@ class Component:
         """The drawn pins: the active end, the number and the label of each net pin."""
         return [] if self.is_graphical else list(self.drawn_pins())
 
-    def drawn_pins(self):
+    @functools.cached_property
+    def slot_numbers(self):
+        """The pin numbers of the component's slot, or the fault; None where it has no slot."""
         slot = self.value("slot")
-        numbers = "no slot"
-        if slot is not None:
-            numbers = slot_list(slot, self.value("numslots"), self.values("slotdef"))
+        if slot is None:
+            return None
+        return slot_list(slot, self.value("numslots"), self.values("slotdef"))
+
+    def drawn_pins(self):
+        numbers = self.slot_numbers
         for part in self.parts:
             if part.letter != b"P" or part.values[5] != 0:
                 continue
@@ -125,7 +137,8 @@ class Component:
             if isinstance(numbers, list) and seq and seq <= len(numbers):
                 number = numbers[seq - 1]
             ends = part.values[:2], part.values[2:4]
-            yield Pin(self.place(tuple(ends[part.values[6]])), number, first_of(own, "pinlabel"))
+            end = self.place(tuple(ends[part.values[6]]))
+            yield Pin(end, number, first_of(own, "pinlabel"), kind_of(first_of(own, "pintype")))
 
     @functools.cached_property
     def global_names(self):

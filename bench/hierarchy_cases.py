@@ -222,7 +222,8 @@ def faults():
         "x.sch": deep, "deep.sch": refused}, ["x.sch"], (1, "deep.sch:2: FieldCount")
     yield "a missing sheet below is no fault", {"x.sch": box_of + deep}, ["x.sch"], [""]
     for words in ([], ["x.sch", "x.sch"], ["x.sch", "y.sch", "x.sch"], ["../x.sch"], ["-x.sch"],
-                  ["--", "x.sch"], ["x.sch", "-"], ["x.sch", ""], [".x.sch"], ["é.sch"],
+                  ["--"], ["--form", "x", "x.sch"], ["x.sch", "-"], ["x.sch", ""], [".x.sch"],
+                  ["é.sch"],
                   ["x" * 101], ["x.sch", "a b"], ["a,b"], ["no.sch", "no.sch"]):
         yield f"the words {words}", {"x.sch": C1, "-x.sch": C1}, words, (2, "usage")
 

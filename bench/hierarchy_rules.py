@@ -21,7 +21,7 @@ MOST_ROUTE = 16
 MOST_WEIGHT = 4_000_000
 NAME = re.compile(r"[A-Za-z0-9_+-][A-Za-z0-9_+.-]{0,99}")
 
-Conductor = collections.namedtuple("Conductor", "key names member ties")
+Conductor = collections.namedtuple("Conductor", "key names member ties kind is_hidden")
 Drawn = collections.namedtuple("Drawn", "key place ends names component")
 
 
@@ -146,7 +146,7 @@ class Instance:
 
     def __init__(self, sheet, way, route=(), path="", labels=None):
         self.sheet, self.way, self.route, self.path = sheet, way, route, path
-        self.labels = labels or {}
+        self.name, self.labels = way[-1], labels or {}
 
     def under(self, text):
         """A name or a refdes of the sheet, as it prints."""
@@ -170,6 +170,15 @@ class Instance:
             for source in found:
                 yield Instance(sheets[source], (*self.way, source), route, path, labels)
 
+    def lost(self, sheets):
+        """The sources of the sheet that make no instance, where they lead to no sheet or back."""
+        for component in self.sheet.components:
+            for source in component.sources:
+                if source not in sheets:
+                    yield "MissingSource", self.name, source
+                elif source in self.way and component.refdes is not None:
+                    yield "SourceLoop", self.under(component.refdes), source
+
     def is_listed(self, component):
         is_part = component.refdes is not None and not component.is_graphical
         return is_part and not component.sources and component.refdes not in self.labels
@@ -179,18 +188,17 @@ class Instance:
         label, and a pin of a composite to what is tied to it."""
         key, component = (self.route, drawn.key, drawn.place), drawn.component
         if component is None:
-            return Conductor(key, [self.under(name) for name in drawn.names], None, ())
+            return Conductor(key, list(map(self.under, drawn.names)), None, (), None, False)
         ties = [*self.labels.get(component.refdes, ()), *([key] if component.sources else [])]
-        number = component.pins[drawn.place].number
-        is_member = self.is_listed(component)
-        member = (self.under(component.refdes), number) if is_member else None
-        return Conductor(key, drawn.names, member, ties)
+        pin, is_member = component.pins[drawn.place], self.is_listed(component)
+        member = (self.under(component.refdes), pin.number) if is_member else None
+        return Conductor(key, drawn.names, member, ties, pin.kind, False)
 
     def hidden_pins(self):
         for component in filter(self.is_listed, self.sheet.components):
             for number, names in component.hidden():
-                member = self.under(component.refdes), number
-                yield Conductor((self.route, component.key, 0), names, member, ())
+                key, member = (self.route, component.key, 0), (self.under(component.refdes), number)
+                yield Conductor(key, names, member, (), "pwr", True)
 
 
 def instances_of(sheets):
@@ -203,7 +211,7 @@ def instances_of(sheets):
     while waiting:
         instance = waiting.pop()
         found.append(instance)
-        weight += weights[instance.way[-1]]
+        weight += weights[instance.name]
         are_many = len(found) > MOST_INSTANCES or weight > MOST_WEIGHT
         if are_many or len(instance.route) > MOST_ROUTE:
             raise Ends(1, "TooManyInstances")
@@ -215,10 +223,9 @@ def groups_of(instances):
     """What touches in each instance, as lists of conductors, and each hidden pin by itself."""
     touching = {}
     for instance in instances:
-        name = instance.way[-1]
-        if name not in touching:
-            touching[name] = instance.sheet.touching()
-        for group in touching[name]:
+        if instance.name not in touching:
+            touching[instance.name] = instance.sheet.touching()
+        for group in touching[instance.name]:
             yield [instance.flattened(drawn) for drawn in group]
         for hidden in instance.hidden_pins():
             yield [hidden]

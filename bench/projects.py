@@ -30,11 +30,31 @@ from project_cases import case_table
 from project_limits import limits
 from project_rules import answer_of
 from random_files import random_file
-from random_projects import random_folder
+from random_projects import random_folder, with_form
 
 PROGRAM = pathlib.Path(__file__).resolve().parent.parent / "out" / "gafd"
 LONGEST = 60
 MOST_SHRUNK = 1_000_000
+
+
+class Netlist:
+    """A command of the program: what the rules tell of it, and how often which answers came."""
+
+    name, answer_of = "netlist", staticmethod(answer_of)
+
+    def __init__(self):
+        self.sorts = collections.Counter()
+
+    def count(self, answer):
+        """Net lists by whether they have parts of sheets below, faults by their last word."""
+        status, out, err = answer
+        parts = out.split(b"\nnets ")[0].split(b"\n")[1:]
+        are_below = any(b"/" in part.split(b"\t")[0] for part in parts)
+        lists = "net lists of several levels" if are_below else "net lists"
+        self.sorts[err.decode().split()[-1] if status != 0 else lists] += 1
+
+    def summary(self):
+        return ", ".join(f"{number} {sort}" for sort, number in self.sorts.most_common())
 
 
 def put(folder, files):
@@ -45,11 +65,11 @@ def put(folder, files):
         path.write_bytes(data)
 
 
-def difference(program, folder, words, wanted):
+def difference(program, command, folder, words, wanted):
     """What differs from the wanted answer, for words in a folder that has been made."""
     try:
-        command = [program, "netlist", *words]
-        run = subprocess.run(command, cwd=folder, capture_output=True, timeout=LONGEST)
+        words = [program, command.name, *words]
+        run = subprocess.run(words, cwd=folder, capture_output=True, timeout=LONGEST)
     except subprocess.TimeoutExpired:
         return f"no end within {LONGEST} seconds"
     got = run.returncode, run.stdout, run.stderr
@@ -62,21 +82,29 @@ def difference(program, folder, words, wanted):
     return f"line {line} is {was!r}, wanted {should!r}"
 
 
-def differs(program, files, words):
+def differs(program, command, files, words):
     with tempfile.TemporaryDirectory() as folder:
         put(folder, files)
-        return difference(program, folder, words, answer_of(files, words))
+        return difference(program, command, folder, words, command.answer_of(files, words))
 
 
-def shrunk(program, files, words):
+def fewer_words(words):
+    """The words without two that follow each other, and without one."""
+    for count in (2, 1):
+        for at in range(len(words) - count + 1):
+            yield words[:at] + words[at + count :]
+
+
+def shrunk(program, command, files, words):
     """The words, the files and the lines without which there is no difference."""
-    for word in list(words):
-        fewer = [other for other in words if other != word]
-        if differs(program, files, fewer):
-            words = fewer
+    less = words
+    while less is not None:
+        words = less
+        found = (it for it in fewer_words(words) if differs(program, command, files, it))
+        less = next(found, None)
     for other in list(files):
         fewer = {known: data for known, data in files.items() if known != other}
-        if other not in words and differs(program, fewer, words):
+        if other not in words and differs(program, command, fewer, words):
             files = fewer
     for other in files:
         size = 64
@@ -84,7 +112,7 @@ def shrunk(program, files, words):
             lines, at = files[other].split(b"\n"), 0
             while at < len(lines):
                 less = {**files, other: b"\n".join(lines[:at] + lines[at + size :])}
-                if differs(program, less, words):
+                if differs(program, command, less, words):
                     files, lines = less, lines[:at] + lines[at + size :]
                 else:
                     at += size
@@ -92,20 +120,21 @@ def shrunk(program, files, words):
     return files, words
 
 
-def keep(program, what, files, words, said):
+def keep(program, command, what, files, words, said):
     """Prints a difference with the folder that is kept, and answers the status."""
     kept = pathlib.Path(tempfile.mkdtemp(prefix="gafd-differs-"))
     told = " ".join(words) if len(words) < 100 else f"{len(words)} words"
-    print(f"{what}: netlist {told}: {said}", flush=True)
+    print(f"{what}: {command.name} {told}: {said}", flush=True)
     if len(files) > 100 or sum(map(len, files.values())) > MOST_SHRUNK:
         put(kept, files)
         print(f"kept in {kept}")
         return 1
     put(kept / "whole", files)
-    less, words = shrunk(program, files, words)
+    less, words = shrunk(program, command, files, words)
     put(kept, less)
-    status, out, err = answer_of(less, words)
-    print(f"cut down: netlist {' '.join(words)}: {differs(program, less, words)}\n")
+    status, out, err = command.answer_of(less, words)
+    said = differs(program, command, less, words)
+    print(f"cut down: {command.name} {' '.join(words)}: {said}\n")
     for name, data in less.items():
         print(f"{name}:\n{data.decode(errors='replace')}")
     print(f"wanted: status {status}\n{(out + err).decode()}")
@@ -113,30 +142,20 @@ def keep(program, what, files, words, said):
     return 1
 
 
-def sort_of(answer):
-    """For the summary: how a run ends; net lists by whether they have parts of sheets below."""
-    status, out, err = answer
-    if status != 0:
-        return err.decode().split()[-1]
-    parts = out.split(b"\nnets ")[0].split(b"\n")[1:]
-    are_below = any(b"/" in part.split(b"\t")[0] for part in parts)
-    return "net lists of several levels" if are_below else "net lists"
-
-
-def compare_folders(program, folders):
+def compare_folders(program, command, folders):
     """Compares folders, each with what it shows and the words of its runs."""
-    started, sorts = time.perf_counter(), collections.Counter()
+    started, count = time.perf_counter(), 0
     for what, files, runs in folders:
         with tempfile.TemporaryDirectory() as folder:
             put(folder, files)
             for words in runs:
-                wanted = answer_of(files, words)
-                if said := difference(program, folder, words, wanted):
-                    return keep(program, what, files, words, said)
-                sorts[sort_of(wanted)] += 1
-    told = ", ".join(f"{number} {sort}" for sort, number in sorts.most_common())
+                wanted = command.answer_of(files, words)
+                if said := difference(program, command, folder, words, wanted):
+                    return keep(program, command, what, files, words, said)
+                command.count(wanted)
+                count += 1
     seconds = time.perf_counter() - started
-    print(f"{sum(sorts.values())} runs are the same: {told}; {seconds:.1f} s")
+    print(f"{count} runs are the same: {command.summary()}; {seconds:.1f} s")
     return 0
 
 
@@ -145,7 +164,9 @@ def random_folders(seed, count):
         yield what, files, [words]
     for number in range(0, count, 10):
         files, runs = random_folder(seed, number)
-        yield f"folder {number} of seed {seed}", files, runs[: count - number]
+        rng = random.Random(f"forms {seed} {number}")
+        yield f"folder {number} of seed {seed}", files, [
+            with_form(rng, words) for words in runs[: count - number]]
 
 
 def limit_folders():
@@ -159,10 +180,19 @@ def folder_of(top):
     return str(top), files, [[name] for name in sorted(files) if name.endswith(".sch")]
 
 
+def failed_of(cases):
+    """How many cases have another answer than is wanted; they are printed."""
+    failed = 0
+    for what, got, wanted in cases:
+        if got != wanted:
+            failed += 1
+            print(f"{what}:\ngot    {got}\nwanted {wanted}")
+    return failed
+
+
 def self_test():
     """The rules told here, on folders with known answers, and on plain sheets as compare.py has
     them: what it has drawn, and what it tells of random files."""
-    failed = 0
     cases = [(what, answer_of(files, words), wanted) for what, files, words, wanted in case_table()]
     known = len(cases)
     for number in range(500):
@@ -177,10 +207,7 @@ def self_test():
             continue
         if wanted is not None:
             cases.append((f"file {number}", answer_of({"x.sch": data}, "x.sch"), (0, wanted, b"")))
-    for what, got, wanted in cases:
-        if got != wanted:
-            failed += 1
-            print(f"{what}:\ngot    {got}\nwanted {wanted}")
+    failed = failed_of(cases)
     said = f"{known} folders with known answers, {len(cases) - known} plain sheets"
     print(f"{said}:", f"{failed} failed" if failed else "all passed")
     return 1 if failed else 0
@@ -201,10 +228,10 @@ def main():
     if not program.exists():
         sys.exit(f"{program} is not built: run ./gafd once")
     if asked.limits:
-        return compare_folders(program, limit_folders())
+        return compare_folders(program, Netlist(), limit_folders())
     if asked.folder:
-        return compare_folders(program, [folder_of(asked.folder)])
-    return compare_folders(program, random_folders(asked.seed, asked.count))
+        return compare_folders(program, Netlist(), [folder_of(asked.folder)])
+    return compare_folders(program, Netlist(), random_folders(asked.seed, asked.count))
 
 
 if __name__ == "__main__":

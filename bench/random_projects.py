@@ -117,7 +117,11 @@ class File(compare.Drawing):
         if self.rng.random() < self.often["label"]:
             found.append(f"pinlabel={self.rng.choice(self.labels)}")
             found += self.rng.choice([[], [], [], [f"pinlabel={self.rng.choice(LABELS)}"]])
-        self.block(found)
+        self.block(found + self.kind())
+
+    def kind(self):
+        """What says of which kind a pin is: the net list does not ask."""
+        return []
 
     def other(self):
         """What joins nothing in a symbol and on a sheet, with attached texts that say nothing."""
@@ -171,8 +175,8 @@ class File(compare.Drawing):
             self.rng.choice(draw)()
 
 
-def drawn(rng, what, *more):
-    file = File(rng, *more)
+def drawn(rng, make, what, *more):
+    file = make(rng, *more)
     getattr(file, what)()
     return file.text.encode()
 
@@ -198,28 +202,38 @@ def drawn_words(rng):
     return words
 
 
-def random_folder(seed, number, runs=10):
-    """A folder, and the words of its runs."""
+def random_folder(seed, number, runs=10, make=File):
+    """A folder, and the words of its runs; `make` makes the files that are drawn."""
     rng = random.Random(f"{seed} {number}")
     have_loops, files = rng.random() < 0.15, {}
     labels = rng.sample(LABELS, rng.choice([1, 2, 2, 4]))
     for level, names in enumerate(LEVELS):
         for name in names:
             below = SHEETS if have_loops else sheets_below(rng, level)
-            files[name] = drawn(rng, "sheet", labels, below)
+            files[name] = drawn(rng, make, "sheet", labels, below)
     if rng.random() < 0.05:
         name = rng.choice(SHEETS)
         files[name] = damaged(rng, damaged(rng, files[name]))
     for name in NAMES + [".hid.sym", "é.sym", "y" * 101, "sub/a.sym"]:
         if rng.random() < 0.9:
             below = SHEETS if have_loops else rng.sample(SHEETS[3:], 2)
-            files[name] = drawn(rng, "symbol", labels, below)
-    files["bad.sym"] = damaged(rng, damaged(rng, drawn(rng, "symbol")))
+            files[name] = drawn(rng, make, "symbol", labels, below)
+    files["bad.sym"] = damaged(rng, damaged(rng, drawn(rng, make, "symbol")))
     files["EMBEDDEDa.sym"] = files["bad.sym"]
     for name, graphical in (("box.sym", 0), ("E_", 1)):
         if rng.random() < 0.2:
-            source = File(rng)
+            source = make(rng)
             source.content(f"source={rng.choice(SHEETS)}")
             source.content(f"graphical={graphical}")
             files[name] = source.text.encode()
     return files, [drawn_words(rng) for _ in range(runs)]
+
+
+def with_form(rng, words):
+    """The words, in one of four cases with a form somewhere among them."""
+    if rng.random() < 0.75:
+        return words
+    form = rng.choice(["list", "tango", "tango", "pcb", "bom", "bom", "x"])
+    option = rng.choice([["--form", form], [f"--form={form}"]])
+    at = rng.choice([0, len(words)])
+    return words[:at] + option + words[at:]

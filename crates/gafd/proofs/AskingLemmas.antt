@@ -17,7 +17,8 @@ use Rattle.geda_model.specs.Shapes.{ComponentData}
 use Rattle.geda_model.specs.Sheets.{ObjectData, SymbolData}
 use Rattle.gafd.specs.declared.fault.RunFault.{RunFault}
 use Rattle.gafd.specs.ProjectFiles.{AskedSymbol, Gathered, ProjectFiles, SymbolComesTo, SymbolFileComesTo, SymbolUnless, Then, asked_symbol, has_name, library_read, named_sheets, sources_of, with_sources, with_symbol, with_value}
-use Rattle.gafd.specs.steps.Gathering.{OfSome, SymbolFrom, SymbolOf}
+use Rattle.gafd.specs.Answers.{OfSome}
+use Rattle.gafd.specs.steps.Gathering.{SymbolFrom, SymbolOf}
 use Rattle.indexmap.specs.IndexSet.{insert_key}
 use Rattle.geda_model.specs.declared.object.Body.TheVariants as bodies
 use Rattle.geda_model.specs.declared.shape.Shape.{Shape}

@@ -3,7 +3,8 @@ mod Passing
 mod Reading
 mod ExportLemmas
 mod NameLemmas
-mod NetlistLemmas
+mod ProjectLemmas
+mod CheckLemmas
 mod OpeningLemmas
 mod TextLemmas
 mod AskingLemmas

@@ -7,7 +7,7 @@ use Rattle.geda_grammar.specs.declared.kind.ReadKind.{ReadKind}
 use Rattle.geda_grammar.specs.Faults.{FileKind, IsFault}
 use Rattle.geda_read.specs.declared.fault.ReadFault.{ReadFault}
 use Rattle.geda_read.specs.declared.fault.ReadFault.TheVariants as read
-use Rattle.gafd.specs.declared.command.Command.{Command}
+use Rattle.command_words.specs.declared.command.Command.{Command}
 use Rattle.gafd.specs.declared.fault.RunFault.{RunFault}
 use Rattle.gafd.specs.declared.fault.RunFault.TheVariants as faults
 use Rattle.gafd.specs.declared.sink.SinkFault.{SinkFault}
@@ -27,6 +27,8 @@ pub answer_from : {A : Type 0} (counts : Counts) (P Q : Result A RunFault → Ty
 answer_from counts P Q (Ok answer) f h = f (Ok answer) h
 answer_from counts P Q (Err (faults.Missing file)) f h = f (Err (faults.Missing file)) h
 answer_from counts P Q (Err (faults.Refused file line kind)) f h = f (Err (faults.Refused file line kind)) h
+answer_from counts P Q (Err (faults.BadToml file)) f h = f (Err (faults.BadToml file)) h
+answer_from counts P Q (Err (faults.BadRows file)) f h = f (Err (faults.BadRows file)) h
 answer_from counts P Q (Err faults.TooManyObjects) f h = f (Err faults.TooManyObjects) h
 answer_from counts P Q (Err faults.ProjectFull) f h = f (Err faults.ProjectFull) h
 answer_from counts P Q (Err faults.TooManyInstances) f h = f (Err faults.TooManyInstances) h
@@ -43,6 +45,8 @@ risen before between now later h = omega arith
 pub fault_later : {A B : Type 0} (before between now : ℕ) (P : Result A RunFault → Type 0) (Q : Result B RunFault → Type 0) (e : RunFault) → before ≤ between → (P (Err e) → Q (Err e)) → AnswerOf (counts between now) P (Err e) → AnswerOf (counts before now) Q (Err e)
 fault_later before between now P Q (faults.Missing file) later f h = f h
 fault_later before between now P Q (faults.Refused file line kind) later f h = f h
+fault_later before between now P Q (faults.BadToml file) later f h = f h
+fault_later before between now P Q (faults.BadRows file) later f h = f h
 fault_later before between now P Q faults.TooManyObjects later f h = f h
 fault_later before between now P Q faults.ProjectFull later f h = f h
 fault_later before between now P Q faults.TooManyInstances later f h = f h
@@ -72,6 +76,8 @@ module _ (files : Option Files) (command : Option Command) (folder : Counts) (ou
   is_quiet : (f : RunFault) → EndsWith files command folder out (Err f) → NamesFile f → IsQuiet out
   is_quiet (faults.Missing file) h named = h.1
   is_quiet (faults.Refused file line kind) h named = h.1
+  is_quiet (faults.BadToml file) h named = h.1
+  is_quiet (faults.BadRows file) h named = h.1
   is_quiet faults.TooManyObjects h named = absurd named
   is_quiet faults.ProjectFull h named = absurd named
   is_quiet faults.TooManyInstances h named = absurd named

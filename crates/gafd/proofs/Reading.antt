@@ -8,7 +8,8 @@ use Rattle.geda_grammar.specs.Spelling.{Spells}
 use Rattle.geda_grammar.specs.Faults.{FileKind, IsFault, sheet_file, symbol_file}
 use Rattle.gafd.specs.declared.fault.RunFault.{RunFault}
 use Rattle.gafd.specs.ProjectFiles.{ReadAs}
-use Rattle.gafd.specs.steps.Gathering.{IsFound, IsRead, OfSome, SheetOf, SymbolOf}
+use Rattle.gafd.specs.Answers.{OfSome}
+use Rattle.gafd.specs.steps.Gathering.{IsFound, IsRead, SheetOf, SymbolOf}
 
 whole_if_short : (whole : List ℕ) → length (take 4194305 whole) ≤ 4194304 → take 4194305 whole ≡ whole
 whole_if_short whole short = take_all 4194305 whole (omega (arith, short, length-take 4194305 whole))

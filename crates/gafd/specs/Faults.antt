@@ -10,6 +10,8 @@ use Rattle.gafd.specs.declared.fault.RunFault.TheVariants as faults
 abbrev pub status_of : RunFault → ℕ
 status_of (faults.Missing file) = 1
 status_of (faults.Refused file line kind) = 1
+status_of (faults.BadToml file) = 1
+status_of (faults.BadRows file) = 1
 status_of faults.TooManyObjects = 1
 status_of faults.ProjectFull = 1
 status_of faults.TooManyInstances = 1
@@ -40,6 +42,8 @@ error_line (faults.Missing file) = codes "gafd: " ++ file ++ codes ": missing\n"
 error_line (faults.Refused file line kind) =
     codes "gafd: " ++ file ++ codes ":" ++ decimal line
     ++ codes ": " ++ kind_name kind ++ codes "\n"
+error_line (faults.BadToml file) = codes "gafd: " ++ file ++ codes ": BadToml\n"
+error_line (faults.BadRows file) = codes "gafd: " ++ file ++ codes ": BadRows\n"
 error_line faults.TooManyObjects = codes "gafd: TooManyObjects\n"
 error_line faults.ProjectFull = codes "gafd: ProjectFull\n"
 error_line faults.TooManyInstances = codes "gafd: TooManyInstances\n"

@@ -1,5 +1,4 @@
 pub mod Memory
-pub mod Commands
 pub mod Faults
 pub mod ProjectFiles
 pub mod Answers

@@ -3,7 +3,7 @@ use Rattle.std.specs.Prelude.{◌≡◌, ◌⊎◌, ℕ, List, ◌++◌, Ok, Err
 use Rattle.std.specs.declared.option.Option.{Option}
 use Rattle.geda_defs.specs.Causes.{HasRisen}
 use Rattle.geda_defs.specs.Contents.{Files}
-use Rattle.gafd.specs.declared.command.Command.{Command}
+use Rattle.command_words.specs.declared.command.Command.{Command}
 use Rattle.gafd.specs.declared.fault.RunFault.TheVariants as faults
 use Rattle.gafd.specs.Faults.{error_line, status_of}
 use Rattle.gafd.specs.Answers.{AnswerData, Outcome, ComesTo}

@@ -1,26 +1,31 @@
 // What each command answers.
-ghost use Rattle.std.specs.Prelude.{◌≡◌, ◌≢◌, AllPairs, true, false};
+ghost use Rattle.std.specs.Prelude.{◌≡◌, ◌≢◌, ◌≤◌, AllPairs, IfOk, Ok, true, false};
+ghost use Rattle.std.specs.List.{list_any};
+ghost use Rattle.pin_matrix.specs.MatrixFiles.{document_of};
+ghost use Rattle.drc_findings.specs.Report.{is_error};
 ghost use Rattle.geda_defs.specs.Contents.{KeepsFiles};
-ghost use Rattle.gafd.specs.ProjectFiles.{Then, opened};
-ghost use Rattle.gafd.specs.Answers.{NetListOf, TextOf, is_symbol_name};
+ghost use Rattle.command_words.specs.Commands.{NamesApart};
+ghost use Rattle.command_words.specs.declared.command.Command.TheVariants.{Drc, Export, Netlist};
+ghost use Rattle.gafd.specs.Answers.{MatrixComesTo, OfNetList, TextOf, checked, is_symbol_name};
+ghost use Rattle.gafd.specs.Answers.{listed, matrix_of, reported};
 ghost use Rattle.gafd.specs.Runs.{counts};
-ghost use Rattle.gafd.specs.steps.Commanding.{NamesApart};
-ghost use Rattle.gafd.specs.steps.Gathering.{IsWhole};
-ghost use Rattle.gafd.specs.steps.Passing.{AnswerOf, ComesOf, Over};
+ghost use Rattle.gafd.specs.steps.Checking.{IsHierarchyOf, MatrixFrom};
+ghost use Rattle.gafd.specs.steps.Gathering.{GathersFrom};
+ghost use Rattle.gafd.specs.steps.Passing.{AnswerOf, ComesOf, Over, with_view};
 
-use crate::command::Command;
 use crate::fault::{RunFault, refused};
 use crate::folder::Folder;
-use crate::gathered::GatheredFiles;
 use crate::gathering::gather;
 use crate::opening::opened;
 use backends::{Form, net_text};
+use command_words::Command;
+use drc_rules::{Finding, Level, Matrix, MatrixFault, findings, report_text};
 use geda_model::{Items, Name, Project};
 use geda_read::{read_sheet, read_symbol};
 use geda_write::{sheet_text, symbol_text};
-use hierarchy::{ElabFault, elaborate};
+use hierarchy::{ElabFault, Hierarchy, elaborate};
 use net_names::join;
-use std::alloc::Global;
+use std::alloc::{AllocError, Global};
 use std::marker::Model;
 
 /// What goes out, and the status with which the program then ends.
@@ -50,26 +55,52 @@ impl Answer {
     }
 }
 
-/// The list text of the nets of a project.
-fn nets_of(alloc: Global, project: &Project) -> Result<Answer, RunFault>
-    ensures { ComesOf (NetListOf project.now.parts) result }
+/// The hierarchy of a project, unless its sheets have too many instances.
+fn hierarchy_of(alloc: Global, project: &Project) -> Result<Hierarchy, RunFault>
+    ensures { IsHierarchyOf project.now.parts result }
 {
-    let hierarchy = match elaborate(alloc, project) {
-        Ok(hierarchy) => hierarchy,
-        Err(ElabFault::TooManyInstances) => return Err(RunFault::TooManyInstances),
-        Err(ElabFault::NoMemory) => return Err(RunFault::NoMemory),
-    };
-    let nets = join(alloc, project, &hierarchy)?;
-    Ok(Answer::done(net_text(alloc, Form::List, &nets)?))
+    match elaborate(alloc, project) {
+        Ok(hierarchy) => Ok(hierarchy),
+        Err(ElabFault::TooManyInstances) => Err(RunFault::TooManyInstances),
+        Err(ElabFault::NoMemory) => Err(RunFault::NoMemory),
+    }
 }
 
-/// The same of the project of what is gathered, if it has room.
-fn listed(alloc: Global, gathered: GatheredFiles) -> Result<Answer, RunFault>
-    requires { IsWhole gathered }
-    ensures { ComesOf (Then (opened gathered) NetListOf) result }
+/// The text of the net list of a project in a form.
+fn listed(alloc: Global, form: Form, project: &Project) -> Result<Answer, RunFault>
+    ensures { ComesOf (OfNetList (listed form) project.now.parts) result }
 {
-    let project = opened(alloc, gathered)?;
-    nets_of(alloc, &project)
+    let hierarchy = hierarchy_of(alloc, project)?;
+    let nets = join(alloc, project, &hierarchy)?;
+    Ok(Answer::done(net_text(alloc, form, &nets)?))
+}
+
+fn has_error(found: &[Finding]) -> bool
+    ensures { result ≡ list_any is_error found.now }
+{
+    found
+        .iter()
+        .any(|finding| matches!(finding.level, Level::Error))
+}
+
+/// The report of what was found.
+fn reported(alloc: Global, found: &[Finding]) -> Result<Answer, AllocError>
+    ensures { IfOk result (λ answer. Ok answer ≡ reported found.now) }
+{
+    Ok(Answer {
+        text: report_text(alloc, found)?,
+        status: if has_error(found) { 7 } else { 0 },
+    })
+}
+
+/// The report of the check of a project under a matrix.
+fn checked(alloc: Global, matrix: &Matrix, project: &Project) -> Result<Answer, RunFault>
+    ensures { ComesOf (OfNetList (checked matrix.now) project.now.parts) result }
+{
+    let hierarchy = hierarchy_of(alloc, project)?;
+    let nets = join(alloc, project, &hierarchy)?;
+    let found = findings(alloc, project, &hierarchy, &nets, matrix)?;
+    Ok(reported(alloc, &found)?)
 }
 
 /// The canonical text of the sheet that these bytes spell.
@@ -109,19 +140,83 @@ fn text_of(alloc: Global, file: Name, bytes: &[u8]) -> Result<Answer, RunFault>
     }
 }
 
-fn netlist<F: Folder>(alloc: Global, names: Items<Name>, folder: &mut F) -> Result<Answer, RunFault>
-    requires { AllPairs ◌≢◌ names }
-    ensures answer { AnswerOf (counts (F.faults folder.old) (F.faults folder.new))
-        (Over (F.files folder.old) (Command.Netlist names)) result }
+/// The project of the sheets of these names.
+fn project_of<F: Folder>(alloc: Global, names: &[Name], folder: &mut F) -> Result<Project, RunFault>
+    requires { AllPairs ◌≢◌ names.now }
+    ensures project { AnswerOf (counts (F.faults folder.old) (F.faults folder.new))
+        (GathersFrom (F.files folder.old) names.now) (with_view (λ p. p.parts) result) }
     ensures files { KeepsFiles (F.files folder.old) (F.files folder.new) }
 {
-    let gathered = gather(alloc, names.as_slice(), folder)?;
-    listed(alloc, gathered)
+    let gathered = gather(alloc, names, folder)?;
+    opened(alloc, gathered)
+}
+
+fn netlist<F: Folder>(
+    alloc: Global,
+    form: Form,
+    names: Items<Name>,
+    folder: &mut F,
+) -> Result<Answer, RunFault>
+    requires { AllPairs ◌≢◌ names }
+    ensures answer { AnswerOf (counts (F.faults folder.old) (F.faults folder.new))
+        (Over (F.files folder.old) (Netlist form names)) result }
+    ensures files { KeepsFiles (F.files folder.old) (F.files folder.new) }
+{
+    let project = project_of(alloc, names.as_slice(), folder)?;
+    listed(alloc, form, &project)
+}
+
+/// The matrix that the bytes of a file are.
+fn matrix_in(alloc: Global, file: Name, bytes: &[u8]) -> Result<Matrix, RunFault>
+    ensures { ComesOf (λ read. read ≡ matrix_of file (document_of bytes.now)) result }
+{
+    match Matrix::read(alloc, bytes) {
+        Ok(matrix) => Ok(matrix),
+        Err(MatrixFault::BadToml) => Err(RunFault::BadToml { file }),
+        Err(MatrixFault::BadRows) => Err(RunFault::BadRows { file }),
+        Err(MatrixFault::NoMemory) => Err(RunFault::NoMemory),
+    }
+}
+
+/// The matrix of a file, or the usual one where no file is named.
+fn matrix_of<F: Folder>(
+    alloc: Global,
+    file: Option<Name>,
+    folder: &mut F,
+) -> Result<Matrix, RunFault>
+    ensures matrix { AnswerOf (counts (F.faults folder.old) (F.faults folder.new))
+        (MatrixFrom (F.files folder.old) file) result }
+    ensures later { F.faults folder.old ≤ F.faults folder.new }
+    ensures files { KeepsFiles (F.files folder.old) (F.files folder.new) }
+{
+    let Some(file) = file else {
+        return Ok(Matrix::usual());
+    };
+    match folder.read(alloc, file.as_str())? {
+        Some(bytes) => matrix_in(alloc, file, &bytes),
+        None => Err(RunFault::Missing { file }),
+    }
+}
+
+fn drc<F: Folder>(
+    alloc: Global,
+    matrix: Option<Name>,
+    names: Items<Name>,
+    folder: &mut F,
+) -> Result<Answer, RunFault>
+    requires { AllPairs ◌≢◌ names }
+    ensures answer { AnswerOf (counts (F.faults folder.old) (F.faults folder.new))
+        (Over (F.files folder.old) (Drc matrix names)) result }
+    ensures files { KeepsFiles (F.files folder.old) (F.files folder.new) }
+{
+    let matrix = matrix_of(alloc, matrix, folder)?;
+    let project = project_of(alloc, names.as_slice(), folder)?;
+    checked(alloc, &matrix, &project)
 }
 
 fn export<F: Folder>(alloc: Global, file: Name, folder: &mut F) -> Result<Answer, RunFault>
     ensures answer { AnswerOf (counts (F.faults folder.old) (F.faults folder.new))
-        (Over (F.files folder.old) (Command.Export file)) result }
+        (Over (F.files folder.old) (Export file)) result }
     ensures files { KeepsFiles (F.files folder.old) (F.files folder.new) }
 {
     match folder.read(alloc, file.as_str())? {
@@ -142,7 +237,8 @@ pub fn answer_of<F: Folder>(
     ensures files { KeepsFiles (F.files folder.old) (F.files folder.new) }
 {
     match command {
-        Command::Netlist(names) => netlist(alloc, names, folder),
-        Command::Export(file) => export(alloc, file, folder),
+        Command::Netlist { form, sheets } => netlist(alloc, form, sheets, folder),
+        Command::Drc { matrix, sheets } => drc(alloc, matrix, sheets, folder),
+        Command::Export { file } => export(alloc, file, folder),
     }
 }

@@ -45,10 +45,27 @@ T 0 0 15 10 0 0 0 0 1
 source=one.sch
 ";
 
-// A pin; one whose active end is its second point; a power symbol, whose pin has the global name
+// A pin of a package of two slots.
+const HALF: &str = "P 0 0 100 0 1 0 0|pinnumber=1|pinseq=1|pintype=pas
+T 0 0 5 8 0 1 0 0 1
+numslots=2
+T 0 0 5 8 0 1 0 0 1
+slotdef=1:1
+T 0 0 5 8 0 1 0 0 1
+slotdef=2:2
+";
+
+// A pin; one of each of some other kinds; one whose active end is its second point; a power symbol, whose pin has the global name
 // GND; a block with a sheet below, and one whose pin leads down; and two that are refused.
-const SYMBOLS: [Drawing; 9] = [
+const SYMBOLS: [Drawing; 16] = [
     Drawing("pin.sym", "P 0 0 100 0 1 0 0|pinnumber=1|pintype=pas\n"),
+    Drawing("in.sym", "P 0 0 100 0 1 0 0|pinnumber=1|pintype=in\n"),
+    Drawing("out.sym", "P 0 0 100 0 1 0 0|pinnumber=1|pintype=out\n"),
+    Drawing("io.sym", "P 0 0 100 0 1 0 0|pinnumber=1|pintype=io\n"),
+    Drawing("oc.sym", "P 0 0 100 0 1 0 0|pinnumber=1|pintype=oc\n"),
+    Drawing("clk.sym", "P 0 0 100 0 1 0 0|pinnumber=1|pintype=clk\n"),
+    Drawing("pwr.sym", "P 0 0 100 0 1 0 0|pinnumber=1|pintype=pwr\n"),
+    Drawing("half.sym", HALF),
     Drawing(
         "far.sym",
         "P 0 0 300 100 1 0 1|pinnumber=2\nP 0 0 100 0 1 1 0\n",
@@ -99,6 +116,15 @@ pub fn put_drawing(
     Ok(())
 }
 
+/// The files of the symbols.
+pub fn drawn_symbols(alloc: Global) -> Result<BTreeMap<Name, Vec<u8>>, Fail> {
+    let mut files = BTreeMap::new(alloc);
+    for symbol in SYMBOLS {
+        put_drawing(alloc, &mut files, symbol)?;
+    }
+    Ok(files)
+}
+
 /// Compares what a command does over sheets that are drawn, and the symbols beside them.
 pub fn expect_drawn<R: Abort>(
     rt: &R,
@@ -107,10 +133,7 @@ pub fn expect_drawn<R: Abort>(
     command: &str,
     wanted: Outcome,
 ) -> Result<(), Fail> {
-    let mut files = BTreeMap::new(alloc);
-    for symbol in SYMBOLS {
-        put_drawing(alloc, &mut files, symbol)?;
-    }
+    let mut files = drawn_symbols(alloc)?;
     for sheet in sheets {
         put_drawing(alloc, &mut files, *sheet)?;
     }

@@ -20,6 +20,8 @@ fn status_of(fault: &RunFault) -> u8
     match fault {
         RunFault::Missing { .. }
         | RunFault::Refused { .. }
+        | RunFault::BadToml { .. }
+        | RunFault::BadRows { .. }
         | RunFault::TooManyObjects
         | RunFault::ProjectFull
         | RunFault::TooManyInstances => 1,
@@ -71,6 +73,14 @@ fn error_line(alloc: Global, fault: &RunFault) -> Result<CowStr<'static>, AllocE
         RunFault::Refused { file, line, kind } => {
             let text = refused_line(alloc, file.as_str(), *line, kind_name(*kind))?;
             Ok(CowStr::Owned(text))
+        }
+        RunFault::BadToml { file } => {
+            let file = file.as_str();
+            Ok(CowStr::Owned(format!(in alloc; "gafd: {file}: BadToml\n")?))
+        }
+        RunFault::BadRows { file } => {
+            let file = file.as_str();
+            Ok(CowStr::Owned(format!(in alloc; "gafd: {file}: BadRows\n")?))
         }
         RunFault::TooManyObjects => Ok(CowStr::Borrowed("gafd: TooManyObjects\n")),
         RunFault::ProjectFull => Ok(CowStr::Borrowed("gafd: ProjectFull\n")),

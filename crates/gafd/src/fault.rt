@@ -1,6 +1,6 @@
 // Why the program ends otherwise than with an answer.
 ghost use Rattle.std.specs.Prelude.{◌≡◌};
-ghost use Rattle.gafd.specs.steps.Passing.{FromFolder, IsRefusalOf};
+ghost use Rattle.gafd.specs.steps.Passing.{FromFolder, FromWords, IsRefusalOf};
 ghost use Rattle.gafd.specs.declared.fault.RunFault.TheVariants.{NoMemory, OutputFault};
 
 use crate::folder::FolderFault;
@@ -8,6 +8,7 @@ use crate::sink::SinkFault;
 use geda_grammar::ReadKind;
 use geda_model::Name;
 use geda_read::ReadFault;
+use option_words::WordFault;
 use std::alloc::{AllocError, AllocFailed};
 
 /// Why the program ends otherwise than with an answer (docs/FORMATS.md, "Statuses").
@@ -26,6 +27,16 @@ pub enum RunFault {
         line: u32,
         /// The kind of its fault.
         kind: ReadKind,
+    },
+    /// The file of the matrix is no TOML document, or too long.
+    BadToml {
+        /// Its name.
+        file: Name,
+    },
+    /// The file of the matrix has other rows than those of a matrix.
+    BadRows {
+        /// Its name.
+        file: Name,
     },
     /// The project has more objects than a project may have.
     TooManyObjects,
@@ -74,6 +85,17 @@ impl From<FolderFault> for RunFault {
         match fault {
             FolderFault::Failed => RunFault::FolderFault,
             FolderFault::NoMemory => RunFault::NoMemory,
+        }
+    }
+}
+
+impl From<WordFault> for RunFault {
+    ghost from_gives = { FromWords };
+
+    fn from(fault: WordFault) -> RunFault {
+        match fault {
+            WordFault::Usage => RunFault::Usage,
+            WordFault::NoMemory => RunFault::NoMemory,
         }
     }
 }

@@ -1,14 +1,15 @@
 //! `gafd netlist FILE...` prints the net list of gEDA schematics in the folder that it runs in and
-//! of those below them, and `gafd export FILE` the canonical text of a schematic or of a symbol.
+//! of those below them, `gafd drc FILE...` what the check finds on them, and `gafd export FILE` the
+//! canonical text of a schematic or of a symbol.
 //!
 //! `run` is all of the program, over any folder and sinks; `main` makes the real ones. Commands and
-//! statuses: docs/FORMATS.md. Definitions: specs/Commands.antt, specs/Answers.antt and
-//! specs/Runs.antt.
+//! statuses: docs/FORMATS.md. Definitions: specs/Answers.antt and specs/Runs.antt.
 #![tactic(auto)]
 
 mod answer;
 mod asking;
-mod command;
+#[cfg(test)]
+mod check_tests;
 mod dir_folder;
 #[cfg(test)]
 mod drawings;

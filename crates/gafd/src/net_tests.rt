@@ -493,3 +493,53 @@ fn a_component_with_a_source_leads_down(rt: HostRuntime) -> Result<(), Fail> {
     }
     Ok(())
 }
+
+// Two resistors that are joined, and a pin alone.
+const RESISTORS: &str = "C 0 0 1 0 0 pin.sym|refdes=R1|device=RESISTOR|value=10k
+C 0 0 1 0 0 pin.sym|refdes=R2|device=RESISTOR|value=4,7k
+C 900 0 1 0 0 pin.sym|refdes=A1
+";
+
+const TANGO: &str = "[
+A1
+unknown
+unknown
+unknown
+]
+[
+R1
+unknown
+RESISTOR
+10k
+]
+[
+R2
+unknown
+RESISTOR
+4,7k
+]
+(
+unnamed_net1
+R1-1
+R2-1
+)
+";
+
+const BILL: &str = "device,value,footprint,refdes,count
+,,,A1,1
+RESISTOR,10k,,R1,1
+RESISTOR,\"4,7k\",,R2,1
+";
+
+#[test]
+fn a_net_list_has_other_forms(rt: HostRuntime) -> Result<(), Fail> {
+    let sheets = [Drawing("one.sch", RESISTORS)];
+    for (command, text) in [
+        ("netlist --form tango one.sch", TANGO),
+        ("netlist --form pcb one.sch", "unnamed_net1\tR1-1 R2-1\n"),
+        ("netlist --form bom one.sch", BILL),
+    ] {
+        expect_drawn(&rt, rt.alloc(), &sheets, command, Outcome(0, text, ""))?;
+    }
+    Ok(())
+}

@@ -2,16 +2,16 @@
 ghost use Rattle.std.specs.Prelude.{◌≡◌, List, Some, String};
 ghost use Rattle.std.specs.declared.alloc.Global.{Global};
 ghost use Rattle.geda_defs.specs.Contents.{Files, KeepsFiles};
-ghost use Rattle.gafd.specs.Commands.{command_of};
+ghost use Rattle.command_words.specs.Commands.{command_of};
 ghost use Rattle.gafd.specs.Answers.{ComesTo, Outcome};
 ghost use Rattle.gafd.specs.Runs.{Ends, EndsWith, counts, stream};
 
 use crate::answer::{Answer, answer_of};
-use crate::command::command_of;
 use crate::error_lines::report;
 use crate::fault::RunFault;
 use crate::folder::Folder;
 use crate::sink::Sink;
+use command_words::command_of;
 use std::alloc::Global;
 
 /// Does what the arguments ask for. Nothing goes out before all is computed.

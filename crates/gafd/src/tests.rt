@@ -50,7 +50,8 @@ pub fn expect<R: Abort>(
     Ok(())
 }
 
-fn put_file(
+/// Puts a file of these bytes among others.
+pub fn put_file(
     alloc: Global,
     files: &mut BTreeMap<Name, Vec<u8>>,
     name: &str,
@@ -60,7 +61,7 @@ fn put_file(
     Ok(())
 }
 
-const COMMANDS: [(&str, Outcome); 21] = [
+const COMMANDS: [(&str, Outcome); 32] = [
     ("netlist one.sch", Outcome(0, NOTHING, "")),
     ("netlist one.sch spaced.sch", Outcome(0, NOTHING, "")),
     ("netlist two.sch", MISSING),
@@ -90,6 +91,23 @@ const COMMANDS: [(&str, Outcome); 21] = [
     ("netlist one.sch -x", USAGE),
     ("export -x", USAGE),
     ("netlist ../a.sch", USAGE),
+    ("netlist --form=pcb -- one.sch", Outcome(0, "", "")),
+    ("netlist one.sch --form tango", Outcome(0, "", "")),
+    (
+        "netlist --form bom one.sch",
+        Outcome(0, "device,value,footprint,refdes,count\n", ""),
+    ),
+    ("netlist --form x one.sch", USAGE),
+    ("netlist --form list --form list one.sch", USAGE),
+    (
+        "netlist -- one.sch --form",
+        Outcome(1, "", "gafd: --form: missing\n"),
+    ),
+    ("netlist one.sch -", USAGE),
+    ("export --form list one.sch", USAGE),
+    ("drc", USAGE),
+    ("drc --matrix one.sch", USAGE),
+    ("--help", USAGE),
     ("netlist .sch", USAGE),
 ];
 

@@ -9,7 +9,7 @@ use Rattle.geda_model.specs.Sheets.{SheetData, SymbolData}
 use Rattle.geda_grammar.specs.Faults.{sheet_file, symbol_file}
 use Rattle.gafd.specs.declared.fault.RunFault.{RunFault}
 use Rattle.gafd.specs.ProjectFiles.{AskedSymbol, FileComesTo, Gathered, GathersTo, ReadAs, SheetsComeTo, unread}
-use Rattle.gafd.specs.Answers.{OfFiles}
+use Rattle.gafd.specs.Answers.{OfFiles, OfSome}
 
 -- all sheets are read; no sheet and no symbol stands twice
 pub record IsWhole (g : Gathered) : Type 0 where
@@ -25,11 +25,6 @@ ReadsFrom files names read =
 -- what is gathered from a folder
 abbrev pub GathersFrom : Option Files → List (List ℕ) → Result ProjectData RunFault → Type 0
 GathersFrom files names gathered = OfFiles files (λ known. GathersTo known names gathered)
-
--- something holds of the files that a folder tells; where it tells none, of some files
-abbrev pub OfSome : Option Files → (Files → Type 0) → Type 0
-OfSome None P = (files : Files) × P files
-OfSome (Some files) P = P files
 
 -- a value is what was read
 abbrev pub IsRead : {A : Type 0} → A → Result A RunFault → Type 0

@@ -1,13 +1,15 @@
 -- Steps of the code; no public clause cites them.
 -- How faults are passed on from one function to the next (own).
-use Rattle.std.specs.Prelude.{◌≡◌, ◌⊎◌, ℕ, List, Result, Ok, Err, Some, None, ⊤}
+use Rattle.std.specs.Prelude.{◌≡◌, ◌⊎◌, ℕ, List, Result, Ok, Err, Some, ⊤}
 use Rattle.std.specs.declared.option.Option.{Option}
 use Rattle.geda_defs.specs.Contents.{Files}
 use Rattle.geda_read.specs.declared.fault.ReadFault.{ReadFault}
 use Rattle.geda_read.specs.declared.fault.ReadFault.TheVariants as read
-use Rattle.gafd.specs.declared.command.Command.{Command}
+use Rattle.command_words.specs.declared.command.Command.{Command}
 use Rattle.gafd.specs.declared.fault.RunFault.{RunFault}
 use Rattle.gafd.specs.declared.fault.RunFault.TheVariants as faults
+use Rattle.option_words.specs.declared.fault.WordFault.{WordFault}
+use Rattle.option_words.specs.declared.fault.WordFault.TheVariants as words
 use Rattle.gafd.specs.declared.folder.FolderFault.{FolderFault}
 use Rattle.gafd.specs.declared.folder.FolderFault.TheVariants as folder
 use Rattle.gafd.specs.Answers.{Outcome, ComesTo}
@@ -24,12 +26,10 @@ abbrev pub IsRefusalOf : List ℕ → ReadFault → RunFault → Type 0
 IsRefusalOf file (read.At kind line) e = e ≡ faults.Refused file line kind
 IsRefusalOf file read.NoMemory e = e ≡ faults.NoMemory
 
--- the command that is asked for, or the fault that there is none
-abbrev pub IsAsked : Option Command → Result Command RunFault → Type 0
-IsAsked asked (Ok command) = asked ≡ Some command
-IsAsked asked (Err faults.Usage) = asked ≡ None
-IsAsked asked (Err faults.NoMemory) = ⊤
-IsAsked asked (Err other) = ⊥
+-- what a fault of the words becomes
+abbrev pub FromWords : WordFault → RunFault → Type 0
+FromWords words.Usage e = e ≡ faults.Usage
+FromWords words.NoMemory e = e ≡ faults.NoMemory
 
 -- what is come to, or want of memory
 abbrev pub ComesOf : {A : Type 0} → (Result A RunFault → Type 0) → Result A RunFault → Type 0
@@ -57,6 +57,8 @@ Over files command outcome = ComesTo files (Some command) outcome
 abbrev pub NamesFile : RunFault → Type 0
 NamesFile (faults.Missing file) = ⊤
 NamesFile (faults.Refused file line kind) = ⊤
+NamesFile (faults.BadToml file) = ⊤
+NamesFile (faults.BadRows file) = ⊤
 NamesFile other = ⊥
 
 -- a fault is reported as it is, or as want of memory where its line names a file

@@ -1,24 +1,28 @@
 use Rattle.std.proofs.Common.{List, ℕ, Ok, Err, subst, arith}
 use Rattle.std.proofs.lemmas.Result.{err_from_is_err_and}
-use Rattle.gafd.specs.declared.command.Command.TheVariants.{Netlist}
-use Rattle.gafd.specs.ProjectFiles.{Then, opened}
-use Rattle.gafd.specs.Answers.{NetListOf}
-use Rattle.gafd.specs.steps.Gathering.{ReadsFrom}
+use Rattle.command_words.specs.declared.command.Command.TheVariants.{Netlist}
+use Rattle.gafd.specs.Answers.{OfNetList, listed}
+use Rattle.gafd.specs.steps.Gathering.{GathersFrom}
 use Rattle.gafd.specs.steps.Passing.{Over}
-use Rattle.gafd.proofs.NetlistLemmas.{listed, unlisted}
+use Rattle.gafd.proofs.ProjectLemmas.{sheets_come, sheets_fail}
 use Rattle.gafd.proofs.Passing.{answer_from, fault_later}
 use Rattle.gafd.proofs.answer.netlist.Goals as goal
 
 pub returns-clause-answer : goal.returns-clause-answer
 returns-clause-answer g c =
     let files = g.F.Folder.files c.args.folder.now in
-    let gathered = c.in_ok-gathered.gathered in
-    let read = subst (λ (names : List (List ℕ)). ReadsFrom files names (Ok gathered)) c.as_slice.ensures c.in_ok-gathered.ensures.read in
-    answer_from _ (Then (opened gathered) NetListOf) (Over files (Netlist c.args.names)) c.listed.result (λ r h. listed files c.args.names gathered r read h) c.listed.ensures
+    let names = c.args.names in
+    let form = c.args.form in
+    let project = c.in_ok-project.project.parts in
+    let gathers = subst (λ (ns : List (List ℕ)). GathersFrom files ns (Ok project)) c.as_slice.ensures c.in_ok-project.ensures.project in
+    answer_from _ (OfNetList (listed form) project) (Over files (Netlist form names)) c.listed.result (λ r h. sheets_come (listed form) files names project r gathers h) c.listed.ensures
 
-pub returns-in_err-gathered-clause-answer : goal.returns-in_err-gathered-clause-answer
-returns-in_err-gathered-clause-answer g c =
+pub returns-in_err-project-clause-answer : goal.returns-in_err-project-clause-answer
+returns-in_err-project-clause-answer g c =
     let files = g.F.Folder.files c.args.folder.now in
+    let names = c.args.names in
+    let form = c.args.form in
+    let e = c.in_err-project.field-0.0 in
     let fault = err_from_is_err_and c.from_residual.result c.from_residual.ensures.1 in
-    let h = fault_later (g.F.Folder.faults c.args.folder.now) _ (g.F.Folder.faults c.gather.new.folder) (ReadsFrom files c.as_slice.result.now) (Over files (Netlist c.args.names)) c.in_err-gathered.field-0.0 (omega arith) (λ e. unlisted files c.args.names c.in_err-gathered.field-0.0 (subst (λ (names : List (List ℕ)). ReadsFrom files names (Err c.in_err-gathered.field-0.0)) c.as_slice.ensures e)) c.in_err-gathered.ensures.read in
+    let h = fault_later (g.F.Folder.faults c.args.folder.now) _ (g.F.Folder.faults c.project_of.new.folder) (GathersFrom files c.as_slice.result.now) (Over files (Netlist form names)) e (omega arith) (λ came. sheets_fail (listed form) files names e (subst (λ (ns : List (List ℕ)). GathersFrom files ns (Err e)) c.as_slice.ensures came)) c.in_err-project.ensures.project in
     rw (fault.1, fault.2) h

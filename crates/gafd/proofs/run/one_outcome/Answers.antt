@@ -1,4 +1,4 @@
-use Rattle.gafd.specs.Commands.{command_of}
+use Rattle.command_words.specs.Commands.{command_of}
 use Rattle.gafd.proofs.OneOutcome.{same_outcomes}
 use Rattle.gafd.proofs.run.one_outcome.Goals as goal
 
