@@ -7,7 +7,7 @@ import random
 
 from component_rules import KINDS
 from matrix_cases import ROWS, document
-from random_projects import SHEETS, File, random_folder
+from random_projects import SHEETS, File, random_folder, with_option
 
 ALIKE = ["R_3", "R\t3", "R1_", "R1\x01", "r_1", "U?\t", "U1/R_3"]
 NAMES_ALIKE = ["N_L", "N\tL", "X_Y", "X Y", "unnamed net1", "unconnected_pin 1", "U1/X\t", "U1/X_"]
@@ -118,15 +118,14 @@ def damaged_document(rng):
 
 
 def with_matrix(rng, words):
-    """The words, in two of three cases with a matrix somewhere among them."""
+    """The words, in two of three cases with a matrix."""
     if rng.random() < 0.33:
         return words
     name = rng.choice(MATRICES if rng.random() < 0.9 else NO_MATRICES)
-    option = rng.choice([["--matrix", name], [f"--matrix={name}"]])
-    at = rng.choice([0, 0, rng.randint(0, len(words))])
-    words = words[:at] + option + words[at:]
+    words = with_option(rng, words, "matrix", name)
     if rng.random() < 0.02:
-        odd = rng.choice([option, ["--matrix"], ["--form=list"], ["-"], ["--help"], ["m.toml"]])
+        odd = rng.choice([[f"--matrix={name}"], ["--matrix"], ["--form=list"], ["-"], ["--help"],
+                          ["m.toml"]])
         words = rng.choice([words + odd, odd + words])
     return words
 

@@ -229,11 +229,16 @@ def random_folder(seed, number, runs=10, make=File):
     return files, [drawn_words(rng) for _ in range(runs)]
 
 
+def with_option(rng, words, option, value):
+    """The words with an option somewhere among them, which stands there as one word or as two."""
+    spelled = rng.choice([[f"--{option}", value], [f"--{option}={value}"]])
+    at = rng.choice([0, 0, rng.randint(0, len(words))])
+    return words[:at] + spelled + words[at:]
+
+
 def with_form(rng, words):
-    """The words, in one of four cases with a form somewhere among them."""
+    """The words, in one of four cases with a form."""
     if rng.random() < 0.75:
         return words
     form = rng.choice(["list", "tango", "tango", "pcb", "bom", "bom", "x"])
-    option = rng.choice([["--form", form], [f"--form={form}"]])
-    at = rng.choice([0, len(words)])
-    return words[:at] + option + words[at:]
+    return with_option(rng, words, "form", form)
