@@ -11,7 +11,8 @@ use Rattle.std.proofs.lemmas.Slice.Eq.{bytes_eq-Decides}
 use Rattle.geda_model.specs.declared.change.Placed.{Placed}
 use Rattle.geda_model.specs.Projects.{is_on}
 use Rattle.flat_sheets.specs.Order.{by_bytes}
-use Rattle.flat_sheets.specs.steps.SheetIds.{AddsId, IdsBySheet, id_on, ids_at, ids_in}
+use Rattle.flat_sheets.specs.SheetIds.{IdsBySheet, ids_at}
+use Rattle.flat_sheets.specs.steps.SheetIds.{AddsId, id_on, ids_in}
 
 -- a list is taken out, made longer and put back
 pub adds_id : (row : ℕ × Placed) (old mid new : IdsBySheet) (known : Option (List ℕ)) (key ids : List ℕ)

@@ -1,4 +1,5 @@
 pub mod Order
+pub mod SheetIds
 pub mod Occurrences
 pub mod Ports
 pub mod LabelSets

@@ -21,4 +21,5 @@ pub use order::occurrences;
 pub use package::Package;
 pub use ports::{LabelSets, is_port};
 pub use project::{FlatProject, flatten};
+pub use sheet_ids::{ids_at, ids_by_sheet};
 pub use texts::line_under;

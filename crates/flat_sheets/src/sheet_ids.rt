@@ -1,7 +1,8 @@
 // The ids of the objects of each sheet.
 ghost use Rattle.std.specs.Prelude.{◌≡◌, IfOk, OnOk, map};
 ghost use Rattle.geda_model.specs.Tables.{row_now};
-ghost use Rattle.flat_sheets.specs.steps.SheetIds.{AddsId, AreIdsBySheet, AreIdsOf, ids_at};
+ghost use Rattle.flat_sheets.specs.SheetIds.{AreIdsBySheet, ids_at};
+ghost use Rattle.flat_sheets.specs.steps.SheetIds.{AddsId, AreIdsOf};
 
 use geda_model::{Items, Name, Placed, Project};
 use std::alloc::{AllocError, Global};
@@ -47,7 +48,7 @@ pub fn ids_by_sheet(
     ids_of_rows(alloc, rows.as_slice())
 }
 
-/// The ids of the objects of a sheet.
+/// The ids of the objects of a sheet, rising, by the table of `ids_by_sheet`. It takes no memory.
 pub fn ids_at<'a>(table: &'a BTreeMap<Name, Items<u32>>, sheet: &Name) -> &'a [u32]
     ensures { result.now ≡ ids_at table.now sheet.now }
 {

@@ -2,23 +2,13 @@
 -- The ids of each sheet, gathered in one pass over all objects, and the objects of all instances,
 -- entered one by one.
 use Rattle.std.specs.Prelude.{◌≡◌, ℕ, if◌then◌else◌, List, [], ◌∷◌, ◌++◌}
-use Rattle.std.specs.BTreeMap.{BTreeMap, get}
 use Rattle.std.specs.BTreeSet.{insert_key}
 use Rattle.std.specs.List.{flat_map, fold}
-use Rattle.std.specs.Option.{unwrap_or}
 use Rattle.geda_model.specs.declared.change.Placed.{Placed}
-use Rattle.geda_model.specs.Projects.{ProjectData, ids_on, is_on}
+use Rattle.geda_model.specs.Projects.{is_on}
 use Rattle.hierarchy.specs.declared.instances.Instance.{Instance}
 use Rattle.flat_sheets.specs.Occurrences.{OccurrenceData, by_occurrence}
-use Rattle.flat_sheets.specs.Order.{by_bytes}
-
--- ids by sheet
-abbrev pub IdsBySheet : Type 0
-IdsBySheet = BTreeMap (List ℕ) (List ℕ)
-
--- the ids of a sheet; none where it is not there
-abbrev pub ids_at : IdsBySheet → List ℕ → List ℕ
-ids_at table name = unwrap_or (get by_bytes table name) []
+use Rattle.flat_sheets.specs.SheetIds.{IdsBySheet, ids_at}
 
 -- the id of an object, if that stands on the sheet
 abbrev pub id_on : List ℕ → ℕ × Placed → List ℕ
@@ -35,10 +25,6 @@ AddsId row old new = (name : List ℕ) → ids_at new name ≡ ids_at old name +
 -- the table has the ids of these objects
 abbrev pub AreIdsOf : List (ℕ × Placed) → IdsBySheet → Type 0
 AreIdsOf rows table = (name : List ℕ) → ids_at table name ≡ ids_in rows name
-
--- the table has the ids of a project
-abbrev pub AreIdsBySheet : ProjectData → IdsBySheet → Type 0
-AreIdsBySheet p table = (name : List ℕ) → ids_at table name ≡ ids_on p name
 
 -- an object in the instance at a place
 abbrev pub occurrence : ℕ → Instance → ℕ → OccurrenceData

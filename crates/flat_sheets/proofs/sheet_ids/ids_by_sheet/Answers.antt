@@ -1,7 +1,8 @@
 use Rattle.std.proofs.Common.{◌≡◌, ◌∙◌, ap, map}
 use Rattle.std.specs.FinMap.{entries}
 use Rattle.geda_model.specs.Tables.{row_now}
-use Rattle.flat_sheets.specs.steps.SheetIds.{AreIdsBySheet, AreIdsOf, ids_in}
+use Rattle.flat_sheets.specs.SheetIds.{AreIdsBySheet}
+use Rattle.flat_sheets.specs.steps.SheetIds.{AreIdsOf, ids_in}
 use Rattle.flat_sheets.proofs.Outcomes.{if_ok}
 use Rattle.flat_sheets.proofs.SheetIdLemmas.{ids_in-are}
 use Rattle.flat_sheets.proofs.sheet_ids.ids_by_sheet.Goals as goal
