@@ -1,5 +1,5 @@
--- The bill of materials of a net list as CSV (own): a record for each group of packages that agree in
--- device, value and footprint.
+-- The bill of materials of a net list as CSV (own): a record for each group of packages that agree
+-- in device, value and footprint.
 use Rattle.std.specs.Prelude.{ℕ, Bool, ◌&&◌, if◌then◌else◌, List, [], ◌∷◌, ◌++◌, codes, filter, length, map, unwrap_or}
 use Rattle.std.specs.List.{flat_map, fold, list_any}
 use Rattle.std.specs.Fmt.{decimal}

@@ -68,32 +68,27 @@ pub fn has_bad_net(
     some_bad_net(alloc, values.as_slice())
 }
 
-/// The first value of an attribute.
-pub fn attr_block(
-    alloc: Global,
-    object: &Object,
-    library: Option<&Symbol>,
-    name: &str,
-) -> Result<Option<Block>, AllocError>
-    ensures { IfOk result (λ value. value ≡
-        attr object.now (option_copied library.entry) name.now) }
+/// A value that may be there, by itself.
+pub fn copy_of(alloc: Global, value: Option<&str>) -> Result<Option<Block>, AllocError>
+    ensures { IfOk result (λ copy. copy ≡ option_copied value.entry) }
 {
-    match attr_of(object, library, name) {
+    match value {
         Some(value) => Ok(Some(Block::new(alloc, value)?)),
         None => Ok(None),
     }
 }
 
-/// Why the `slot` gives no pin numbers, if there is one that gives none.
+/// Why this value of `slot` gives no pin numbers, if there is one that gives none.
 pub fn slot_fault(
     alloc: Global,
     object: &Object,
     library: Option<&Symbol>,
+    slot: Option<&str>,
 ) -> Result<Option<SlotFault>, AllocError>
-    ensures { IfOk result (λ fault. fault ≡ slot_fault object.now (option_copied library.entry)
-        (attr object.now (option_copied library.entry) (codes "slot"))) }
+    ensures { IfOk result (λ fault. fault ≡
+        slot_fault object.now (option_copied library.entry) (option_copied slot.entry)) }
 {
-    let Some(slot) = attr_of(object, library, "slot") else {
+    let Some(slot) = slot else {
         return Ok(None);
     };
     let numslots = attr_of(object, library, "numslots");

@@ -6,9 +6,7 @@ ghost use Rattle.component_checks.specs.CheckedComponents.{checked_component, ch
 ghost use Rattle.component_checks.specs.CheckedComponents.{checked_with, has_symbol, is_port_if};
 ghost use Rattle.component_checks.specs.steps.CheckedObjects.{flat};
 
-use crate::attributes::{
-    attr_block, drawn_pins, has_bad_net, printed_refdes, slot_count, slot_fault,
-};
+use crate::attributes::{copy_of, drawn_pins, has_bad_net, printed_refdes, slot_count, slot_fault};
 use crate::checked::CheckedComponent;
 use attr_rules::{attr_of, has_sources, is_graphical, library_of, refdes_of};
 use flat_sheets::{LabelSets, is_port};
@@ -56,6 +54,7 @@ fn checked_with(
     ensures known { OnOk result (AreLabelSets project.now.parts known.new) }
 {
     let refdes = refdes_of(object, library);
+    let slot = attr_of(object, library, "slot");
     let is_port = is_port_if(alloc, project, known, instance, refdes)?;
     Ok(CheckedComponent {
         sheet: instance.sheet.clone()?,
@@ -67,8 +66,8 @@ fn checked_with(
         is_port,
         has_net: attr_of(object, library, "net").is_some(),
         has_bad_net: has_bad_net(alloc, object, library)?,
-        slot: attr_block(alloc, object, library, "slot")?,
-        slot_fault: slot_fault(alloc, object, library)?,
+        slot: copy_of(alloc, slot)?,
+        slot_fault: slot_fault(alloc, object, library, slot)?,
         slots: slot_count(object, library),
         pins: drawn_pins(alloc, object, library)?,
     })

@@ -5,7 +5,6 @@
 //! Definitions: specs/CheckedComponents.antt, specs/OnComponents.antt and specs/OnPackages.antt.
 #![tactic(auto)]
 
-mod adding;
 mod attributes;
 mod checked;
 mod gathering;

@@ -14,11 +14,11 @@ use std::alloc::{AllocError, Global};
 use std::collections::BTreeSet;
 
 #[tactic(auto, using(drc_findings::proofs::FoundLemmas::with_append))]
-fn add_found_on(
+fn add_found_on<'a>(
     alloc: Global,
     found: &mut BTreeSet<Finding>,
-    repeats: &Repeats,
-    component: &CheckedComponent,
+    repeats: &Repeats<'a>,
+    component: &'a CheckedComponent,
 ) -> Result<(), AllocError>
     ensures { OnOk result
         (found.new.keys ≡ with_findings found.old.keys (found_by repeats.now component.now)) }
@@ -28,11 +28,11 @@ fn add_found_on(
 }
 
 #[tactic(auto, using(drc_findings::proofs::FoundLemmas::with_append))]
-fn add_found_on_each(
+fn add_found_on_each<'a>(
     alloc: Global,
     found: &mut BTreeSet<Finding>,
-    repeats: &Repeats,
-    components: &[CheckedComponent],
+    repeats: &Repeats<'a>,
+    components: &'a [CheckedComponent],
 ) -> Result<(), AllocError>
     ensures { OnOk result (found.new.keys
         ≡ with_findings found.old.keys (flat_map (found_by repeats.now) components.now)) }

@@ -6,11 +6,10 @@ ghost use Rattle.component_checks.specs.OnComponents.{bad_net, bad_slot, fault_w
 ghost use Rattle.component_checks.specs.OnComponents.{missing_symbol, unknown_pin};
 ghost use Rattle.component_checks.specs.steps.FoundBy.{found_on_contents};
 
-use crate::adding::{add_error, add_warning};
 use crate::checked::CheckedComponent;
 use crate::parts::{is_listed, refdes_of};
 use attr_rules::{PinKind, SlotFault};
-use drc_findings::Finding;
+use drc_findings::{Finding, add_error, add_warning};
 use pin_matrix::same_kind;
 use pin_place::PlacedPin;
 use printed_texts::{numbered_words, pair_words, pin_words};

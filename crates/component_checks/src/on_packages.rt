@@ -9,10 +9,9 @@ ghost use Rattle.component_checks.specs.OnPackages.{found_on_package, found_on_p
 ghost use Rattle.component_checks.specs.steps.SlotRows.{AreSlotsOf, all_unused_in, row_at};
 ghost use Rattle.component_checks.specs.steps.SlotRows.{unused_in};
 
-use crate::adding::add_warning;
 use crate::checked::CheckedComponent;
 use crate::slot_rows::{PackageSlots, slots_by_refdes};
-use drc_findings::{Finding, add_same_text};
+use drc_findings::{Finding, add_same_text, add_warning};
 use flat_sheets::Package;
 use geda_model::Line;
 use printed_texts::numbered_words;

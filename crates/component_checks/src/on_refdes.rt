@@ -1,16 +1,15 @@
 // What is found on the refdes of a component.
-ghost use Rattle.std.specs.Prelude.{◌≡◌, IfOk, OnOk};
+ghost use Rattle.std.specs.Prelude.{◌≡◌, OnOk};
 ghost use Rattle.drc_findings.specs.Order.{with_findings};
 ghost use Rattle.component_checks.specs.OnComponents.{lacks_refdes, unnumbered, without_refdes};
 ghost use Rattle.component_checks.specs.steps.FoundBy.{clashes, duplicate_by, duplicate_slot_by};
 ghost use Rattle.component_checks.specs.steps.FoundBy.{found_on_refdes, is_duplicate_by};
 ghost use Rattle.component_checks.specs.steps.FoundBy.{is_duplicate_slot_by};
 
-use crate::adding::add_error;
 use crate::checked::CheckedComponent;
 use crate::parts::{ends_open, is_numbered, refdes_of, slot_of};
 use crate::repeats::{Repeats, slotted_pair};
-use drc_findings::Finding;
+use drc_findings::{Finding, add_error};
 use geda_model::Line;
 use printed_texts::{name_words, numbered_words, pair_words};
 use std::alloc::{AllocError, Global};
@@ -58,7 +57,7 @@ fn add_without_refdes(
     Ok(())
 }
 
-fn clashes(repeats: &Repeats, refdes: &Line) -> bool
+fn clashes(repeats: &Repeats<'_>, refdes: &Line) -> bool
     ensures { result ≡ clashes repeats.now refdes.now }
 {
     if ends_open(refdes.as_str().as_bytes()) {
@@ -70,7 +69,7 @@ fn clashes(repeats: &Repeats, refdes: &Line) -> bool
     repeats.whole.contains(refdes)
 }
 
-fn is_duplicate(repeats: &Repeats, component: &CheckedComponent) -> bool
+fn is_duplicate(repeats: &Repeats<'_>, component: &CheckedComponent) -> bool
     ensures { result ≡ is_duplicate_by repeats.now component.now }
 {
     if !is_numbered(component) {
@@ -85,7 +84,7 @@ fn is_duplicate(repeats: &Repeats, component: &CheckedComponent) -> bool
 fn add_duplicate(
     alloc: Global,
     found: &mut BTreeSet<Finding>,
-    repeats: &Repeats,
+    repeats: &Repeats<'_>,
     component: &CheckedComponent,
 ) -> Result<(), AllocError>
     ensures { OnOk result
@@ -97,28 +96,28 @@ fn add_duplicate(
     Ok(())
 }
 
-fn is_duplicate_slot(repeats: &Repeats, component: &CheckedComponent) -> Result<bool, AllocError>
-    ensures { IfOk result (λ found. found ≡ is_duplicate_slot_by repeats.now component.now) }
+fn is_duplicate_slot<'a>(repeats: &Repeats<'a>, component: &'a CheckedComponent) -> bool
+    ensures { result ≡ is_duplicate_slot_by repeats.now component.now }
 {
     if ends_open(refdes_of(component).as_bytes()) {
-        return Ok(false);
+        return false;
     }
-    match slotted_pair(component)? {
-        None => Ok(false),
-        Some(pair) => Ok(repeats.slotted.contains(&pair)),
+    match slotted_pair(component) {
+        None => false,
+        Some(pair) => repeats.slotted.contains(&pair),
     }
 }
 
-fn add_duplicate_slot(
+fn add_duplicate_slot<'a>(
     alloc: Global,
     found: &mut BTreeSet<Finding>,
-    repeats: &Repeats,
-    component: &CheckedComponent,
+    repeats: &Repeats<'a>,
+    component: &'a CheckedComponent,
 ) -> Result<(), AllocError>
     ensures { OnOk result (found.new.keys
         ≡ with_findings found.old.keys (duplicate_slot_by repeats.now component.now)) }
 {
-    if is_duplicate_slot(repeats, component)? {
+    if is_duplicate_slot(repeats, component) {
         let words = pair_words(alloc, refdes_of(component), slot_of(component))?;
         add_error(found, 4, words)?;
     }
@@ -128,11 +127,11 @@ fn add_duplicate_slot(
 /// Adds what is found on the refdes of a component: the rules Unnumbered, NoRefdes, DuplicateRefdes
 /// and DuplicateSlot.
 #[tactic(auto, using(drc_findings::proofs::FoundLemmas::with_append))]
-pub fn add_on_refdes(
+pub fn add_on_refdes<'a>(
     alloc: Global,
     found: &mut BTreeSet<Finding>,
-    repeats: &Repeats,
-    component: &CheckedComponent,
+    repeats: &Repeats<'a>,
+    component: &'a CheckedComponent,
 ) -> Result<(), AllocError>
     ensures { OnOk result (found.new.keys
         ≡ with_findings found.old.keys (found_on_refdes repeats.now component.now)) }

@@ -15,13 +15,13 @@ use text_tallies::{PairKey, names_once, names_twice, pairs_twice};
 
 /// What several components have in common.
 #[derive(Drop)]
-pub struct Repeats {
+pub struct Repeats<'a> {
     /// The refdes that two numbered components have.
     pub numbered: BTreeSet<Line>,
     /// The refdes of numbered components that are whole.
     pub whole: BTreeSet<Line>,
     /// The refdes and slots that two listed parts have.
-    pub slotted: BTreeSet<PairKey>,
+    pub slotted: BTreeSet<PairKey<'a>>,
 }
 
 fn numbered_name(component: &CheckedComponent) -> Result<Option<Line>, AllocError>
@@ -42,28 +42,28 @@ fn whole_name(component: &CheckedComponent) -> Result<Option<Line>, AllocError>
     numbered_name(component)
 }
 
-fn pair_of(refdes: &Option<Line>, slot: &Block) -> Result<Option<PairKey>, AllocError>
-    ensures { IfOk result (λ pair. pair ≡ pair_of refdes.now slot.now) }
+fn pair_of<'a>(refdes: &'a Option<Line>, slot: &'a Block) -> Option<PairKey<'a>>
+    ensures { result ≡ pair_of refdes.now slot.now }
 {
     match refdes {
-        None => Ok(None),
+        None => None,
         Some(refdes) => {
-            let first = refdes.clone()?;
-            let second = slot.clone()?;
-            Ok(Some(PairKey { first, second }))
+            let first = refdes.as_str();
+            let second = slot.as_str();
+            Some(PairKey { first, second })
         }
     }
 }
 
-/// The refdes and the slot of a listed part that has one.
-pub fn slotted_pair(component: &CheckedComponent) -> Result<Option<PairKey>, AllocError>
-    ensures { IfOk result (λ pair. pair ≡ slotted_pair component.now) }
+/// The refdes and the slot of a listed part that has one. It takes no memory.
+pub fn slotted_pair(component: &CheckedComponent) -> Option<PairKey<'_>>
+    ensures { result ≡ slotted_pair component.now }
 {
     if !is_listed(component) {
-        return Ok(None);
+        return None;
     }
     match &component.slot {
-        None => Ok(None),
+        None => None,
         Some(slot) => pair_of(&component.refdes, slot),
     }
 }
@@ -91,18 +91,24 @@ fn whole_names(alloc: Global, components: &[CheckedComponent]) -> Result<Vec<Lin
 }
 
 #[tactic(auto, using(crate::proofs::ListLemmas::push_more))]
-fn slotted_pairs(alloc: Global, components: &[CheckedComponent]) -> Result<Vec<PairKey>, AllocError>
+fn slotted_pairs<'a>(
+    alloc: Global,
+    components: &'a [CheckedComponent],
+) -> Result<Vec<PairKey<'a>>, AllocError>
     ensures { IfOk result (λ pairs. pairs.items ≡ filter_map slotted_pair components.now) }
 {
     let mut pairs = Vec::new(alloc);
     for component in components {
-        push_if(&mut pairs, slotted_pair(component)?)?;
+        push_if(&mut pairs, slotted_pair(component))?;
     }
     Ok(pairs)
 }
 
 /// What these components have in common.
-pub fn repeats_of(alloc: Global, components: &[CheckedComponent]) -> Result<Repeats, AllocError>
+pub fn repeats_of<'a>(
+    alloc: Global,
+    components: &'a [CheckedComponent],
+) -> Result<Repeats<'a>, AllocError>
     ensures { IfOk result (AreRepeats components.now) }
 {
     let numbered = numbered_names(alloc, components)?;

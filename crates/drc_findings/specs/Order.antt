@@ -25,7 +25,9 @@ by_finding =
 -- findings are in a total order
 pub by_finding_total : IsTotalOrder by_finding
 by_finding_total =
-    then_total (then_total (on_total (λ f. f.code) nat_cmp_total) (on_total (λ f. f.words) (lists_total nat_cmp_total)))
+    then_total
+    (then_total (on_total (λ f. f.code) nat_cmp_total)
+    (on_total (λ f. f.words) (lists_total nat_cmp_total)))
     (on_total (λ f. level_rank f.level) nat_cmp_total)
 
 -- findings in order, with more, equal ones once

@@ -62,7 +62,8 @@ count_text count = ended (codes "findings " ++ decimal count)
 
 -- the last line
 abbrev pub levels_text : ℕ → ℕ → List ℕ
-levels_text errors warnings = ended (codes "errors " ++ decimal errors ++ (codes " warnings " ++ decimal warnings))
+levels_text errors warnings =
+    ended (codes "errors " ++ decimal errors ++ (codes " warnings " ++ decimal warnings))
 
 -- the report
 abbrev pub report_text : List Finding → List ℕ

@@ -7,9 +7,9 @@ ghost use Rattle.drc_findings.specs.declared.finding.Finding.{Finding};
 ghost use Rattle.drc_findings.specs.Findings.{same_text};
 ghost use Rattle.drc_findings.specs.Order.{by_finding, in_order, with_findings};
 
+use crate::adding::add_error;
 use crate::finding::Finding;
 use geda_model::Line;
-use pin_matrix::Level;
 use printed_texts::name_words;
 use std::alloc::{AllocError, Global};
 use std::collections::BTreeSet;
@@ -24,13 +24,12 @@ pub fn add_same_text(
     ensures { (names : List (List ℕ)) → HasNames (look_alike names) alike.now → OnOk result
         (found.new.keys ≡ with_findings found.old.keys (same_text names name.now)) }
 {
+    if alike.is_empty() {
+        return Ok(());
+    }
     let words = name_words(alloc, name)?;
     if alike.contains(&words) {
-        found.insert(Finding {
-            code: 18,
-            level: Level::Error,
-            words,
-        })?;
+        add_error(found, 18, words)?;
     }
     Ok(())
 }

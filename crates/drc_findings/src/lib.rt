@@ -4,10 +4,12 @@
 //! Definitions: specs/Findings.antt, specs/Order.antt and specs/Report.antt.
 #![tactic(auto)]
 
+mod adding;
 mod finding;
 mod found;
 mod report;
 
+pub use adding::{add_error, add_finding, add_warning};
 pub use finding::Finding;
 pub use found::{add_same_text, listed, order_law};
 pub use report::report_text;

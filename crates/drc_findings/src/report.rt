@@ -1,8 +1,8 @@
 // The text of a report.
 ghost use Rattle.std.specs.Prelude.{◌≡◌, ◌++◌, IfOk, OnOk, count_by};
 ghost use Rattle.std.specs.List.{flat_map};
-ghost use Rattle.drc_findings.specs.Report.{code_name, count_text, finding_text, is_error, is_warning};
-ghost use Rattle.drc_findings.specs.Report.{level_word, levels_text, report_text};
+ghost use Rattle.drc_findings.specs.Report.{code_name, count_text, finding_text, is_error};
+ghost use Rattle.drc_findings.specs.Report.{is_warning, level_word, levels_text, report_text};
 
 use crate::finding::Finding;
 use pin_matrix::Level;
@@ -62,21 +62,23 @@ fn is_warning(finding: &Finding) -> bool
     }
 }
 
-fn put_finding(alloc: Global, out: &mut Vec<u8>, finding: &Finding) -> Result<(), AllocError>
+fn put_finding(out: &mut Vec<u8>, finding: &Finding) -> Result<(), AllocError>
     ensures { OnOk result (out.new.items ≡ out.old.items ++ finding_text finding.now) }
 {
-    let level = level_word(finding.level);
-    let name = code_name(finding.code);
-    let words = finding.words.as_str();
-    let line = format!(in alloc; "{level} {name} {words}\n")?;
-    out.extend_from_slice(line.as_bytes())
+    out.extend_from_slice(level_word(finding.level).as_bytes())?;
+    out.push(b' ')?;
+    out.extend_from_slice(code_name(finding.code).as_bytes())?;
+    out.push(b' ')?;
+    out.extend_from_slice(finding.words.as_str().as_bytes())?;
+    out.push(b'\n')?;
+    Ok(())
 }
 
-fn put_findings(alloc: Global, out: &mut Vec<u8>, findings: &[Finding]) -> Result<(), AllocError>
+fn put_findings(out: &mut Vec<u8>, findings: &[Finding]) -> Result<(), AllocError>
     ensures { OnOk result (out.new.items ≡ out.old.items ++ flat_map finding_text findings.now) }
 {
     for finding in findings {
-        put_finding(alloc, out, finding)?;
+        put_finding(out, finding)?;
     }
     Ok(())
 }
@@ -123,7 +125,7 @@ pub fn report_text(alloc: Global, findings: &[Finding]) -> Result<Vec<u8>, Alloc
     let warnings = count_warnings(findings);
     let mut out = Vec::new(alloc);
     put_count(alloc, &mut out, findings.len())?;
-    put_findings(alloc, &mut out, findings)?;
+    put_findings(&mut out, findings)?;
     put_levels(alloc, &mut out, errors, warnings)?;
     Ok(out)
 }

@@ -16,8 +16,8 @@ use Rattle.component_checks.specs.OnComponents.{found_on_components}
 use Rattle.component_checks.specs.OnPackages.{found_on_packages}
 use Rattle.net_checks.specs.OnNets.{found_on_nets}
 
--- MissingSource: a source of a component names no sheet. SourceLoop: a source is left out, since its
--- sheet is on the way. Unreached: a sheet has no instance
+-- MissingSource: a source of a component names no sheet. SourceLoop: a source is left out, since
+-- its sheet is on the way. Unreached: a sheet has no instance
 abbrev pub lost_finding : Lost → Finding
 lost_finding (losts.MissingSource sheet value) = an_error 14 (two_words (word sheet) (word value))
 lost_finding (losts.SourceLoop refdes sheet) = an_error 15 (two_words (word refdes) (word sheet))

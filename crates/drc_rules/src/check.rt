@@ -1,48 +1,37 @@
 // The findings of a project.
-ghost use Rattle.std.specs.Prelude.{◌≡◌, IfOk, OnOk, map};
+ghost use Rattle.std.specs.Prelude.{◌≡◌, ◌∷◌, [], IfOk, OnOk, map};
 ghost use Rattle.std.specs.List.Sorted.{IsStrictlySortedBy};
 ghost use Rattle.hierarchy.specs.Instances.{instances_of, lost_of};
 ghost use Rattle.drc_findings.specs.Order.{by_finding, with_findings};
 ghost use Rattle.drc_rules.specs.Findings.{findings, lost_finding};
 
 use component_checks::{add_on_components, add_on_packages, checked_components};
-use drc_findings::{Finding, listed};
+use drc_findings::{Finding, add_error, add_warning, listed};
 use geda_model::Project;
 use hierarchy::{Hierarchy, Lost};
 use net_checks::add_on_nets;
 use net_names::Nets;
-use pin_matrix::{Level, Matrix};
+use pin_matrix::Matrix;
 use printed_texts::{name_words, pair_words};
 use std::alloc::{AllocError, Global};
 use std::collections::BTreeSet;
 
-fn lost_finding(alloc: Global, lost: &Lost) -> Result<Finding, AllocError>
-    ensures { IfOk result (λ made. made ≡ lost_finding lost.now) }
+fn add_lost_one(alloc: Global, found: &mut BTreeSet<Finding>, lost: &Lost) -> Result<(), AllocError>
+    ensures { OnOk result
+        (found.new.keys ≡ with_findings found.old.keys (lost_finding lost.now ∷ [])) }
 {
     match lost {
         Lost::MissingSource { sheet, value } => {
             let words = pair_words(alloc, sheet.as_str(), value.as_str())?;
-            Ok(Finding {
-                code: 14,
-                level: Level::Error,
-                words,
-            })
+            add_error(found, 14, words)
         }
         Lost::SourceLoop { refdes, sheet } => {
             let words = pair_words(alloc, refdes.as_str(), sheet.as_str())?;
-            Ok(Finding {
-                code: 15,
-                level: Level::Error,
-                words,
-            })
+            add_error(found, 15, words)
         }
         Lost::Unreached { sheet } => {
             let words = name_words(alloc, sheet.as_str())?;
-            Ok(Finding {
-                code: 16,
-                level: Level::Warning,
-                words,
-            })
+            add_warning(found, 16, words)
         }
     }
 }
@@ -52,7 +41,7 @@ fn add_lost(alloc: Global, found: &mut BTreeSet<Finding>, lost: &[Lost]) -> Resu
         ≡ with_findings found.old.keys (map lost_finding lost.now)) }
 {
     for one in lost {
-        found.insert(lost_finding(alloc, one)?)?;
+        add_lost_one(alloc, found, one)?;
     }
     Ok(())
 }

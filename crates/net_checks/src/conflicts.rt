@@ -7,7 +7,7 @@ ghost use Rattle.net_checks.specs.steps.Counts.{is_conflict_by, meet_by};
 
 use crate::kind_counts::{KindCount, kind_counts};
 use crate::kind_words::conflict_words;
-use drc_findings::Finding;
+use drc_findings::{Finding, add_finding};
 use net_names::Net;
 use pin_matrix::{Matrix, are_in_order, is_correct, same_kind};
 use std::alloc::{AllocError, Global};
@@ -47,11 +47,7 @@ fn add_conflict(
 {
     if is_conflict(matrix, first, second) {
         let words = conflict_words(alloc, name, first.kind, second.kind)?;
-        found.insert(Finding {
-            code: 8,
-            level: matrix.entry(first.kind, second.kind),
-            words,
-        })?;
+        add_finding(found, matrix.entry(first.kind, second.kind), 8, words)?;
     }
     Ok(())
 }
@@ -68,6 +64,9 @@ fn add_conflicts_with(
     ensures { OnOk result (found.new.keys
         ≡ with_findings found.old.keys (conflicts_with_by matrix.now name.now others.now first)) }
 {
+    if first.count == 0 {
+        return Ok(());
+    }
     for second in others {
         add_conflict(alloc, found, matrix, name, first, *second)?;
     }
@@ -91,9 +90,8 @@ fn add_conflicts_among(
     Ok(())
 }
 
-/// Adds what is found on kinds that meet in a net.
 #[tactic(auto, using(crate::proofs::ConflictLemmas::conflicts_counted))]
-pub fn add_conflicts(
+fn add_conflicts_of(
     alloc: Global,
     found: &mut BTreeSet<Finding>,
     matrix: &Matrix,
@@ -104,4 +102,20 @@ pub fn add_conflicts(
 {
     let counts = kind_counts(net.members.as_slice());
     add_conflicts_among(alloc, found, matrix, net.name.as_str(), &counts)
+}
+
+/// Adds what is found on kinds that meet in a net; nothing does where it has one member alone.
+pub fn add_conflicts(
+    alloc: Global,
+    found: &mut BTreeSet<Finding>,
+    matrix: &Matrix,
+    net: &Net,
+) -> Result<(), AllocError>
+    ensures { OnOk result (found.new.keys
+        ≡ with_findings found.old.keys (conflicts matrix.now net.now)) }
+{
+    if net.members.as_slice().len() < 2 {
+        return Ok(());
+    }
+    add_conflicts_of(alloc, found, matrix, net)
 }

@@ -7,9 +7,8 @@ ghost use Rattle.net_checks.specs.OnNets.{is_driven_kind, is_undriven, not_drive
 use crate::kind_counts::is_of_kind;
 use crate::unconnected::is_unconnected;
 use attr_rules::PinKind;
-use drc_findings::Finding;
+use drc_findings::{Finding, add_error};
 use net_names::{Member, Net};
-use pin_matrix::Level;
 use printed_texts::name_words;
 use std::alloc::{AllocError, Global};
 use std::collections::BTreeSet;
@@ -49,12 +48,7 @@ pub fn add_not_driven(
         (found.new.keys ≡ with_findings found.old.keys (not_driven net.now)) }
 {
     if is_undriven(net) {
-        let words = name_words(alloc, net.name.as_str())?;
-        found.insert(Finding {
-            code: 11,
-            level: Level::Error,
-            words,
-        })?;
+        add_error(found, 11, name_words(alloc, net.name.as_str())?)?;
     }
     Ok(())
 }

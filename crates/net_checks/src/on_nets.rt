@@ -37,13 +37,13 @@ fn alike_names(alloc: Global, nets: &[Net]) -> Result<BTreeSet<Line>, AllocError
 }
 
 #[tactic(auto, using(drc_findings::proofs::FoundLemmas::with_append))]
-fn add_on_net(
+fn add_on_net<'a>(
     alloc: Global,
     found: &mut BTreeSet<Finding>,
     matrix: &Matrix,
-    on_two: &BTreeSet<PairKey>,
+    on_two: &BTreeSet<PairKey<'a>>,
     alike: &BTreeSet<Line>,
-    net: &Net,
+    net: &'a Net,
 ) -> Result<(), AllocError>
     ensures { (nets : List Net) → HasPinsOnTwo nets on_two.now → HasAlikeNames nets alike.now
         → OnOk result (found.new.keys
@@ -58,13 +58,13 @@ fn add_on_net(
 }
 
 #[tactic(auto, using(drc_findings::proofs::FoundLemmas::flat_more))]
-fn add_on_each(
+fn add_on_each<'a>(
     alloc: Global,
     found: &mut BTreeSet<Finding>,
     matrix: &Matrix,
-    on_two: &BTreeSet<PairKey>,
+    on_two: &BTreeSet<PairKey<'a>>,
     alike: &BTreeSet<Line>,
-    nets: &[Net],
+    nets: &'a [Net],
 ) -> Result<(), AllocError>
     requires on_two { HasPinsOnTwo nets.now on_two.now }
     requires alike { HasAlikeNames nets.now alike.now }

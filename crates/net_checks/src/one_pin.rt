@@ -4,9 +4,8 @@ ghost use Rattle.drc_findings.specs.Order.{with_findings};
 ghost use Rattle.net_checks.specs.OnNets.{one_pin};
 
 use crate::unconnected::is_unconnected;
-use drc_findings::Finding;
+use drc_findings::{Finding, add_warning};
 use net_names::Net;
-use pin_matrix::Level;
 use printed_texts::name_words;
 use std::alloc::{AllocError, Global};
 use std::collections::BTreeSet;
@@ -21,12 +20,7 @@ pub fn add_one_pin(
         (found.new.keys ≡ with_findings found.old.keys (one_pin net.now)) }
 {
     if !is_unconnected(net) && net.members.as_slice().len() == 1 {
-        let words = name_words(alloc, net.name.as_str())?;
-        found.insert(Finding {
-            code: 9,
-            level: Level::Warning,
-            words,
-        })?;
+        add_warning(found, 9, name_words(alloc, net.name.as_str())?)?;
     }
     Ok(())
 }

@@ -1,37 +1,37 @@
 // The pins that are members of two nets.
 ghost use Rattle.std.specs.Prelude.{◌≡◌, IfOk, OnOk};
 ghost use Rattle.net_checks.specs.OnNets.{pair_of};
-ghost use Rattle.text_tallies.specs.steps.SetSteps.{AddsPair, AddsPairIfSeen};
-ghost use Rattle.net_checks.specs.steps.Pins.{AddsPairs, AddsPairsIfSeen, HasPinsOnTwo};
+ghost use Rattle.net_checks.specs.steps.Pins.{AddsPair, AddsPairIfSeen, AddsPairs};
+ghost use Rattle.net_checks.specs.steps.Pins.{AddsPairsIfSeen, HasPinsOnTwo};
 
-use geda_model::Block;
 use net_names::{Member, Net};
 use std::alloc::{AllocError, Global};
-use std::collections::BTreeSet;
+use std::collections::{BTreeSet, HashSet};
 use text_tallies::PairKey;
 
-/// The refdes and the pin number of a member.
-pub fn pair_of(alloc: Global, member: &Member) -> Result<PairKey, AllocError>
-    ensures { IfOk result (λ pair. pair ≡ pair_of member.now) }
+/// The refdes and the pin number of a member. It takes no memory.
+pub fn pair_of(member: &Member) -> PairKey<'_>
+    ensures { result ≡ pair_of member.now }
 {
-    let first = member.refdes.clone()?;
-    let second = Block::new(alloc, member.pin.as_str())?;
-    Ok(PairKey { first, second })
+    PairKey {
+        first: member.refdes.as_str(),
+        second: member.pin.as_str(),
+    }
 }
 
-fn add_pair(pairs: &mut BTreeSet<PairKey>, pair: PairKey) -> Result<(), AllocError>
-    ensures { OnOk result (AddsPair pair pairs.old pairs.new) }
+fn add_pair<'a>(seen: &mut HashSet<PairKey<'a>>, pair: PairKey<'a>) -> Result<(), AllocError>
+    ensures { OnOk result (AddsPair pair.entry seen.old seen.new) }
 {
-    pairs.insert(pair)?;
+    seen.insert(pair)?;
     Ok(())
 }
 
-fn add_if_seen(
-    seen: &BTreeSet<PairKey>,
-    twice: &mut BTreeSet<PairKey>,
-    pair: PairKey,
+fn add_if_seen<'a>(
+    seen: &HashSet<PairKey<'a>>,
+    twice: &mut BTreeSet<PairKey<'a>>,
+    pair: PairKey<'a>,
 ) -> Result<(), AllocError>
-    ensures { OnOk result (AddsPairIfSeen pair seen.now twice.old twice.new) }
+    ensures { OnOk result (AddsPairIfSeen pair.entry seen.now twice.old twice.new) }
 {
     if seen.contains(&pair) {
         twice.insert(pair)?;
@@ -39,56 +39,50 @@ fn add_if_seen(
     Ok(())
 }
 
-fn add_members(
-    alloc: Global,
-    seen: &mut BTreeSet<PairKey>,
-    members: &[Member],
-) -> Result<(), AllocError>
+fn add_members<'a>(seen: &mut HashSet<PairKey<'a>>, members: &'a [Member]) -> Result<(), AllocError>
     ensures { OnOk result (AddsPairs members.now seen.old seen.new) }
 {
     for member in members {
-        add_pair(seen, pair_of(alloc, member)?)?;
+        add_pair(seen, pair_of(member))?;
     }
     Ok(())
 }
 
 #[tactic(auto, using(crate::proofs::PinLemmas::seen_more))]
-fn add_seen_members(
-    alloc: Global,
-    seen: &BTreeSet<PairKey>,
-    twice: &mut BTreeSet<PairKey>,
-    members: &[Member],
+fn add_seen_members<'a>(
+    seen: &HashSet<PairKey<'a>>,
+    twice: &mut BTreeSet<PairKey<'a>>,
+    members: &'a [Member],
 ) -> Result<(), AllocError>
     ensures { OnOk result (AddsPairsIfSeen members.now seen.now twice.old twice.new) }
 {
     for member in members {
-        add_if_seen(seen, twice, pair_of(alloc, member)?)?;
+        add_if_seen(seen, twice, pair_of(member))?;
     }
     Ok(())
 }
 
 // Members are first asked of those that were seen, so that a pair twice in one net is not on two.
-fn take_net(
-    alloc: Global,
-    seen: &mut BTreeSet<PairKey>,
-    twice: &mut BTreeSet<PairKey>,
-    members: &[Member],
+fn take_net<'a>(
+    seen: &mut HashSet<PairKey<'a>>,
+    twice: &mut BTreeSet<PairKey<'a>>,
+    members: &'a [Member],
 ) -> Result<(), AllocError>
     ensures seen { OnOk result (AddsPairs members.now seen.old seen.new) }
     ensures twice { OnOk result (AddsPairsIfSeen members.now seen.old twice.old twice.new) }
 {
-    add_seen_members(alloc, seen, twice, members)?;
-    add_members(alloc, seen, members)
+    add_seen_members(seen, twice, members)?;
+    add_members(seen, members)
 }
 
 /// The pins that are members of two nets.
-pub fn pairs_on_two(alloc: Global, nets: &[Net]) -> Result<BTreeSet<PairKey>, AllocError>
+pub fn pairs_on_two<'a>(alloc: Global, nets: &'a [Net]) -> Result<BTreeSet<PairKey<'a>>, AllocError>
     ensures { IfOk result (HasPinsOnTwo nets.now) }
 {
-    let mut seen = BTreeSet::new(alloc);
+    let mut seen = HashSet::new(alloc);
     let mut twice = BTreeSet::new(alloc);
     for net in nets {
-        take_net(alloc, &mut seen, &mut twice, net.members.as_slice())?;
+        take_net(&mut seen, &mut twice, net.members.as_slice())?;
     }
     Ok(twice)
 }

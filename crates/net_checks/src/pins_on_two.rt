@@ -4,41 +4,36 @@ ghost use Rattle.drc_findings.specs.Order.{with_findings};
 ghost use Rattle.net_checks.specs.steps.Pins.{member_on_two_by, pins_on_two_by};
 
 use crate::pairs_on_two::pair_of;
-use drc_findings::Finding;
+use drc_findings::{Finding, add_error};
 use net_names::Member;
-use pin_matrix::Level;
 use printed_texts::pin_words;
 use std::alloc::{AllocError, Global};
 use std::collections::BTreeSet;
 use text_tallies::PairKey;
 
-fn add_member_on_two(
+fn add_member_on_two<'a>(
     alloc: Global,
     found: &mut BTreeSet<Finding>,
-    on_two: &BTreeSet<PairKey>,
-    member: &Member,
+    on_two: &BTreeSet<PairKey<'a>>,
+    member: &'a Member,
 ) -> Result<(), AllocError>
     ensures { OnOk result (found.new.keys
         ≡ with_findings found.old.keys (member_on_two_by on_two.now member.now)) }
 {
-    if on_two.contains(&pair_of(alloc, member)?) {
+    if on_two.contains(&pair_of(member)) {
         let words = pin_words(alloc, member.refdes.as_str(), member.pin.as_str())?;
-        found.insert(Finding {
-            code: 12,
-            level: Level::Error,
-            words,
-        })?;
+        add_error(found, 12, words)?;
     }
     Ok(())
 }
 
 /// Adds what is found on members, by the pins that are members of two nets.
 #[tactic(auto, using(drc_findings::proofs::FoundLemmas::flat_more))]
-pub fn add_pins_on_two(
+pub fn add_pins_on_two<'a>(
     alloc: Global,
     found: &mut BTreeSet<Finding>,
-    on_two: &BTreeSet<PairKey>,
-    members: &[Member],
+    on_two: &BTreeSet<PairKey<'a>>,
+    members: &'a [Member],
 ) -> Result<(), AllocError>
     ensures { OnOk result (found.new.keys
         ≡ with_findings found.old.keys (pins_on_two_by on_two.now members.now)) }

@@ -5,7 +5,7 @@ ghost use Rattle.drc_findings.specs.Order.{with_findings};
 ghost use Rattle.net_checks.specs.OnNets.{is_unconnected, unconnected_member, unconnected_pin};
 
 use attr_rules::PinKind;
-use drc_findings::Finding;
+use drc_findings::{Finding, add_finding};
 use net_names::{Member, Net, NetSort};
 use pin_matrix::{Matrix, is_correct};
 use printed_texts::pin_words;
@@ -35,11 +35,7 @@ fn add_member(
     let level = matrix.entry(PinKind::Unconnected, member.kind);
     if is_unconnected(net) && !is_correct(level) {
         let words = pin_words(alloc, member.refdes.as_str(), member.pin.as_str())?;
-        found.insert(Finding {
-            code: 10,
-            level,
-            words,
-        })?;
+        add_finding(found, level, 10, words)?;
     }
     Ok(())
 }

@@ -1,5 +1,5 @@
--- How grave it is that two kinds of pins meet in a net (own). A matrix is a lower triangle: each kind
--- has a row from unknown on to itself; c is correct, w a warning, e an error. The usual one:
+-- How grave it is that two kinds of pins meet in a net (own). A matrix is a lower triangle: each
+-- kind has a row from unknown on to itself; c is correct, w a warning, e an error. The usual one:
 --
 --   | kind        | unknown in out io oc oe pas tp tri clk pwr unconnected |
 --   |-------------|--------------------------------------------------------|

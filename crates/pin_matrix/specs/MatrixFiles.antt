@@ -11,7 +11,8 @@ use Rattle.pin_matrix.specs.Matrices.{level_of}
 -- the levels of these letters; none where one is no level
 abbrev pub levels_of : List ℕ → Option (List Level)
 levels_of [] = Some []
-levels_of (b ∷ rest) = option_and_then (λ level. option_map (λ more. level ∷ more) (levels_of rest)) (level_of b)
+levels_of (b ∷ rest) =
+    option_and_then (λ level. option_map (λ more. level ∷ more) (levels_of rest)) (level_of b)
 
 -- a row: a text of so many levels
 abbrev pub row_of : ℕ → Data → Option (List Level)
@@ -22,7 +23,8 @@ row_of want row =
 unfoldable pub rows_from : ℕ → Items → Option (List Level)
 rows_from want no_items = if want == 13 then Some [] else None
 rows_from want (item row rest) =
-    option_and_then (λ first. option_map (λ more. first ++ more) (rows_from (want + 1) rest)) (row_of want row)
+    option_and_then (λ first. option_map (λ more. first ++ more) (rows_from (want + 1) rest))
+    (row_of want row)
 
 -- how many keys a document has
 abbrev pub count_of : Members → ℕ
@@ -36,7 +38,8 @@ rows_in value = option_and_then (rows_from 1) (as_array value)
 -- the matrix in a document, row by row
 abbrev pub matrix_in : Members → Option (List Level)
 matrix_in members =
-    if count_of members == 1 then option_and_then rows_in (get_member (codes "rows") members) else None
+    if count_of members == 1 then option_and_then rows_in (get_member (codes "rows") members)
+    else None
 
 -- the document that the bytes are: at most 4 MiB of UTF-8 that toml reads
 abbrev pub document_of : List ℕ → Option Members

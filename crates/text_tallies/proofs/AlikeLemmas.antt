@@ -5,14 +5,14 @@ use Rattle.std.specs.BTreeSet as set
 use Rattle.std.specs.Borrow.{Bor}
 use Rattle.std.specs.Cmp.Lexicographic.{slice_cmp}
 use Rattle.std.specs.List.{list_any}
-use Rattle.std.specs.Option.{is_some, option_copied, option_or}
+use Rattle.std.specs.Option.{option_copied, option_or}
 use Rattle.std.specs.Ordering.{nat_cmp}
 use Rattle.std.specs.Str.{bytes_eq}
 use Rattle.std.proofs.lemmas.Map.Text.{is_eq-slice_cmp}
 use Rattle.printed_texts.specs.PrintedTexts.{word}
 use Rattle.text_tallies.specs.LookAlike.{look_alike, print_alike}
 use Rattle.text_tallies.specs.NameSets.{has_name}
-use Rattle.text_tallies.specs.steps.FirstNames.{AddsDiffering, AddsFirst, FirstNames, alike_after, differs, first_at}
+use Rattle.text_tallies.specs.steps.FirstNames.{AddsDiffering, AddsFirst, AddsIf, FirstNames, alike_after, differs, first_at}
 use Rattle.text_tallies.proofs.PairLemmas.{and_false, any_none, any_pairs, any_same, or_false}
 use Rattle.text_tallies.proofs.SetLemmas.{same_bytes}
 
@@ -104,30 +104,40 @@ alike_from_none text (name ∷ names) =
     from_none_more text name names (alike_from_none text names) (bytes_eq (word name) text) refl
     ∙ sym (any_pairs (print_alike text) name names)
 
--- the text of a name that differs from the first is added
-pub adds_differing : (name : List ℕ) (firsts : FirstNames) (old new : set.BTreeSet (List ℕ))
-    → differs (first_at firsts (word name)) name ≡ true
-    → set.Updates (slice_cmp nat_cmp) old new (word name) true → AddsDiffering name firsts old new
-adds_differing name firsts old new other updates q =
-    updates.0 q ∙ rw (is_eq-slice_cmp (word name) q) (by (bytes_eq (word name) q) refl)
+-- a text is added under a condition
+pub adds_if : (is_other : Bool) (text : List ℕ) (old new : set.BTreeSet (List ℕ)) → is_other ≡ true
+    → set.Updates (slice_cmp nat_cmp) old new text true → AddsIf is_other text old new
+adds_if is_other text old new other updates q =
+    updates.0 q ∙ rw (is_eq-slice_cmp text q, other) (by (bytes_eq text q))
+  where
+    by : (b : Bool) → cond b true (has_name old q) ≡ (has_name old q || (b && true))
+    by true = sym (or_true (has_name old q))
+    by false = sym (or_false (has_name old q))
+
+-- none is added where it is false
+pub adds_none : (is_other : Bool) (text : List ℕ) (old : set.BTreeSet (List ℕ)) → is_other ≡ false
+    → AddsIf is_other text old old
+adds_none is_other text old no_other q =
+    rw (no_other, and_false (bytes_eq text q)) (sym (or_false (has_name old q)))
+
+-- the text of a name is added if its first name is another
+pub adds_differing : (name : List ℕ) (first : Option (List ℕ)) (firsts : FirstNames) (old new : set.BTreeSet (List ℕ))
+    → first_at firsts (word name) ≡ first → AddsIf (differs first name) (word name) old new
+    → AddsDiffering name firsts old new
+adds_differing name first firsts old new is adds q = adds q ∙ by (bytes_eq (word name) q) refl
   where
     by : (b : Bool) → bytes_eq (word name) q ≡ b
-        → cond b true (has_name old q) ≡ (has_name old q || (b && differs (first_at firsts q) name))
-    by true e = rw (sym (same_bytes (word name) q e), other) (sym (or_true (has_name old (word name))))
-    by false e = sym (or_false (has_name old q))
+        → (has_name old q || (b && differs first name)) ≡ (has_name old q || (b && differs (first_at firsts q) name))
+    by true e = rw (sym (same_bytes (word name) q e), is) refl
+    by false e = refl
 
 or_none : (first : Option (List ℕ)) → option_or first None ≡ first
 or_none None = refl
 or_none (Some first) = refl
 
-none_or : (first : Option (Bor (List ℕ))) (name : List ℕ) → is_some first ≡ false
-    → option_or (option_copied first) (Some name) ≡ Some name
-none_or None name e = refl
-none_or (Some first) name e = absurd (let h : true ≡ false = e in cc)
-
 -- the first name of a text is put in
 pub adds_first : (text : List ℕ) (name : Bor (List ℕ)) (old new : FirstNames)
-    → is_some (get (slice_cmp nat_cmp) old text) ≡ false
+    → first_at old text ≡ None
     → Updates (slice_cmp nat_cmp) old new text (Some name) → AddsFirst text name.now old new
 adds_first text name old new free updates q =
     ap option_copied (updates.0 q) ∙ rw (is_eq-slice_cmp text q) (by (bytes_eq text q) refl)
@@ -135,5 +145,18 @@ adds_first text name old new free updates q =
     by : (b : Bool) → bytes_eq text q ≡ b
         → option_copied (cond b (Some name) (get (slice_cmp nat_cmp) old q))
         ≡ option_or (first_at old q) (cond b (Some name.now) None)
-    by true e = rw (sym (same_bytes text q e)) (sym (none_or (get (slice_cmp nat_cmp) old text) name.now free))
+    by true e = rw (sym (same_bytes text q e), free) refl
     by false e = sym (or_none (first_at old q))
+
+-- where a text has a first name, that stays
+pub first_stays : (text name first : List ℕ) (firsts : FirstNames) → first_at firsts text ≡ Some first
+    → AddsFirst text name firsts firsts
+first_stays text name first firsts is q = by (bytes_eq text q) refl
+  where
+    by : (b : Bool) → bytes_eq text q ≡ b → first_at firsts q ≡ option_or (first_at firsts q) (cond b (Some name) None)
+    by true e = rw (sym (same_bytes text q e), is) refl
+    by false e = sym (or_none (first_at firsts q))
+
+-- an empty set has no name
+pub none_has : (names : set.BTreeSet (List ℕ)) (q : List ℕ) → names.keys ≡ [] → has_name names q ≡ false
+none_has names q none = rw none refl

@@ -1,3 +1,4 @@
 pub mod PairLemmas
 pub mod SetLemmas
 pub mod AlikeLemmas
+pub mod PlainLemmas

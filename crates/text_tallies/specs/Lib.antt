@@ -1,5 +1,6 @@
 pub mod TwoOfAList
 pub mod NameSets
 pub mod PairSets
+pub mod PairHash
 pub mod LookAlike
 pub mod steps

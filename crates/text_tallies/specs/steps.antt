@@ -2,3 +2,4 @@
 pub mod Twice
 pub mod SetSteps
 pub mod FirstNames
+pub mod PlainNames

@@ -1,48 +1,26 @@
 // Names that differ and print alike.
-ghost use Rattle.std.specs.Prelude.{◌≡◌, IfOk, OnOk, map};
+ghost use Rattle.std.specs.Prelude.{◌≡◌, IfOk, OnOk, map, option_copied};
 ghost use Rattle.printed_texts.specs.PrintedTexts.{word};
 ghost use Rattle.text_tallies.specs.LookAlike.{look_alike};
 ghost use Rattle.text_tallies.specs.NameSets.{HasNames};
-ghost use Rattle.text_tallies.specs.steps.FirstNames.{AddsDiffering, AddsFirst, differs, first_at};
+ghost use Rattle.text_tallies.specs.steps.FirstNames.{AddsDiffering, AddsFirst, AddsIf, first_at};
 
+use crate::plain::are_plain;
 use geda_model::Line;
 use printed_texts::name_words;
 use std::alloc::{AllocError, Global};
 use std::collections::{BTreeMap, BTreeSet};
 
-fn differs(firsts: &BTreeMap<Line, &str>, printed: &Line, name: &str) -> bool
-    ensures { result ≡ differs (first_at firsts.now printed.now) name.now }
+fn first_of<'a>(firsts: &BTreeMap<Line, &'a str>, printed: &Line) -> Option<&'a str>
+    ensures { option_copied result ≡ first_at firsts.now printed.now }
 {
-    match firsts.get(printed) {
-        None => false,
-        Some(first) => *first != name,
-    }
+    firsts.get(printed).copied()
 }
 
-fn add_first<'a>(
-    firsts: &mut BTreeMap<Line, &'a str>,
-    printed: Line,
-    name: &'a str,
-) -> Result<(), AllocError>
-    ensures { OnOk result (AddsFirst printed name.now firsts.old firsts.new) }
+fn add_if(differ: &mut BTreeSet<Line>, is_other: bool, printed: Line) -> Result<(), AllocError>
+    ensures { OnOk result (AddsIf is_other printed differ.old differ.new) }
 {
-    if firsts.contains_key(&printed) {
-        return Ok(());
-    }
-    firsts.insert(printed, name)?;
-    Ok(())
-}
-
-fn add_differing(
-    alloc: Global,
-    firsts: &BTreeMap<Line, &str>,
-    differ: &mut BTreeSet<Line>,
-    name: &str,
-) -> Result<(), AllocError>
-    ensures { OnOk result (AddsDiffering name.now firsts.now differ.old differ.new) }
-{
-    let printed = name_words(alloc, name)?;
-    if differs(firsts, &printed, name) {
+    if is_other {
         differ.insert(printed)?;
     }
     Ok(())
@@ -57,13 +35,17 @@ fn take_name<'a>(
     ensures firsts { OnOk result (AddsFirst (word name.now) name.now firsts.old firsts.new) }
     ensures differ { OnOk result (AddsDiffering name.now firsts.old differ.old differ.new) }
 {
-    add_differing(alloc, firsts, differ, name)?;
     let printed = name_words(alloc, name)?;
-    add_first(firsts, printed, name)
+    match first_of(firsts, &printed) {
+        None => {
+            firsts.insert(printed, name)?;
+        }
+        Some(first) => add_if(differ, first != name, printed)?,
+    }
+    Ok(())
 }
 
-/// The printed texts of names that differ and print alike.
-pub fn alike_texts(alloc: Global, names: &[&str]) -> Result<BTreeSet<Line>, AllocError>
+fn differing_texts(alloc: Global, names: &[&str]) -> Result<BTreeSet<Line>, AllocError>
     ensures { IfOk result (HasNames (look_alike (map (λ n. n.now) names.now))) }
 {
     let mut firsts = BTreeMap::new(alloc);
@@ -72,4 +54,14 @@ pub fn alike_texts(alloc: Global, names: &[&str]) -> Result<BTreeSet<Line>, Allo
         take_name(alloc, &mut firsts, &mut differ, name)?;
     }
     Ok(differ)
+}
+
+/// The printed texts of names that differ and print alike. Where all print as they are, none do.
+pub fn alike_texts(alloc: Global, names: &[&str]) -> Result<BTreeSet<Line>, AllocError>
+    ensures { IfOk result (HasNames (look_alike (map (λ n. n.now) names.now))) }
+{
+    if are_plain(names) {
+        return Ok(BTreeSet::new(alloc));
+    }
+    differing_texts(alloc, names)
 }

@@ -4,6 +4,7 @@
 
 mod alike;
 mod pair;
+mod plain;
 mod twice;
 
 pub use alike::alike_texts;

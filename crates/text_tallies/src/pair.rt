@@ -1,26 +1,27 @@
 // Two texts as one key.
-use geda_model::{Block, Line};
 use std::cmp::Ordering;
+use std::hash::{Hash, Hasher};
 use std::marker::Model;
 
-/// A refdes, and a pin number or a slot. Ordered by the bytes of the first, then of the second.
+/// A refdes, and a pin number or a slot, lent. Ordered by the bytes of the first, then of the
+/// second.
 #[derive(Debug, Drop)]
-pub struct PairKey {
+pub struct PairKey<'a> {
     /// The refdes.
-    pub first: Line,
+    pub first: &'a str,
     /// The pin number or the slot.
-    pub second: Block,
+    pub second: &'a str,
 }
 
-impl Model for PairKey {
+impl<'a> Model for PairKey<'a> {
     ghost use Rattle.text_tallies.specs.PairSets.{PairData};
 
     ghost Value = { PairData };
 
-    ghost view = { λ p. record { first = p.first; second = p.second } };
+    ghost view = { λ p. record { first = p.first.now; second = p.second.now } };
 }
 
-impl PartialEq for PairKey {
+impl<'a> PartialEq for PairKey<'a> {
     ghost use Rattle.std.proofs.Common.{rules};
     ghost use Rattle.std.specs.Cmp.Rules.{comparing};
     ghost use Rattle.std.specs.Ordering.{eq_by_cmp};
@@ -30,19 +31,19 @@ impl PartialEq for PairKey {
 
     ghost laws = { Prim.search (comparing, rules) };
 
-    fn eq(&self, other: &PairKey) -> bool {
+    fn eq(&self, other: &PairKey<'a>) -> bool {
         self.cmp(other).is_eq()
     }
 }
 
-impl Eq for PairKey {
+impl<'a> Eq for PairKey<'a> {
     ghost use Rattle.std.proofs.Common.{rules};
     ghost use Rattle.std.specs.Cmp.Rules.{comparing};
 
     ghost laws = { Prim.search (comparing, rules) };
 }
 
-impl PartialOrd for PairKey {
+impl<'a> PartialOrd for PairKey<'a> {
     ghost use Rattle.std.specs.Prelude.{Some};
     ghost use Rattle.std.proofs.Common.{rules};
     ghost use Rattle.std.specs.Cmp.{partial_order_from_own_ties};
@@ -55,12 +56,12 @@ impl PartialOrd for PairKey {
     ghost laws = { partial_order_from_own_ties
         (Prim.search (comparing, rules)) (Prim.search (comparing, rules)) };
 
-    fn partial_cmp(&self, other: &PairKey) -> Option<Ordering> {
+    fn partial_cmp(&self, other: &PairKey<'a>) -> Option<Ordering> {
         Some(self.cmp(other))
     }
 }
 
-impl Ord for PairKey {
+impl<'a> Ord for PairKey<'a> {
     ghost use Rattle.std.proofs.Common.{rules};
     ghost use Rattle.std.specs.Cmp.Rules.{comparing};
     ghost use Rattle.text_tallies.specs.PairSets.{by_pair};
@@ -73,8 +74,21 @@ impl Ord for PairKey {
 
     ghost matches_eq = { Prim.search (comparing, rules) };
 
-    fn cmp(&self, other: &PairKey) -> Ordering {
-        let by_first = self.first.cmp(&other.first);
-        by_first.then(self.second.as_str().cmp(other.second.as_str()))
+    fn cmp(&self, other: &PairKey<'a>) -> Ordering {
+        let by_first = self.first.cmp(other.first);
+        by_first.then(self.second.cmp(other.second))
+    }
+}
+
+impl<'a> Hash for PairKey<'a> {
+    ghost use Rattle.text_tallies.specs.PairHash.{pair_writes, pairs_fed};
+
+    ghost hash_input = { pair_writes };
+
+    ghost respects_eq = { pairs_fed };
+
+    fn hash<H: Hasher>(&self, state: &mut H) {
+        self.first.hash(state);
+        self.second.hash(state);
     }
 }

@@ -5,8 +5,7 @@ ghost use Rattle.std.specs.Str.{bytes_eq};
 ghost use Rattle.text_tallies.specs.NameSets.{HasNames};
 ghost use Rattle.text_tallies.specs.PairSets.{HasPairs, same_pair};
 ghost use Rattle.text_tallies.specs.TwoOfAList.{two_pass};
-ghost use Rattle.text_tallies.specs.steps.SetSteps.{AddsName, AddsNameIfSeen};
-ghost use Rattle.text_tallies.specs.steps.SetSteps.{AddsPair, AddsPairIfSeen};
+ghost use Rattle.text_tallies.specs.steps.SetSteps.{Adds, AddsIfSeen, HasTwice};
 
 use crate::pair::PairKey;
 use geda_model::Line;
@@ -21,58 +20,48 @@ pub fn names_once(alloc: Global, names: Vec<Line>) -> Result<BTreeSet<Line>, All
     Ok(set)
 }
 
-fn take_name(
-    seen: &mut BTreeSet<Line>,
-    twice: &mut BTreeSet<Line>,
-    name: Line,
+fn take_key<K: Ord + Drop>(
+    seen: &mut BTreeSet<K>,
+    twice: &mut BTreeSet<K>,
+    key: K,
 ) -> Result<(), AllocError>
-    ensures seen { OnOk result (AddsName name seen.old seen.new) }
-    ensures twice { OnOk result (AddsNameIfSeen name seen.old twice.old twice.new) }
+    ensures seen { OnOk result (Adds K.cmp key seen.old seen.new) }
+    ensures twice { OnOk result (AddsIfSeen K.cmp key seen.old twice.old twice.new) }
 {
-    if seen.contains(&name) {
-        twice.insert(name)?;
+    if seen.contains(&key) {
+        twice.insert(key)?;
         return Ok(());
     }
-    seen.insert(name)?;
+    seen.insert(key)?;
     Ok(())
+}
+
+fn keys_twice<K: Ord + Drop>(alloc: Global, keys: Vec<K>) -> Result<BTreeSet<K>, AllocError>
+    ensures { IfOk result (HasTwice K.cmp keys.items) }
+{
+    let mut seen = BTreeSet::new(alloc);
+    let mut twice = BTreeSet::new(alloc);
+    for key in keys {
+        take_key(&mut seen, &mut twice, key)?;
+    }
+    Ok(twice)
 }
 
 /// The names that stand twice in a list.
 pub fn names_twice(alloc: Global, names: Vec<Line>) -> Result<BTreeSet<Line>, AllocError>
     ensures { IfOk result (HasNames (λ q. two_pass (bytes_eq q) names.items)) }
 {
-    let mut seen = BTreeSet::new(alloc);
-    let mut twice = BTreeSet::new(alloc);
-    for name in names {
-        take_name(&mut seen, &mut twice, name)?;
-    }
+    let twice = keys_twice(alloc, names)?;
     Ok(twice)
 }
 
-fn take_pair(
-    seen: &mut BTreeSet<PairKey>,
-    twice: &mut BTreeSet<PairKey>,
-    pair: PairKey,
-) -> Result<(), AllocError>
-    ensures seen { OnOk result (AddsPair pair seen.old seen.new) }
-    ensures twice { OnOk result (AddsPairIfSeen pair seen.old twice.old twice.new) }
-{
-    if seen.contains(&pair) {
-        twice.insert(pair)?;
-        return Ok(());
-    }
-    seen.insert(pair)?;
-    Ok(())
-}
-
 /// The pairs that stand twice in a list.
-pub fn pairs_twice(alloc: Global, pairs: Vec<PairKey>) -> Result<BTreeSet<PairKey>, AllocError>
-    ensures { IfOk result (HasPairs (λ q. two_pass (same_pair q) pairs.items)) }
+pub fn pairs_twice<'a>(
+    alloc: Global,
+    pairs: Vec<PairKey<'a>>,
+) -> Result<BTreeSet<PairKey<'a>>, AllocError>
+    ensures { IfOk result (HasPairs (λ q. two_pass (same_pair q) pairs.entry.items)) }
 {
-    let mut seen = BTreeSet::new(alloc);
-    let mut twice = BTreeSet::new(alloc);
-    for pair in pairs {
-        take_pair(&mut seen, &mut twice, pair)?;
-    }
+    let twice = keys_twice(alloc, pairs)?;
     Ok(twice)
 }

@@ -2,13 +2,15 @@
 -- Sets of the pins of nets and of their names, and what is found by them.
 use Rattle.std.specs.Prelude.{◌≡◌, ℕ, Bool, ◌&&◌, ◌||◌, List}
 use Rattle.std.specs.BTreeSet.{BTreeSet}
+use Rattle.std.specs.HashSet.{HashSet, contains}
 use Rattle.std.specs.List.{flat_map, list_any}
+use Rattle.std.specs.Ordering.{eq_by_cmp}
 use Rattle.link_classes.specs.declared.member.Member.{Member}
 use Rattle.net_names.specs.declared.nets.Net.{Net}
 use Rattle.printed_texts.specs.PrintedTexts.{pin_words}
 use Rattle.text_tallies.specs.LookAlike.{look_alike}
 use Rattle.text_tallies.specs.NameSets.{HasNames}
-use Rattle.text_tallies.specs.PairSets.{HasPairs, PairData, has_pair, same_pair}
+use Rattle.text_tallies.specs.PairSets.{HasPairs, PairData, by_pair, has_pair, same_pair}
 use Rattle.text_tallies.specs.TwoOfAList.{two_pass}
 use Rattle.drc_findings.specs.declared.finding.Finding.{Finding}
 use Rattle.drc_findings.specs.Findings.{an_error, found_if}
@@ -18,16 +20,31 @@ use Rattle.net_checks.specs.OnNets.{has_pair_in, names_of, pair_of}
 abbrev pub is_pair : PairData → Member → Bool
 is_pair q m = same_pair q (pair_of m)
 
--- the pairs of members in a set
-abbrev pub AddsPairs : List Member → BTreeSet PairData → BTreeSet PairData → Type 0
-AddsPairs members old new = (q : PairData)
-    → has_pair new q ≡ (has_pair old q || list_any (is_pair q) members)
+module _ {S : Type 0} where
+  -- the pair is in the set of those that were seen
+  abbrev pub is_seen : HashSet PairData S → PairData → Bool
+  is_seen seen q = contains (eq_by_cmp by_pair) seen q
 
--- those that are in the set of those that were seen
-abbrev pub AddsPairsIfSeen :
-    List Member → BTreeSet PairData → BTreeSet PairData → BTreeSet PairData → Type 0
-AddsPairsIfSeen members seen old new = (q : PairData)
-    → has_pair new q ≡ (has_pair old q || (has_pair seen q && list_any (is_pair q) members))
+  -- one more pair
+  abbrev pub AddsPair : PairData → HashSet PairData S → HashSet PairData S → Type 0
+  AddsPair pair old new = (q : PairData) → is_seen new q ≡ (is_seen old q || same_pair q pair)
+
+  -- one more pair, if it was seen
+  abbrev pub AddsPairIfSeen :
+      PairData → HashSet PairData S → BTreeSet PairData → BTreeSet PairData → Type 0
+  AddsPairIfSeen pair seen old new = (q : PairData)
+      → has_pair new q ≡ (has_pair old q || (is_seen seen q && same_pair q pair))
+
+  -- the pairs of members
+  abbrev pub AddsPairs : List Member → HashSet PairData S → HashSet PairData S → Type 0
+  AddsPairs members old new = (q : PairData)
+      → is_seen new q ≡ (is_seen old q || list_any (is_pair q) members)
+
+  -- those that were seen
+  abbrev pub AddsPairsIfSeen :
+      List Member → HashSet PairData S → BTreeSet PairData → BTreeSet PairData → Type 0
+  AddsPairsIfSeen members seen old new = (q : PairData)
+      → has_pair new q ≡ (has_pair old q || (is_seen seen q && list_any (is_pair q) members))
 
 -- the set has the pins that are members of two of these nets
 abbrev pub HasPinsOnTwo : List Net → BTreeSet PairData → Type 0

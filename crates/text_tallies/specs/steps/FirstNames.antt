@@ -29,11 +29,17 @@ abbrev pub AddsFirst : List ℕ → List ℕ → FirstNames → FirstNames → T
 AddsFirst text name old new = (q : List ℕ)
     → first_at new q ≡ option_or (first_at old q) (cond (bytes_eq text q) (Some name) None)
 
+-- one more text in a set, under a condition
+abbrev pub AddsIf : Bool → List ℕ → BTreeSet (List ℕ) → BTreeSet (List ℕ) → Type 0
+AddsIf is_other text old new = (q : List ℕ)
+    → has_name new q ≡ (has_name old q || (bytes_eq text q && is_other))
+
 -- the printed text of a name in a set, if the first name of that text is another
 abbrev pub AddsDiffering :
     List ℕ → FirstNames → BTreeSet (List ℕ) → BTreeSet (List ℕ) → Type 0
 AddsDiffering name firsts old new = (q : List ℕ)
-    → has_name new q ≡ (has_name old q || (bytes_eq (word name) q && differs (first_at firsts q) name))
+    → has_name new q
+    ≡ (has_name old q || (bytes_eq (word name) q && differs (first_at firsts q) name))
 
 -- the first name of a printed text, after one more name
 abbrev pub first_after : Option (List ℕ) → List ℕ → List ℕ → Option (List ℕ)

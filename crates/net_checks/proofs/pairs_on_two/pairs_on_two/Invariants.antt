@@ -3,9 +3,10 @@ use Rattle.text_tallies.specs.PairSets.{PairData, has_pair}
 use Rattle.text_tallies.specs.TwoOfAList.{two_pass}
 use Rattle.text_tallies.specs.steps.Twice.{twice_after}
 use Rattle.net_checks.specs.OnNets.{has_pair_in}
+use Rattle.net_checks.specs.steps.Pins.{is_seen}
 use Rattle.net_checks.proofs.pairs_on_two.pairs_on_two.Given as goal
 
 abbrev pub invariant-loop-net : goal.invariant-loop-net
 invariant-loop-net l = (q : PairData)
-    → twice_after (has_pair l.seen q) (has_pair l.twice q) (has_pair_in q) (drop l.net-index l.nets)
+    → twice_after (is_seen l.seen q) (has_pair l.twice q) (has_pair_in q) (drop l.net-index l.nets)
     ≡ two_pass (has_pair_in q) l.nets

@@ -1,22 +1,34 @@
 // One more finding.
 ghost use Rattle.std.specs.Prelude.{◌≡◌, ◌∷◌, [], OnOk};
-ghost use Rattle.drc_findings.specs.Findings.{a_warning, an_error};
+ghost use Rattle.drc_findings.specs.Findings.{a_warning, an_error, finding};
 ghost use Rattle.drc_findings.specs.Order.{with_findings};
 
-use drc_findings::Finding;
+use crate::finding::Finding;
 use geda_model::Line;
 use pin_matrix::Level;
 use std::alloc::AllocError;
 use std::collections::BTreeSet;
+
+/// Adds a finding of a rule at a level.
+pub fn add_finding(
+    found: &mut BTreeSet<Finding>,
+    level: Level,
+    code: u8,
+    words: Line,
+) -> Result<(), AllocError>
+    ensures { OnOk result
+        (found.new.keys ≡ with_findings found.old.keys (finding level code words ∷ [])) }
+{
+    found.insert(Finding { code, level, words })?;
+    Ok(())
+}
 
 /// Adds an error of a rule.
 pub fn add_error(found: &mut BTreeSet<Finding>, code: u8, words: Line) -> Result<(), AllocError>
     ensures { OnOk result
         (found.new.keys ≡ with_findings found.old.keys (an_error code words ∷ [])) }
 {
-    let level = Level::Error;
-    found.insert(Finding { code, level, words })?;
-    Ok(())
+    add_finding(found, Level::Error, code, words)
 }
 
 /// Adds a warning of a rule.
@@ -24,7 +36,5 @@ pub fn add_warning(found: &mut BTreeSet<Finding>, code: u8, words: Line) -> Resu
     ensures { OnOk result
         (found.new.keys ≡ with_findings found.old.keys (a_warning code words ∷ [])) }
 {
-    let level = Level::Warning;
-    found.insert(Finding { code, level, words })?;
-    Ok(())
+    add_finding(found, Level::Warning, code, words)
 }

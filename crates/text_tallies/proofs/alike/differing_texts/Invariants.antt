@@ -2,7 +2,7 @@ use Rattle.std.proofs.Common.{◌≡◌, ℕ, List, drop, map}
 use Rattle.text_tallies.specs.LookAlike.{look_alike}
 use Rattle.text_tallies.specs.NameSets.{has_name}
 use Rattle.text_tallies.specs.steps.FirstNames.{alike_after, first_at}
-use Rattle.text_tallies.proofs.alike.alike_texts.Given as goal
+use Rattle.text_tallies.proofs.alike.differing_texts.Given as goal
 
 abbrev pub invariant-loop-name : goal.invariant-loop-name
 invariant-loop-name l = (q : List ℕ)
