@@ -1,0 +1,9 @@
+pub mod NumberLemmas
+pub mod FlatLemmas
+pub mod ClassLemmas
+pub mod OrderLemmas
+pub mod GroupLemmas
+pub mod ThingLemmas
+pub mod TouchedLemmas
+pub mod SizeLemmas
+pub mod ComingLemmas
