@@ -1,0 +1,5 @@
+mod Cases
+pub mod IdsBelow
+pub mod TextLemmas
+pub mod ChangeLemmas
+pub mod LiveIds

@@ -1,0 +1,4 @@
+pub mod Draws
+pub mod Opening
+pub mod DrawnSteps
+pub mod steps

@@ -1,0 +1,15 @@
+//! Work for a board: changes by numbers that are drawn, always the same from one start.
+//!
+//! Coordinates are in mils (1/1000 inch). The main type is `Work`. Rule: docs/RULES.md, "Work".
+//! Definitions: specs/DrawnSteps.antt, which stands on Draws.antt and Opening.antt.
+#![tactic(auto)]
+
+mod beginning;
+mod names;
+mod objects;
+mod steps;
+mod symbol;
+mod work;
+
+pub use beginning::opening;
+pub use work::Work;

@@ -1,0 +1,89 @@
+// What a step does.
+ghost use Rattle.std.specs.Prelude.{◌≡◌, ◌∷◌, [], ◌<◌, ◌+◌, ◌^◌, ⊤};
+ghost use Rattle.std.specs.Prelude.{IfOk, MatchOption, map, option_map};
+ghost use Rattle.std.specs.FinMap.{keys};
+ghost use Rattle.geda_model.specs.Changes.{CanApply, IsIdInRange};
+ghost use Rattle.gaf_work.specs.DrawnSteps.{HasRoom, coming, id_at, leaving, step};
+
+use crate::names::sheet_name;
+use crate::objects::{part, wire};
+use geda_model::{Change, Object, Placed, Project, Thing, Value};
+use std::alloc::{AllocError, Global};
+
+/// The change of one thing.
+#[tactic(auto, using(crate::proofs::ChangeLemmas::one_can_apply))]
+fn change_of(alloc: Global, thing: Thing, value: Option<Value>) -> Result<Change, AllocError>
+    ensures items { IfOk result (λ change. change.items ≡ (thing, value) ∷ []) }
+    ensures can_apply { IsIdInRange thing → IfOk result (λ change. CanApply change.items) }
+{
+    let mut change = Change::new(alloc);
+    change.push(thing, value)?;
+    Ok(change)
+}
+
+/// The change that brings an object onto the sheet, under the next id.
+fn coming(alloc: Global, project: &Project, object: Object) -> Result<Change, AllocError>
+    ensures items { IfOk result (λ change. change.items ≡ coming project.now.parts object) }
+    ensures can_apply { HasRoom project.now.parts → IfOk result (λ change. CanApply change.items) }
+{
+    let placed = Placed {
+        sheet: sheet_name(alloc)?,
+        object,
+    };
+    change_of(
+        alloc,
+        Thing::Object(project.next_id()),
+        Some(Value::Object(placed)),
+    )
+}
+
+/// The id of the row at a place, counted round.
+fn id_of(rows: &[(u32, &Placed)], q: u32) -> Option<u32>
+    ensures { result ≡ id_at (map (λ row. row.0) rows.now) q }
+{
+    if rows.is_empty() {
+        return None;
+    }
+    Some(rows[q as usize % rows.len()].0)
+}
+
+/// The id of the live object at a place in order of id, counted round.
+fn id_at(alloc: Global, project: &Project, q: u32) -> Result<Option<u32>, AllocError>
+    ensures { IfOk result (λ id. id ≡ id_at (keys project.now.parts.objects) q) }
+{
+    let rows = project.objects_by_id(alloc)?;
+    Ok(id_of(rows.as_slice(), q))
+}
+
+/// The change that takes an object away, if there is one.
+fn deletion(alloc: Global, project: &Project, q: u32) -> Result<Option<Change>, AllocError>
+    ensures step { IfOk result (λ change. option_map (λ c. c.items) change
+        ≡ option_map leaving (id_at (keys project.now.parts.objects) q)) }
+    ensures can_apply { HasRoom project.now.parts
+        → IfOk result (λ change. MatchOption change ⊤ (λ c. CanApply c.items)) }
+{
+    match id_at(alloc, project, q)? {
+        None => Ok(None),
+        Some(id) => Ok(Some(change_of(alloc, Thing::Object(id), None)?)),
+    }
+}
+
+/// The change of a step by a drawn number (docs/RULES.md, "Work").
+///
+/// `None` exactly where the step takes an object away and the project has none.
+pub fn step(alloc: Global, project: &Project, number: u32) -> Result<Option<Change>, AllocError>
+    ensures step { IfOk result
+        (λ change. option_map (λ c. c.items) change ≡ step project.now.parts number) }
+    ensures can_apply { HasRoom project.now.parts
+        → IfOk result (λ change. MatchOption change ⊤ (λ c. CanApply c.items)) }
+{
+    let q = number / 8;
+    match number % 8 {
+        0..=4 => Ok(Some(coming(alloc, project, wire(alloc, q))?)),
+        5 => {
+            let object = part(alloc, q, project.next_id())?;
+            Ok(Some(coming(alloc, project, object)?))
+        }
+        _ => deletion(alloc, project, q),
+    }
+}

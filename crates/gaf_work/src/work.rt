@@ -1,0 +1,65 @@
+// The numbers that are drawn, and the changes that they make.
+ghost use Rattle.std.specs.Prelude.{◌≡◌, ◌<◌, ⊤, IfOk, OnOk, OnErr, MatchOption, option_map};
+ghost use Rattle.geda_model.specs.Changes.{CanApply};
+ghost use Rattle.gaf_work.specs.Draws.{drawn, first_state};
+ghost use Rattle.gaf_work.specs.DrawnSteps.{HasRoom, step};
+
+use crate::steps::step;
+use geda_model::{Change, Project};
+use std::alloc::{AllocError, Global};
+use std::marker::Model;
+
+/// A generator of changes (docs/RULES.md, "Work"). Contracts see it as the number that it drew last.
+#[derive(Debug, Drop)]
+pub struct Work {
+    state: u32,
+}
+
+impl Model for Work {
+    ghost use Rattle.std.specs.Prelude.{ℕ, ◌<◌};
+
+    ghost Value = { ℕ };
+
+    ghost view = { λ w. w.state };
+
+    ghost invariant = { λ w. w.state < 2147483647 };
+}
+
+/// The number that is drawn after another.
+fn drawn(state: u32) -> u32
+    requires { state < 2147483647 }
+    ensures number { result ≡ drawn state }
+    ensures below { result < 2147483647 }
+{
+    (48_271 * u64::from(state) % 2_147_483_647) as u32
+}
+
+impl Work {
+    /// A generator that has drawn nothing yet. It takes no memory.
+    pub fn new(start: u64) -> Work
+        ensures { result ≡ first_state start }
+    {
+        let state = (start % 2_147_483_647) as u32;
+        Work {
+            state: if state == 0 { 1 } else { state },
+        }
+    }
+
+    /// Draws a number, and answers the change of the next step on a project. On want of memory nothing
+    /// is drawn.
+    ///
+    /// `None` exactly where the step takes an object away and the project has none.
+    pub fn next(&mut self, alloc: Global, project: &Project) -> Result<Option<Change>, AllocError>
+        ensures step { IfOk result (λ change. option_map (λ c. c.items) change
+            ≡ step project.now.parts (drawn self.old)) }
+        ensures drawn { OnOk result (self.new ≡ drawn self.old) }
+        ensures kept { OnErr result (self.new ≡ self.old) }
+        ensures can_apply { HasRoom project.now.parts → IfOk result
+            (λ change. MatchOption change ⊤ (λ c. CanApply c.items)) }
+    {
+        let number = drawn(self.state);
+        let change = step(alloc, project, number)?;
+        self.state = number;
+        Ok(change)
+    }
+}
