@@ -1,17 +1,23 @@
 -- Which command the arguments of a command line ask for (own).
-use Rattle.std.specs.Prelude.{◌≢◌, ⊤, ℕ, Bool, ◌==◌, ◌&&◌, if◌then◌else◌, List, [], ◌∷◌, Option}
+use Rattle.std.specs.Prelude.{◌≢◌, ◌≤◌, ⊤, ℕ, nat_le, nat_lt, Bool, ◌==◌, ◌&&◌, if◌then◌else◌, List, [], ◌∷◌, Option}
 use Rattle.std.specs.Prelude.{Some, None, length, map, codes, String, string_bytes, option_map}
 use Rattle.std.specs.Prelude.{option_and_then}
 use Rattle.std.specs.List.{AllPairs, list_all}
 use Rattle.std.specs.declared.alloc.Global.{Global}
+use Rattle.std.specs.Char.{is_ascii_digit}
 use Rattle.std.specs.Str.{bytes_eq}
+use Rattle.std.specs.Str.Parse.{digits_value}
 use Rattle.geda_defs.specs.Lists.{each_once}
 use Rattle.geda_model.specs.Names.{is_name}
 use Rattle.backends.specs.declared.form.Form.{Form}
 use Rattle.backends.specs.declared.form.Form.TheVariants as forms
 use Rattle.option_words.specs.Words.{Parts, parts_of}
 use Rattle.command_words.specs.declared.command.Command.{Command}
-use Rattle.command_words.specs.declared.command.Command.TheVariants.{Netlist, Drc, Export}
+use Rattle.command_words.specs.declared.command.Command.TheVariants.{Netlist, Drc, Export, Work}
+
+-- the greatest number of steps of the work
+abbrev pub most_steps : ℕ
+most_steps = 100000
 
 -- the file that a word names: the word is a Name
 abbrev pub file_of : List ℕ → Option (List ℕ)
@@ -66,6 +72,24 @@ abbrev pub export_of : List (List ℕ) → Option Command
 export_of (word ∷ []) = option_map Export (file_of word)
 export_of words = None
 
+-- 1 to 10 digits
+abbrev pub is_number : List ℕ → Bool
+is_number word =
+    nat_lt 0 (length word) && nat_lt (length word) 11 && list_all is_ascii_digit word
+
+-- the number that a word writes, if it is at most so great
+abbrev pub number_of : ℕ → List ℕ → Option ℕ
+number_of most word =
+    if is_number word && nat_le (digits_value 10 word) most
+    then Some (digits_value 10 word) else None
+
+-- the work from a start, and how many steps of it
+abbrev pub work_of : List (List ℕ) → Option Command
+work_of (start ∷ count ∷ []) =
+    option_and_then (λ s. option_map (Work s) (number_of most_steps count))
+    (number_of 4294967295 start)
+work_of words = None
+
 -- the command of this name, with the words behind it: each command has one option or none
 abbrev pub command_with : List ℕ → List (List ℕ) → Option Command
 command_with command words =
@@ -75,6 +99,8 @@ command_with command words =
     then option_and_then drc_of (parts_of (Some (codes "matrix")) words)
     else if bytes_eq command (codes "export")
     then option_and_then (λ parts. export_of parts.words) (parts_of None words)
+    else if bytes_eq command (codes "work")
+    then option_and_then (λ parts. work_of parts.words) (parts_of None words)
     else None
 
 -- the command that the arguments ask for; none where they are used wrongly
@@ -82,8 +108,9 @@ abbrev pub command_of : List (String Global) → Option Command
 command_of [] = None
 command_of (command ∷ words) = command_with (string_bytes command) (map string_bytes words)
 
--- the sheets of a command differ
-abbrev pub NamesApart : Command → Type 0
-NamesApart (Netlist form sheets) = AllPairs ◌≢◌ sheets
-NamesApart (Drc matrix sheets) = AllPairs ◌≢◌ sheets
-NamesApart (Export file) = ⊤
+-- the sheets of a command differ, and its steps are not too many
+abbrev pub IsAskable : Command → Type 0
+IsAskable (Netlist form sheets) = AllPairs ◌≢◌ sheets
+IsAskable (Drc matrix sheets) = AllPairs ◌≢◌ sheets
+IsAskable (Export file) = ⊤
+IsAskable (Work start count) = count ≤ most_steps

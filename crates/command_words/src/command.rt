@@ -1,12 +1,13 @@
 // The commands, and which of them the arguments ask for.
-ghost use Rattle.std.specs.Prelude.{◌≡◌, None, Some, IfOk, codes, map, option_and_then};
+ghost use Rattle.std.specs.Prelude.{◌≡◌, ⊤, None, Some, IfOk, MatchOption, codes, map, option_and_then};
 ghost use Rattle.std.specs.Prelude.{option_copied, string_bytes};
 ghost use Rattle.option_words.specs.Reads.{Gives, parts_seen};
 ghost use Rattle.option_words.specs.Words.{parts_of};
-ghost use Rattle.command_words.specs.Commands.{NamesApart, command_of, drc_of, export_of, form_of};
-ghost use Rattle.command_words.specs.Commands.{matrix_of, netlist_of};
+ghost use Rattle.command_words.specs.Commands.{IsAskable, command_of, drc_of, export_of, form_of};
+ghost use Rattle.command_words.specs.Commands.{matrix_of, netlist_of, work_of};
 
 use crate::files::{file_of, sheets_of};
+use crate::numbers::{MOST_STEPS, number_of};
 use backends::Form;
 use geda_model::{Items, Name};
 use option_words::{Parts, WordFault, read_parts};
@@ -33,6 +34,13 @@ pub enum Command {
     Export {
         /// The file of the sheet or symbol.
         file: Name,
+    },
+    /// Makes steps of the work on a board, and tells what they come to.
+    Work {
+        /// What the numbers that are drawn begin with.
+        start: u32,
+        /// How many steps, at most 100,000.
+        count: u32,
     },
 }
 
@@ -62,7 +70,7 @@ fn matrix_of(alloc: Global, value: Option<&str>) -> Result<Option<Name>, WordFau
 /// The net list in the form and of the sheets that these parts name.
 fn netlist_of(alloc: Global, parts: Parts<'_>) -> Result<Command, WordFault>
     ensures asked { Gives (λ command. command) result (netlist_of (parts_seen parts.entry)) }
-    ensures apart { IfOk result NamesApart }
+    ensures apart { IfOk result IsAskable }
 {
     let form = form_of(parts.value).ok_or(WordFault::Usage)?;
     let sheets = sheets_of(alloc, parts.words.as_slice())?;
@@ -75,7 +83,7 @@ fn netlist_of(alloc: Global, parts: Parts<'_>) -> Result<Command, WordFault>
 /// The check by the matrix and of the sheets that these parts name.
 fn drc_of(alloc: Global, parts: Parts<'_>) -> Result<Command, WordFault>
     ensures asked { Gives (λ command. command) result (drc_of (parts_seen parts.entry)) }
-    ensures apart { IfOk result NamesApart }
+    ensures apart { IfOk result IsAskable }
 {
     let matrix = matrix_of(alloc, parts.value)?;
     let sheets = sheets_of(alloc, parts.words.as_slice())?;
@@ -88,7 +96,7 @@ fn drc_of(alloc: Global, parts: Parts<'_>) -> Result<Command, WordFault>
 /// The export of the one file that the words name.
 fn export_of(alloc: Global, words: &[&str]) -> Result<Command, WordFault>
     ensures asked { Gives (λ command. command) result (export_of (map (λ w. w.now) words.now)) }
-    ensures apart { IfOk result NamesApart }
+    ensures apart { IfOk result IsAskable }
 {
     let [word] = words else {
         return Err(WordFault::Usage);
@@ -97,11 +105,24 @@ fn export_of(alloc: Global, words: &[&str]) -> Result<Command, WordFault>
     Ok(Command::Export { file })
 }
 
+/// The work that the words name: from a start, and so many steps.
+fn work_of(words: &[&str]) -> Option<Command>
+    ensures asked { result ≡ work_of (map (λ w. w.now) words.now) }
+    ensures few { MatchOption result ⊤ IsAskable }
+{
+    let [start, count] = words else {
+        return None;
+    };
+    let start = number_of(u32::MAX, *start)?;
+    let count = number_of(MOST_STEPS, *count)?;
+    Some(Command::Work { start, count })
+}
+
 /// The net list that the words behind `netlist` ask for.
 fn netlist(alloc: Global, words: &[String]) -> Result<Command, WordFault>
     ensures asked { Gives (λ command. command) result (option_and_then netlist_of
         (parts_of (Some (codes "form")) (map string_bytes words.now))) }
-    ensures apart { IfOk result NamesApart }
+    ensures apart { IfOk result IsAskable }
 {
     let parts = read_parts(alloc, Some("form"), words)?;
     netlist_of(alloc, parts)
@@ -111,7 +132,7 @@ fn netlist(alloc: Global, words: &[String]) -> Result<Command, WordFault>
 fn drc(alloc: Global, words: &[String]) -> Result<Command, WordFault>
     ensures asked { Gives (λ command. command) result (option_and_then drc_of
         (parts_of (Some (codes "matrix")) (map string_bytes words.now))) }
-    ensures apart { IfOk result NamesApart }
+    ensures apart { IfOk result IsAskable }
 {
     let parts = read_parts(alloc, Some("matrix"), words)?;
     drc_of(alloc, parts)
@@ -122,10 +143,21 @@ fn export(alloc: Global, words: &[String]) -> Result<Command, WordFault>
     ensures asked { Gives (λ command. command) result
         (option_and_then (λ parts. export_of parts.words)
         (parts_of None (map string_bytes words.now))) }
-    ensures apart { IfOk result NamesApart }
+    ensures apart { IfOk result IsAskable }
 {
     let parts = read_parts(alloc, None, words)?;
     export_of(alloc, parts.words.as_slice())
+}
+
+/// The work that the words behind `work` ask for.
+fn work(alloc: Global, words: &[String]) -> Result<Command, WordFault>
+    ensures asked { Gives (λ command. command) result
+        (option_and_then (λ parts. work_of parts.words)
+        (parts_of None (map string_bytes words.now))) }
+    ensures few { IfOk result IsAskable }
+{
+    let parts = read_parts(alloc, None, words)?;
+    work_of(parts.words.as_slice()).ok_or(WordFault::Usage)
 }
 
 /// The command that the arguments of a command line ask for.
@@ -133,7 +165,7 @@ fn export(alloc: Global, words: &[String]) -> Result<Command, WordFault>
 /// `Usage` exactly where they ask for none (docs/FORMATS.md, "Command lines").
 pub fn command_of(alloc: Global, arguments: &[String]) -> Result<Command, WordFault>
     ensures asked { Gives (λ command. command) result (command_of arguments.now) }
-    ensures apart { IfOk result NamesApart }
+    ensures apart { IfOk result IsAskable }
 {
     let Some((command, words)) = arguments.split_first() else {
         return Err(WordFault::Usage);
@@ -142,6 +174,7 @@ pub fn command_of(alloc: Global, arguments: &[String]) -> Result<Command, WordFa
         "netlist" => netlist(alloc, words),
         "drc" => drc(alloc, words),
         "export" => export(alloc, words),
+        "work" => work(alloc, words),
         _ => Err(WordFault::Usage),
     }
 }

@@ -4,5 +4,7 @@
 
 mod command;
 mod files;
+mod numbers;
 
 pub use command::{Command, command_of};
+pub use files::names_of;
