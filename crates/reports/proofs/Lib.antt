@@ -1,0 +1,3 @@
+mod NetListLemmas
+mod ReportLemmas
+mod RowLemmas

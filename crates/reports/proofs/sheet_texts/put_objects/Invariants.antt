@@ -1,0 +1,9 @@
+use Rattle.std.proofs.Common.{◌≡◌, ◌++◌, drop, map}
+use Rattle.std.specs.List.{flat_map}
+use Rattle.geda_model.specs.Tables.{row_now}
+use Rattle.reports.specs.steps.Rows.{row_text}
+use Rattle.reports.proofs.sheet_texts.put_objects.Given as goal
+
+abbrev pub invariant-loop-row : goal.invariant-loop-row
+invariant-loop-row l =
+    l.text.items ++ flat_map row_text (map row_now (drop l.row-index l.rows)) ≡ l.fn.text.items ++ flat_map row_text (map row_now l.rows)

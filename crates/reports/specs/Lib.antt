@@ -1,0 +1,4 @@
+pub mod NetLists
+pub mod SheetTexts
+pub mod Reports
+pub mod steps

@@ -1,0 +1,73 @@
+// Each report.
+ghost use Rattle.std.specs.Prelude.{◌≡◌};
+ghost use Rattle.std.specs.FinMap.{get};
+ghost use Rattle.geda_grammar.specs.Canonical.{sheet_text as canonical, symbol_text};
+ghost use Rattle.reports.specs.NetLists.{seen};
+ghost use Rattle.reports.specs.SheetTexts.{objects_text, sheet_of};
+ghost use Rattle.reports.specs.Reports.{Reports, text_or};
+ghost use Rattle.reports.specs.steps.Faults.{Told};
+
+use crate::fault::ReportFault;
+use crate::net_lists::{check, net_report};
+use crate::sheet_texts::{objects_text, sheet_text, sheets_text};
+use crate::what::What;
+use board_core::Board;
+use drc_rules::Matrix;
+use geda_model::{Name, Project};
+use geda_write::symbol_text;
+use std::alloc::{AllocError, Global};
+
+/// The canonical text of the sheet of a name.
+fn sheet_report(alloc: Global, project: &Project, name: &Name) -> Result<Vec<u8>, ReportFault>
+    ensures { Told (text_or ReportFault.NoSheet
+        (λ head. canonical (sheet_of project.now.parts name.now head))
+        (get project.now.parts.sheets name.now)) (seen result) }
+{
+    let head = project.head(name).ok_or(ReportFault::NoSheet)?;
+    Ok(sheet_text(alloc, project, name, head)?)
+}
+
+/// The canonical text of the symbol of a name.
+fn symbol_report(alloc: Global, project: &Project, name: &Name) -> Result<Vec<u8>, ReportFault>
+    ensures { Told (text_or ReportFault.NoSymbol symbol_text
+        (get project.now.parts.symbols name.now)) (seen result) }
+{
+    let symbol = project.symbol(name).ok_or(ReportFault::NoSymbol)?;
+    Ok(symbol_text(alloc, symbol)?)
+}
+
+/// The lines of the objects of the sheet of a name.
+fn objects_report(alloc: Global, project: &Project, name: &Name) -> Result<Vec<u8>, ReportFault>
+    ensures { Told (text_or ReportFault.NoSheet (λ head. objects_text project.now.parts name.now)
+        (get project.now.parts.sheets name.now)) (seen result) }
+{
+    if project.head(name).is_none() {
+        return Err(ReportFault::NoSheet);
+    }
+    Ok(objects_text(alloc, project, name)?)
+}
+
+/// The text of a report on the project of a board (docs/FORMATS.md, "Reports"); the check is by the
+/// matrix.
+///
+/// `NoSheet` and `NoSymbol` exactly where the named one is not there, and `TooManyInstances` for a
+/// net list or the check exactly where the limits of a hierarchy are exceeded.
+pub fn report(
+    alloc: Global,
+    board: &Board,
+    what: &What,
+    matrix: &Matrix,
+) -> Result<Vec<u8>, ReportFault>
+    ensures { Reports board.now.project matrix.now what.now
+        (seen result) }
+{
+    let project = board.project();
+    match what {
+        What::Net(form) => Ok(net_report(alloc, *form, project)?),
+        What::Drc => Ok(check(alloc, matrix, project)?.text),
+        What::Sheet(name) => sheet_report(alloc, project, name),
+        What::Symbol(name) => symbol_report(alloc, project, name),
+        What::Objects(name) => objects_report(alloc, project, name),
+        What::Sheets => Ok(sheets_text(alloc, project)?),
+    }
+}
