@@ -1,0 +1,16 @@
+use Rattle.std.proofs.Common.{◌≡◌}
+use Rattle.geda_model.specs.Changes.{put}
+use Rattle.geda_model.specs.Projects.{no_parts}
+use Rattle.gaf_work.specs.Opening.{opening}
+use Rattle.work_run.proofs.RunLemmas.{IsSoundBoard-new, IsSoundRun-opened}
+use Rattle.work_run.proofs.steps.Run.open.Goals as goal
+
+pub returns-clause-sound : goal.returns-clause-sound
+returns-clause-sound c =
+    let board = c.put_in.new.board in
+    let fresh = IsSoundBoard-new c.new-board.result c.new-board.ensures.fresh c.new-board.ensures.asked in
+    let first = c.new-board.ensures.project in
+    let given = c.in_ok-change.ensures.opening in
+    let there = c.in_ok-bound.ensures.project in
+    let project : board.project ≡ put no_parts opening = cc in
+    IsSoundRun-opened _ (c.in_ok-bound.ensures.sound fresh) project

@@ -1,0 +1,45 @@
+-- What is told of a run of the work (own).
+use Rattle.std.specs.Prelude.{◌≤◌, ◌==◌, ◌&&◌, ℕ, Bool, List, ◌∷◌, ◌++◌, Result, length, codes, count_by}
+use Rattle.std.specs.FinMap.{entries}
+use Rattle.std.specs.Fmt.{decimal}
+use Rattle.geda_defs.specs.Lines.{ended}
+use Rattle.geda_geom.specs.declared.conductor.Key.{Key}
+use Rattle.net_names.specs.declared.nets.Nets.{Nets}
+use Rattle.board_core.specs.Conductors.{sheet_conductors}
+use Rattle.board_core.specs.Groups.{AreGroups}
+use Rattle.hierarchy.specs.declared.fault.ElabFault.{ElabFault}
+use Rattle.hierarchy.specs.declared.fault.ElabFault.TheVariants as faults
+use Rattle.reports.specs.NetLists.{OfNetList}
+use Rattle.work_run.specs.Runs.{IsRun, RunData}
+
+-- a number under its name
+abbrev pub named_number : List ℕ → ℕ → List ℕ
+named_number name number = ended (name ++ 32 ∷ decimal number)
+
+-- the row is that of the first conductor of its group
+abbrev pub is_first : Key × Key → Bool
+is_first row = (row.0.id == row.1.id) && (row.0.place == row.1.place)
+
+-- seven lines: what was asked; then objects, conductors, groups and nets at the end; the sum of the
+-- bounds, and the steps that the groups took
+abbrev pub run_text : ℕ → ℕ → RunData → List (Key × Key) → ℕ → Nets → List ℕ
+run_text start count run groups calls nets =
+    ended (codes "work " ++ decimal start ++ 32 ∷ decimal count)
+    ++ named_number (codes "live") (length (entries run.project.objects))
+    ++ named_number (codes "conductors") (length (sheet_conductors run.project))
+    ++ named_number (codes "groups") (count_by is_first groups)
+    ++ named_number (codes "nets") (length nets.nets)
+    ++ named_number (codes "bound") run.bound
+    ++ named_number (codes "calls") calls
+
+-- what is told of the run of so many steps from a start: the steps of its groups are within the sum
+-- of the bounds
+pub record WorkComesTo (start count : ℕ) (outcome : Result (List ℕ) ElabFault) : Type 0 where
+  pub run : RunData
+  pub is_run : IsRun start count run
+  pub groups : List (Key × Key)
+  pub are_groups : AreGroups (sheet_conductors run.project) groups
+  pub calls : ℕ
+  pub few : calls ≤ run.bound
+  pub told : OfNetList faults.TooManyInstances (run_text start count run groups calls)
+      run.project outcome

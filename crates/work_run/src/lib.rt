@@ -1,0 +1,10 @@
+//! A run of the work on a board, and what is told of it.
+//!
+//! Rule: docs/RULES.md, "Work". Layout: docs/FORMATS.md, "Work text". Definitions:
+//! specs/RunText.antt, which stands on Runs.antt.
+#![tactic(auto)]
+
+mod run_text;
+mod steps;
+
+pub use run_text::work_text;
