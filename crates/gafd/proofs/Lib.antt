@@ -2,7 +2,6 @@ mod OneOutcome
 mod Passing
 mod Reading
 mod ExportLemmas
-mod NameLemmas
 mod ProjectLemmas
 mod CheckLemmas
 mod OpeningLemmas

@@ -15,7 +15,7 @@ use Rattle.command_words.specs.declared.command.Command.TheVariants as commands
 use Rattle.gafd.specs.declared.fault.RunFault.{RunFault}
 use Rattle.gafd.specs.declared.fault.RunFault.TheVariants as faults
 use Rattle.gafd.specs.ProjectFiles.{FileComesTo, Gathered, GathersTo, ObjectComesTo, ObjectsComeTo, ProjectFiles, ReadAs, SheetComesTo, SheetFileComesTo, SheetsComeTo, SymbolComesTo, SymbolFileComesTo, SymbolUnless, Then, is_asked, opened, unread, with_sheet, with_sources, with_symbol}
-use Rattle.gafd.specs.Answers.{ComesTo, MatrixComesTo, OfNetList, Outcome, SheetsOf, TextOf, checked, is_symbol_name, listed}
+use Rattle.gafd.specs.Answers.{AnswerData, ComesTo, IsFixed, MatrixComesTo, ByNetList, Outcome, SheetsOf, TextOf, checked, is_symbol_name, listed}
 use Rattle.net_names.proofs.Uniqueness.{same_lists}
 
 -- two outcomes are one
@@ -90,15 +90,15 @@ gathers_one files names first second (n, (read, come, p)) (m, (other, does, q)) 
     then_one (λ (g : Gathered) (end : Result ProjectData RunFault). end ≡ opened g) (λ g one another is so. is ∙ sym so) other first second (subst (λ (r : Result Gathered RunFault). Then r (λ (g : Gathered) (end : Result ProjectData RunFault). end ≡ opened g) first) same p) q
 
 -- what a net list comes to
-nets_one : (answer : ProjectData → Nets → Outcome) (project : ProjectData) → IsOne (OfNetList answer project)
+nets_one : (answer : ProjectData → Nets → AnswerData) (project : ProjectData) → IsOne (ByNetList answer project)
 nets_one answer project first second (inl (crowded, p)) (inl (too, q)) = p ∙ sym q
 nets_one answer project first second (inl (crowded, p)) (inr (room, list)) = absurd (room crowded)
 nets_one answer project first second (inr (room, list)) (inl (crowded, q)) = absurd (room crowded)
-nets_one answer project first second (inr (room, (nets, list, p))) (inr (too, (others, lists, q))) = p ∙ ap (answer project) (same_lists project nets others list lists) ∙ sym q
+nets_one answer project first second (inr (room, (nets, list, p))) (inr (too, (others, lists, q))) = p ∙ ap (λ (n : Nets). Ok (answer project n)) (same_lists project nets others list lists) ∙ sym q
 
-of_sheets_one : (answer : ProjectData → Nets → Outcome) (files : ProjectFiles) (names : List (List ℕ)) → IsOne (SheetsOf answer files names)
+of_sheets_one : (answer : ProjectData → Nets → AnswerData) (files : ProjectFiles) (names : List (List ℕ)) → IsOne (SheetsOf answer files names)
 of_sheets_one answer files names first second (gathered, come, p) (other, does, q) =
-    after_one (GathersTo files names) (OfNetList answer) (gathers_one files names) (nets_one answer) gathered other first second come does p q
+    after_one (GathersTo files names) (ByNetList answer) (gathers_one files names) (nets_one answer) gathered other first second come does p q
 
 -- a matrix
 matrix_one : (files : Files) (file : Option (List ℕ)) → IsOne (MatrixComesTo files file)
@@ -110,9 +110,10 @@ text_one true name bytes = read_one symbol_file symbol_determined _ (λ value fi
 text_one false name bytes = read_one sheet_file sheet_determined _ (λ value first second p q. p ∙ sym q) name bytes
 
 -- so a command comes to one
-pub same_outcomes : (files : Files) (command : Option Command) → IsOne (ComesTo (Some files) command)
-same_outcomes files None first second p q = p ∙ sym q
-same_outcomes files (Some (commands.Netlist form names)) first second p q = of_sheets_one (listed form) (record { sheets = files; symbols = files }) names first second p q
-same_outcomes files (Some (commands.Drc matrix names)) first second (read, come, p) (other, does, q) =
+pub same_outcomes : (files : Files) (command : Option Command) (first second : Outcome) → IsFixed command → ComesTo (Some files) command first → ComesTo (Some files) command second → first ≡ second
+same_outcomes files None first second fixed p q = p ∙ sym q
+same_outcomes files (Some (commands.Netlist form names)) first second fixed p q = of_sheets_one (listed form) (record { sheets = files; symbols = files }) names first second p q
+same_outcomes files (Some (commands.Drc matrix names)) first second fixed (read, come, p) (other, does, q) =
     after_one (MatrixComesTo files matrix) (λ (levels : List Level). SheetsOf (checked levels) (record { sheets = files; symbols = files }) names) (matrix_one files matrix) (λ levels. of_sheets_one (checked levels) (record { sheets = files; symbols = files }) names) read other first second come does p q
-same_outcomes files (Some (commands.Export name)) first second p q = file_one _ (text_one (is_symbol_name name) name) name (files name) first second p q
+same_outcomes files (Some (commands.Export name)) first second fixed p q = file_one _ (text_one (is_symbol_name name) name) name (files name) first second p q
+same_outcomes files (Some (commands.Work start count)) first second fixed p q = absurd fixed

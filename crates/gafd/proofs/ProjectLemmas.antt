@@ -1,16 +1,13 @@
 -- The project of what is gathered, and what sheets come to by it.
-use Rattle.std.proofs.Common.{ℕ, List, Option, Some, None, Ok, Err, inl, refl}
+use Rattle.std.proofs.Common.{ℕ, List, Option, Some, None, Ok, Err, refl}
 use Rattle.std.specs.declared.option.Option.{Option}
 use Rattle.geda_defs.specs.Contents.{Files}
 use Rattle.geda_model.specs.Projects.{ProjectData}
 use Rattle.net_names.specs.declared.nets.Nets.{Nets}
 use Rattle.gafd.specs.declared.fault.RunFault.{RunFault}
-use Rattle.gafd.specs.declared.fault.RunFault.TheVariants as faults
 use Rattle.gafd.specs.ProjectFiles.{Gathered, opened}
-use Rattle.gafd.specs.Answers.{OfFiles, OfNetList, Outcome, SheetsOf}
-use Rattle.gafd.specs.steps.Checking.{IsHierarchyOf}
+use Rattle.gafd.specs.Answers.{AnswerData, ByNetList, OfFiles, Outcome, SheetsOf}
 use Rattle.gafd.specs.steps.Gathering.{GathersFrom, ReadsFrom}
-use Rattle.gafd.specs.steps.Passing.{ComesOf}
 
 -- all is gathered, and comes to a project or to a fault
 pub gathers : (files : Option Files) (names : List (List ℕ)) (g : Gathered) → ReadsFrom files names (Ok g) → GathersFrom files names (opened g)
@@ -22,9 +19,9 @@ pub gathers_no_more : (files : Option Files) (names : List (List ℕ)) (fault : 
 gathers_no_more None names fault (known, (count, h)) = (known, (count, (Err fault, h, refl)))
 gathers_no_more (Some known) names fault (count, h) = (count, (Err fault, h, refl))
 
-module _ (answer : ProjectData → Nets → Outcome) where
+module _ (answer : ProjectData → Nets → AnswerData) where
   -- what a project comes to its sheets come to
-  pub sheets_come : (files : Option Files) (names : List (List ℕ)) (project : ProjectData) (outcome : Outcome) → GathersFrom files names (Ok project) → OfNetList answer project outcome → OfFiles files (λ known. SheetsOf answer known names outcome)
+  pub sheets_come : (files : Option Files) (names : List (List ℕ)) (project : ProjectData) (outcome : Outcome) → GathersFrom files names (Ok project) → ByNetList answer project outcome → OfFiles files (λ known. SheetsOf answer known names outcome)
   sheets_come None names project outcome (known, come) of = (known, (Ok project, come, of))
   sheets_come (Some known) names project outcome come of = (Ok project, come, of)
 
@@ -32,17 +29,3 @@ module _ (answer : ProjectData → Nets → Outcome) where
   pub sheets_fail : (files : Option Files) (names : List (List ℕ)) (fault : RunFault) → GathersFrom files names (Err fault) → OfFiles files (λ known. SheetsOf answer known names (Err fault))
   sheets_fail None names fault (known, come) = (known, (Err fault, come, refl))
   sheets_fail (Some known) names fault come = (Err fault, come, refl)
-
--- why there is no hierarchy is what a project comes to
-pub no_hierarchy : (answer : ProjectData → Nets → Outcome) (project : ProjectData) (fault : RunFault) → IsHierarchyOf project (Err fault) → ComesOf (OfNetList answer project) (Err fault)
-no_hierarchy answer project faults.TooManyInstances h = inl (h, refl)
-no_hierarchy answer project faults.NoMemory h = tt
-no_hierarchy answer project (faults.Missing file) h = absurd h
-no_hierarchy answer project (faults.Refused file line kind) h = absurd h
-no_hierarchy answer project (faults.BadToml file) h = absurd h
-no_hierarchy answer project (faults.BadRows file) h = absurd h
-no_hierarchy answer project faults.TooManyObjects h = absurd h
-no_hierarchy answer project faults.ProjectFull h = absurd h
-no_hierarchy answer project faults.Usage h = absurd h
-no_hierarchy answer project faults.FolderFault h = absurd h
-no_hierarchy answer project faults.OutputFault h = absurd h

@@ -1,25 +1,24 @@
 -- What a command comes to over the files of a folder (own).
-use Rattle.std.specs.Prelude.{◌≡◌, ◌⊎◌, ℕ, Bool, true, false, if◌then◌else◌, List, Result, Ok, Err, Some, None, nat_eq, codes}
+use Rattle.std.specs.Prelude.{◌≡◌, ⊤, ℕ, Bool, true, false, if◌then◌else◌, List, Result, Ok, Err, Some, None, nat_eq, codes}
 use Rattle.std.specs.declared.option.Option.{Option}
-use Rattle.std.specs.List.{ends_with, list_any}
+use Rattle.std.specs.List.{ends_with}
 use Rattle.geda_defs.specs.Contents.{Files}
 use Rattle.geda_model.specs.Projects.{ProjectData}
 use Rattle.geda_grammar.specs.Faults.{sheet_file, symbol_file}
 use Rattle.geda_grammar.specs.Canonical.{sheet_text, symbol_text}
-use Rattle.hierarchy.specs.Instances.{IsCrowded}
+use Rattle.hierarchy.specs.declared.fault.ElabFault.{ElabFault}
+use Rattle.hierarchy.specs.declared.fault.ElabFault.TheVariants as elaboration
 use Rattle.net_names.specs.declared.nets.Nets.{Nets}
-use Rattle.net_names.specs.NetLists.{IsNetListOf}
 use Rattle.backends.specs.declared.form.Form.{Form}
 use Rattle.backends.specs.Forms.{net_text}
 use Rattle.pin_matrix.specs.declared.level.Level.{Level}
 use Rattle.pin_matrix.specs.Matrices.{usual}
 use Rattle.pin_matrix.specs.MatrixFiles.{document_of, matrix_in}
 use Rattle.toml.specs.Data.{Members}
-use Rattle.drc_findings.specs.declared.finding.Finding.{Finding}
-use Rattle.drc_findings.specs.Report.{is_error, report_text}
-use Rattle.drc_rules.specs.Findings.{findings}
+use Rattle.reports.specs.NetLists.{CheckData, OfNetList, checked as check_of}
+use Rattle.work_run.specs.RunText.{WorkComesTo}
 use Rattle.command_words.specs.declared.command.Command.{Command}
-use Rattle.command_words.specs.declared.command.Command.TheVariants.{Netlist, Drc, Export}
+use Rattle.command_words.specs.declared.command.Command.TheVariants.{Netlist, Drc, Export, Work}
 use Rattle.gafd.specs.ProjectFiles.{FileComesTo, GathersTo, ProjectFiles, ReadAs, Then}
 use Rattle.gafd.specs.declared.fault.RunFault.{RunFault}
 use Rattle.gafd.specs.declared.fault.RunFault.TheVariants as faults
@@ -34,35 +33,35 @@ abbrev pub Outcome : Type 0
 Outcome = Result AnswerData RunFault
 
 -- the text goes out, and all is well
+abbrev pub all_well : List ℕ → AnswerData
+all_well text = record { text = text; status = 0 }
+
 abbrev pub done : List ℕ → Outcome
-done text = Ok (record { text = text; status = 0 })
+done text = Ok (all_well text)
 
--- what a project comes to, given what its net list comes to: its sheets may have too many instances
-abbrev pub OfNetList : (ProjectData → Nets → Outcome) → ProjectData → Outcome → Type 0
-OfNetList answer project outcome =
-    (IsCrowded project × (outcome ≡ Err faults.TooManyInstances))
-    ⊎ (¬ (IsCrowded project)
-    × ((nets : Nets) × IsNetListOf project nets × (outcome ≡ answer project nets)))
+-- what a project comes to, given the answer by its net list: its sheets may have too many instances
+abbrev pub ByNetList : (ProjectData → Nets → AnswerData) → ProjectData → Outcome → Type 0
+ByNetList answer project outcome =
+    OfNetList faults.TooManyInstances (answer project) project outcome
 
--- what sheets come to, with those below them and with their symbols, given what a net list comes to
+-- what sheets come to, with those below them and with their symbols, given the answer by a net list
 abbrev pub SheetsOf :
-    (ProjectData → Nets → Outcome) → ProjectFiles → List (List ℕ) → Outcome → Type 0
+    (ProjectData → Nets → AnswerData) → ProjectFiles → List (List ℕ) → Outcome → Type 0
 SheetsOf answer files names outcome =
     (gathered : Result ProjectData RunFault) × GathersTo files names gathered
-    × Then gathered (OfNetList answer) outcome
+    × Then gathered (ByNetList answer) outcome
 
 -- the text of a net list in a form
-abbrev pub listed : Form → ProjectData → Nets → Outcome
-listed form project nets = done (net_text form nets)
+abbrev pub listed : Form → ProjectData → Nets → AnswerData
+listed form project nets = all_well (net_text form nets)
 
--- the report of what was found; its status is 7 where an error is among it
-abbrev pub reported : List Finding → Outcome
-reported found =
-    Ok (record { text = report_text found; status = if list_any is_error found then 7 else 0 })
+-- the report of a check; its status is 7 where an error is among what was found
+abbrev pub reported : CheckData → AnswerData
+reported check = record { text = check.text; status = if check.has_error then 7 else 0 }
 
 -- the report of the check under a matrix
-abbrev pub checked : List Level → ProjectData → Nets → Outcome
-checked matrix project nets = reported (findings project nets matrix)
+abbrev pub checked : List Level → ProjectData → Nets → AnswerData
+checked matrix project nets = reported (check_of project matrix nets)
 
 -- the matrix of a document, if its rows are those of one
 abbrev pub matrix_or_fault : List ℕ → Option (List Level) → Result (List Level) RunFault
@@ -107,6 +106,17 @@ CheckOf files matrix names outcome =
     × Then read
     (λ levels end. OfFiles files (λ known. SheetsOf (checked levels) known names end)) outcome
 
+-- the text of the work goes out, or there is none
+abbrev pub worked : Result (List ℕ) ElabFault → Outcome
+worked (Ok text) = done text
+worked (Err elaboration.TooManyInstances) = Err faults.TooManyInstances
+worked (Err elaboration.NoMemory) = Err faults.NoMemory
+
+-- what so many steps of the work from a start come to
+abbrev pub WorkOf : ℕ → ℕ → Outcome → Type 0
+WorkOf start count outcome = (told : Result (List ℕ) ElabFault) × WorkComesTo start count told
+    × (outcome ≡ worked told)
+
 -- what a command comes to over the files that a folder tells
 abbrev pub CommandComesTo : Option Files → Command → Outcome → Type 0
 CommandComesTo files (Netlist form names) outcome =
@@ -114,8 +124,14 @@ CommandComesTo files (Netlist form names) outcome =
 CommandComesTo files (Drc matrix names) outcome = CheckOf files matrix names outcome
 CommandComesTo files (Export name) outcome = OfSome files
     (λ known. FileComesTo (TextOf (is_symbol_name name) name) name (known name) outcome)
+CommandComesTo files (Work start count) outcome = WorkOf start count outcome
 
 -- what the arguments come to: what their command comes to, or a fault of usage
 abbrev pub ComesTo : Option Files → Option Command → Outcome → Type 0
 ComesTo files None outcome = outcome ≡ Err faults.Usage
 ComesTo files (Some command) outcome = CommandComesTo files command outcome
+
+-- the files fix the outcome: the arguments don't ask for the work
+abbrev pub IsFixed : Option Command → Type 0
+IsFixed (Some (Work start count)) = ⊥
+IsFixed other = ⊤

@@ -1,15 +1,13 @@
 // What each command answers.
-ghost use Rattle.std.specs.Prelude.{◌≡◌, ◌≢◌, ◌≤◌, AllPairs, IfOk, Ok, true, false};
-ghost use Rattle.std.specs.List.{list_any};
+ghost use Rattle.std.specs.Prelude.{◌≡◌, ◌≢◌, ◌≤◌, AllPairs, true, false};
 ghost use Rattle.pin_matrix.specs.MatrixFiles.{document_of};
-ghost use Rattle.drc_findings.specs.Report.{is_error};
 ghost use Rattle.geda_defs.specs.Contents.{KeepsFiles};
-ghost use Rattle.command_words.specs.Commands.{NamesApart};
+ghost use Rattle.command_words.specs.Commands.{IsAskable, most_steps};
 ghost use Rattle.command_words.specs.declared.command.Command.TheVariants.{Drc, Export, Netlist};
-ghost use Rattle.gafd.specs.Answers.{MatrixComesTo, OfNetList, TextOf, checked, is_symbol_name};
+ghost use Rattle.gafd.specs.Answers.{ByNetList, MatrixComesTo, TextOf, WorkOf, checked, is_symbol_name};
 ghost use Rattle.gafd.specs.Answers.{listed, matrix_of, reported};
 ghost use Rattle.gafd.specs.Runs.{counts};
-ghost use Rattle.gafd.specs.steps.Checking.{IsHierarchyOf, MatrixFrom};
+ghost use Rattle.gafd.specs.steps.Checking.{MatrixFrom};
 ghost use Rattle.gafd.specs.steps.Gathering.{GathersFrom};
 ghost use Rattle.gafd.specs.steps.Passing.{AnswerOf, ComesOf, Over, with_view};
 
@@ -17,16 +15,15 @@ use crate::fault::{RunFault, refused};
 use crate::folder::Folder;
 use crate::gathering::gather;
 use crate::opening::opened;
-use backends::{Form, net_text};
 use command_words::Command;
-use drc_rules::{Finding, Level, Matrix, MatrixFault, findings, report_text};
+use drc_rules::{Matrix, MatrixFault};
 use geda_model::{Items, Name, Project};
 use geda_read::{read_sheet, read_symbol};
 use geda_write::{sheet_text, symbol_text};
-use hierarchy::{ElabFault, Hierarchy, elaborate};
-use net_names::join;
-use std::alloc::{AllocError, Global};
+use reports::{Check, Form, check, net_report};
+use std::alloc::Global;
 use std::marker::Model;
+use work_run::work_text;
 
 /// What goes out, and the status with which the program then ends.
 #[derive(Debug, Drop)]
@@ -55,52 +52,28 @@ impl Answer {
     }
 }
 
-/// The hierarchy of a project, unless its sheets have too many instances.
-fn hierarchy_of(alloc: Global, project: &Project) -> Result<Hierarchy, RunFault>
-    ensures { IsHierarchyOf project.now.parts result }
-{
-    match elaborate(alloc, project) {
-        Ok(hierarchy) => Ok(hierarchy),
-        Err(ElabFault::TooManyInstances) => Err(RunFault::TooManyInstances),
-        Err(ElabFault::NoMemory) => Err(RunFault::NoMemory),
-    }
-}
-
 /// The text of the net list of a project in a form.
 fn listed(alloc: Global, form: Form, project: &Project) -> Result<Answer, RunFault>
-    ensures { ComesOf (OfNetList (listed form) project.now.parts) result }
+    ensures { ComesOf (ByNetList (listed form) project.now.parts) result }
 {
-    let hierarchy = hierarchy_of(alloc, project)?;
-    let nets = join(alloc, project, &hierarchy)?;
-    Ok(Answer::done(net_text(alloc, form, &nets)?))
+    Ok(Answer::done(net_report(alloc, form, project)?))
 }
 
-fn has_error(found: &[Finding]) -> bool
-    ensures { result ≡ list_any is_error found.now }
+/// The answer of a check.
+fn reported(check: Check) -> Answer
+    ensures { result ≡ reported check }
 {
-    found
-        .iter()
-        .any(|finding| matches!(finding.level, Level::Error))
-}
-
-/// The report of what was found.
-fn reported(alloc: Global, found: &[Finding]) -> Result<Answer, AllocError>
-    ensures { IfOk result (λ answer. Ok answer ≡ reported found.now) }
-{
-    Ok(Answer {
-        text: report_text(alloc, found)?,
-        status: if has_error(found) { 7 } else { 0 },
-    })
+    Answer {
+        text: check.text,
+        status: if check.has_error { 7 } else { 0 },
+    }
 }
 
 /// The report of the check of a project under a matrix.
 fn checked(alloc: Global, matrix: &Matrix, project: &Project) -> Result<Answer, RunFault>
-    ensures { ComesOf (OfNetList (checked matrix.now) project.now.parts) result }
+    ensures { ComesOf (ByNetList (checked matrix.now) project.now.parts) result }
 {
-    let hierarchy = hierarchy_of(alloc, project)?;
-    let nets = join(alloc, project, &hierarchy)?;
-    let found = findings(alloc, project, &hierarchy, &nets, matrix)?;
-    Ok(reported(alloc, &found)?)
+    Ok(reported(check(alloc, matrix, project)?))
 }
 
 /// The canonical text of the sheet that these bytes spell.
@@ -225,13 +198,21 @@ fn export<F: Folder>(alloc: Global, file: Name, folder: &mut F) -> Result<Answer
     }
 }
 
+/// What so many steps of the work from a start come to.
+fn work(alloc: Global, start: u32, count: u32) -> Result<Answer, RunFault>
+    requires { count ≤ most_steps }
+    ensures { ComesOf (WorkOf start count) result }
+{
+    Ok(Answer::done(work_text(alloc, start, count)?))
+}
+
 /// What a command answers, whose sheets differ. All files stay.
 pub fn answer_of<F: Folder>(
     alloc: Global,
     command: Command,
     folder: &mut F,
 ) -> Result<Answer, RunFault>
-    requires { NamesApart command }
+    requires { IsAskable command }
     ensures answer { AnswerOf (counts (F.faults folder.old) (F.faults folder.new))
         (Over (F.files folder.old) command) result }
     ensures files { KeepsFiles (F.files folder.old) (F.files folder.new) }
@@ -240,5 +221,6 @@ pub fn answer_of<F: Folder>(
         Command::Netlist { form, sheets } => netlist(alloc, form, sheets, folder),
         Command::Drc { matrix, sheets } => drc(alloc, matrix, sheets, folder),
         Command::Export { file } => export(alloc, file, folder),
+        Command::Work { start, count } => work(alloc, start, count),
     }
 }

@@ -1,6 +1,6 @@
 // Why the program ends otherwise than with an answer.
 ghost use Rattle.std.specs.Prelude.{◌≡◌};
-ghost use Rattle.gafd.specs.steps.Passing.{FromFolder, FromWords, IsRefusalOf};
+ghost use Rattle.gafd.specs.steps.Passing.{FromElaboration, FromFolder, FromWords, IsRefusalOf};
 ghost use Rattle.gafd.specs.declared.fault.RunFault.TheVariants.{NoMemory, OutputFault};
 
 use crate::folder::FolderFault;
@@ -8,6 +8,7 @@ use crate::sink::SinkFault;
 use geda_grammar::ReadKind;
 use geda_model::Name;
 use geda_read::ReadFault;
+use hierarchy::ElabFault;
 use option_words::WordFault;
 use std::alloc::{AllocError, AllocFailed};
 
@@ -96,6 +97,17 @@ impl From<WordFault> for RunFault {
         match fault {
             WordFault::Usage => RunFault::Usage,
             WordFault::NoMemory => RunFault::NoMemory,
+        }
+    }
+}
+
+impl From<ElabFault> for RunFault {
+    ghost from_gives = { FromElaboration };
+
+    fn from(fault: ElabFault) -> RunFault {
+        match fault {
+            ElabFault::TooManyInstances => RunFault::TooManyInstances,
+            ElabFault::NoMemory => RunFault::NoMemory,
         }
     }
 }

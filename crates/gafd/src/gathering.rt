@@ -13,7 +13,7 @@ use crate::fault::RunFault;
 use crate::file_reads::{read_sheet_file, sheet_in};
 use crate::folder::Folder;
 use crate::gathered::GatheredFiles;
-use crate::names::names_of;
+use command_words::names_of;
 use geda_model::{Name, Sheet, Symbol};
 use indexmap::IndexMap;
 use std::alloc::{AllocError, Global};

@@ -20,7 +20,6 @@ mod file_reads;
 mod folder;
 mod gathered;
 mod gathering;
-mod names;
 #[cfg(test)]
 mod net_tests;
 mod opening;

@@ -3,7 +3,7 @@ ghost use Rattle.std.specs.Prelude.{◌≡◌, List, Some, String};
 ghost use Rattle.std.specs.declared.alloc.Global.{Global};
 ghost use Rattle.geda_defs.specs.Contents.{Files, KeepsFiles};
 ghost use Rattle.command_words.specs.Commands.{command_of};
-ghost use Rattle.gafd.specs.Answers.{ComesTo, Outcome};
+ghost use Rattle.gafd.specs.Answers.{ComesTo, IsFixed, Outcome};
 ghost use Rattle.gafd.specs.Runs.{Ends, EndsWith, counts, stream};
 
 use crate::answer::{Answer, answer_of};
@@ -64,9 +64,11 @@ pub fn run<F: Folder, O: Sink, E: Sink>(
     }
 }
 
-/// The law that arguments come to one outcome over files.
+/// The law that arguments come to one outcome over files, where they don't ask for the work: its text
+/// tells how many steps the groups of a board took, of which the bound alone is fixed.
 pub fn one_outcome()
     ensures { (files : Files) (arguments : List (String Global)) (first second : Outcome) →
+        IsFixed (command_of arguments) →
         ComesTo (Some files) (command_of arguments) first →
         ComesTo (Some files) (command_of arguments) second → first ≡ second }
 {}

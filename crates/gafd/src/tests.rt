@@ -61,7 +61,7 @@ pub fn put_file(
     Ok(())
 }
 
-const COMMANDS: [(&str, Outcome); 32] = [
+const COMMANDS: [(&str, Outcome); 62] = [
     ("netlist one.sch", Outcome(0, NOTHING, "")),
     ("netlist one.sch spaced.sch", Outcome(0, NOTHING, "")),
     ("netlist two.sch", MISSING),
@@ -109,7 +109,44 @@ const COMMANDS: [(&str, Outcome); 32] = [
     ("drc --matrix one.sch", USAGE),
     ("--help", USAGE),
     ("netlist .sch", USAGE),
+    ("work 1 0", Outcome(0, WORK_1_0, "")),
+    ("work 0000000001 004", Outcome(0, WORK_1_4, "")),
+    ("work 2147483647 4", Outcome(0, WORK_AGAIN, "")),
+    ("work -- 1 0", Outcome(0, WORK_1_0, "")),
+    ("work", USAGE),
+    ("work 1", USAGE),
+    ("work 1 2 3", USAGE),
+    ("work 1 100001", USAGE),
+    ("work 4294967296 1", USAGE),
+    ("work 00000000001 1", USAGE),
+    ("work 1 00000000001", USAGE),
+    ("work +1 1", USAGE),
+    ("work 1 -1", USAGE),
+    ("work 1 -- -1", USAGE),
+    ("work one 1", USAGE),
+    ("work 1 1.0", USAGE),
+    ("work --form list 1 1", USAGE),
+    ("work --form=list 1 1", USAGE),
+    ("netlist --matrix a.toml one.sch", USAGE),
+    ("drc --form list one.sch", USAGE),
+    ("netlist --form one.sch", USAGE),
+    ("netlist one.sch --form", USAGE),
+    ("netlist --form= one.sch", USAGE),
+    ("netlist --form=list --form list one.sch", USAGE),
+    ("netlist --form -- one.sch", USAGE),
+    ("drc one.sch one.sch", USAGE),
+    ("drc -- one.sch --", Outcome(1, "", "gafd: --: missing\n")),
+    ("Netlist one.sch", USAGE),
+    ("serve 127.0.0.1:8080 store", USAGE),
+    ("renumber one.sch", USAGE),
 ];
+
+const WORK_1_0: &str = "work 1 0\nlive 0\nconductors 0\ngroups 0\nnets 0\nbound 0\ncalls 0\n";
+
+const WORK_1_4: &str = "work 1 4\nlive 1\nconductors 2\ngroups 2\nnets 2\nbound 4\ncalls 0\n";
+
+const WORK_AGAIN: &str =
+    "work 2147483647 4\nlive 1\nconductors 2\ngroups 2\nnets 2\nbound 4\ncalls 0\n";
 
 fn files_of_commands(alloc: Global) -> Result<BTreeMap<Name, Vec<u8>>, Fail> {
     let mut files = BTreeMap::new(alloc);

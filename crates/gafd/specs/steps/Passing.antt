@@ -8,6 +8,8 @@ use Rattle.geda_read.specs.declared.fault.ReadFault.TheVariants as read
 use Rattle.command_words.specs.declared.command.Command.{Command}
 use Rattle.gafd.specs.declared.fault.RunFault.{RunFault}
 use Rattle.gafd.specs.declared.fault.RunFault.TheVariants as faults
+use Rattle.hierarchy.specs.declared.fault.ElabFault.{ElabFault}
+use Rattle.hierarchy.specs.declared.fault.ElabFault.TheVariants as elaboration
 use Rattle.option_words.specs.declared.fault.WordFault.{WordFault}
 use Rattle.option_words.specs.declared.fault.WordFault.TheVariants as words
 use Rattle.gafd.specs.declared.folder.FolderFault.{FolderFault}
@@ -30,6 +32,11 @@ IsRefusalOf file read.NoMemory e = e ≡ faults.NoMemory
 abbrev pub FromWords : WordFault → RunFault → Type 0
 FromWords words.Usage e = e ≡ faults.Usage
 FromWords words.NoMemory e = e ≡ faults.NoMemory
+
+-- what a fault of the hierarchy becomes
+abbrev pub FromElaboration : ElabFault → RunFault → Type 0
+FromElaboration elaboration.TooManyInstances e = e ≡ faults.TooManyInstances
+FromElaboration elaboration.NoMemory e = e ≡ faults.NoMemory
 
 -- what is come to, or want of memory
 abbrev pub ComesOf : {A : Type 0} → (Result A RunFault → Type 0) → Result A RunFault → Type 0

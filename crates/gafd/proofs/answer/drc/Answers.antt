@@ -4,7 +4,7 @@ use Rattle.command_words.specs.declared.command.Command.TheVariants.{Drc}
 use Rattle.gafd.specs.declared.fault.RunFault.{RunFault}
 use Rattle.geda_model.specs.Projects.{ProjectData}
 use Rattle.gafd.specs.ProjectFiles.{GathersTo}
-use Rattle.gafd.specs.Answers.{OfNetList, checked}
+use Rattle.gafd.specs.Answers.{ByNetList, checked}
 use Rattle.gafd.specs.steps.Gathering.{GathersFrom}
 use Rattle.gafd.specs.steps.Passing.{Over}
 use Rattle.gafd.proofs.CheckLemmas.{of_kept}
@@ -21,7 +21,7 @@ returns-clause-answer g c =
     let project = c.in_ok-project.project.parts in
     let told : GathersFrom later names (Ok project) = subst (λ (ns : List (List ℕ)). GathersFrom later ns (Ok project)) c.as_slice.ensures c.in_ok-project.ensures.project in
     let came : GathersFrom files names (Ok project) = of_kept files later (λ known. GathersTo known names (Ok project)) c.in_ok-matrix.ensures.files told in
-    answer_from _ (OfNetList (checked levels) project) (Over files (Drc c.args.matrix names)) c.checked.result (λ r h. (Ok levels, c.in_ok-matrix.ensures.matrix, sheets_come (checked levels) files names project r came h)) c.checked.ensures
+    answer_from _ (ByNetList (checked levels) project) (Over files (Drc c.args.matrix names)) c.checked.result (λ r h. (Ok levels, c.in_ok-matrix.ensures.matrix, sheets_come (checked levels) files names project r came h)) c.checked.ensures
 
 pub returns-in_err-project-clause-answer : goal.returns-in_err-project-clause-answer
 returns-in_err-project-clause-answer g c =

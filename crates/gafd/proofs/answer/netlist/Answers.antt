@@ -1,7 +1,7 @@
 use Rattle.std.proofs.Common.{List, ℕ, Ok, Err, subst, arith}
 use Rattle.std.proofs.lemmas.Result.{err_from_is_err_and}
 use Rattle.command_words.specs.declared.command.Command.TheVariants.{Netlist}
-use Rattle.gafd.specs.Answers.{OfNetList, listed}
+use Rattle.gafd.specs.Answers.{ByNetList, listed}
 use Rattle.gafd.specs.steps.Gathering.{GathersFrom}
 use Rattle.gafd.specs.steps.Passing.{Over}
 use Rattle.gafd.proofs.ProjectLemmas.{sheets_come, sheets_fail}
@@ -15,7 +15,7 @@ returns-clause-answer g c =
     let form = c.args.form in
     let project = c.in_ok-project.project.parts in
     let gathers = subst (λ (ns : List (List ℕ)). GathersFrom files ns (Ok project)) c.as_slice.ensures c.in_ok-project.ensures.project in
-    answer_from _ (OfNetList (listed form) project) (Over files (Netlist form names)) c.listed.result (λ r h. sheets_come (listed form) files names project r gathers h) c.listed.ensures
+    answer_from _ (ByNetList (listed form) project) (Over files (Netlist form names)) c.listed.result (λ r h. sheets_come (listed form) files names project r gathers h) c.listed.ensures
 
 pub returns-in_err-project-clause-answer : goal.returns-in_err-project-clause-answer
 returns-in_err-project-clause-answer g c =
