@@ -1,12 +1,10 @@
 // The pin numbers of a slot.
-ghost use Rattle.std.specs.Prelude.{◌≡◌, ◌<◌, length, option_copied, true};
-ghost use Rattle.std.specs.List.{list_all, slice_get, filter_map};
-ghost use Rattle.std.specs.Char.{is_ascii_digit};
-ghost use Rattle.std.specs.Str.Parse.{digits_value};
+ghost use Rattle.std.specs.Prelude.{◌≡◌, option_copied};
 ghost use Rattle.attr_rules.specs.Slots.{Gives, exceeds, list_for, list_in, short_number, slot_count, slot_number, slot_pins};
 
 use crate::pin_lists::{cut, pin_numbers};
 use geda_model::{Block, Items, Word};
+use geda_text::natural;
 use std::alloc::{AllocError, Global};
 
 /// Why a slot gives no pin numbers.
@@ -33,34 +31,15 @@ impl From<AllocError> for SlotFault {
     }
 }
 
-fn are_digits(bytes: &[u8]) -> bool
-    ensures { result ≡ list_all is_ascii_digit bytes.now }
-{
-    bytes.iter().all(|byte| byte.is_ascii_digit())
-}
-
-fn digits_value(digits: &[u8]) -> u32
-    requires short { length digits.now < 10 }
-    requires digits { list_all is_ascii_digit digits.now ≡ true }
-    ensures { result ≡ digits_value 10 digits.now }
-{
-    let mut value: u32 = 0;
-    for byte in digits {
-        value = value * 10 + u32::from(*byte - b'0');
-    }
-    value
-}
-
 /// The value of a text of 1 to 4 digits. `None` exactly for any other text. It takes no memory.
-#[tactic(auto, unfolding(crate::specs::Slots::short_number))]
+#[tactic(auto, unfolding(crate::specs::Slots::short_number, geda_text::specs::Lines::digits_of))]
 pub fn short_number(text: &str) -> Option<u32>
     ensures { result ≡ short_number text.now }
 {
-    let digits = text.as_bytes();
-    if digits.is_empty() || digits.len() > 4 || !are_digits(digits) {
+    if text.len() > 4 {
         return None;
     }
-    Some(digits_value(digits))
+    natural(text.as_bytes())
 }
 
 fn slot_count(numslots: Option<&str>) -> Option<u32>

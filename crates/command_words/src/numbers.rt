@@ -1,17 +1,11 @@
 // The numbers that words write.
 ghost use Rattle.std.specs.Prelude.{◌≡◌, if◌then◌else◌, nat_le, None, Some};
-ghost use Rattle.std.specs.List.{list_all};
-ghost use Rattle.std.specs.Char.{is_ascii_digit};
 ghost use Rattle.command_words.specs.Commands.{is_number, number_of};
+
+use geda_text::are_digits;
 
 /// The greatest number of steps of the work.
 pub const MOST_STEPS: u32 = 100_000;
-
-fn are_digits(word: &[u8]) -> bool
-    ensures { result ≡ list_all is_ascii_digit word.now }
-{
-    word.iter().all(|byte| byte.is_ascii_digit())
-}
 
 fn is_number(word: &[u8]) -> bool
     ensures { result ≡ is_number word.now }

@@ -1,19 +1,11 @@
 // The version line.
 ghost use Rattle.std.specs.Prelude.{◌≡◌, ◌<◌, ◌⊎◌, IfSome};
-ghost use Rattle.std.specs.List.{list_all};
-ghost use Rattle.std.specs.Char.{is_ascii_digit};
 ghost use Rattle.geda_grammar.specs.steps.Files.{format_of, version_of};
 ghost use Rattle.geda_read.specs.steps.Version.{date_of};
 
 use crate::kinds::is_version;
 use geda_model::Head;
-use geda_text::{fields, whole};
-
-fn are_digits(field: &[u8]) -> bool
-    ensures { result ≡ list_all is_ascii_digit field.now }
-{
-    field.iter().all(|byte| byte.is_ascii_digit())
-}
+use geda_text::{are_digits, fields, whole};
 
 /// The date that a field says: eight digits. It takes no memory.
 #[tactic(auto, unfolding(crate::specs::steps::Version::date_of), using(crate::proofs::Dates::whole_date, crate::proofs::Dates::small_date))]

@@ -11,6 +11,6 @@ mod text;
 
 pub use cutter::Cutter;
 pub use line::fields;
-pub use number::whole;
+pub use number::{are_digits, natural, whole};
 pub use pieces::Fields;
 pub use text::text_of;

@@ -5,7 +5,8 @@ ghost use Rattle.std.specs.Char.{is_ascii_digit};
 ghost use Rattle.std.specs.Str.Parse.{digits_value};
 ghost use Rattle.geda_text.specs.Lines.{digits_of, whole_of};
 
-fn are_digits(field: &[u8]) -> bool
+/// Whether all bytes are ASCII digits. It takes no memory.
+pub fn are_digits(field: &[u8]) -> bool
     ensures { result ≡ list_all is_ascii_digit field.now }
 {
     field.iter().all(|byte| byte.is_ascii_digit())
@@ -24,8 +25,9 @@ fn value_of(digits: &[u8]) -> u32
     value
 }
 
+/// The number that 1 to 9 digits spell. `None` exactly for any other field. It takes no memory.
 #[tactic(auto, unfolding(crate::specs::Lines::digits_of))]
-fn digits(field: &[u8]) -> Option<u32>
+pub fn natural(field: &[u8]) -> Option<u32>
     ensures value { result ≡ digits_of field.now }
     ensures small { IfSome result (λ n. n < 1000000000) }
 {
@@ -43,11 +45,11 @@ pub fn whole(field: &[u8]) -> Option<i32>
 {
     match field {
         [b'-', rest @ ..] => {
-            let number = digits(rest)?;
+            let number = natural(rest)?;
             Some(-(number as i32))
         }
         _ => {
-            let number = digits(field)?;
+            let number = natural(field)?;
             Some(number as i32)
         }
     }

@@ -6,7 +6,7 @@ use Rattle.std.proofs.lemmas.List.Sums.{sum_by-append}
 use Rattle.std.specs.Str.{is_utf8, IsUtf8}
 use Rattle.std.proofs.lemmas.Str.{IsUtf8-nil, IsUtf8-append, IsUtf8-from_ascii, IsUtf8-from_is_utf8, is_utf8-from_IsUtf8}
 use Rattle.std.proofs.lemmas.Str.Ascii.{IsAscii-cons}
-use Rattle.sheet_lines.specs.Begun.{ContentData, IsBegun}
+use Rattle.sheet_lines.specs.steps.Begun.{ContentData, IsBegun}
 use Rattle.sheet_lines.specs.steps.Contents.{with_line}
 use Rattle.geda_model.specs.Limits.{most_lines}
 use Rattle.geda_model.specs.Ranges.{IsContent, has_cr_end, is_after_line, line_feeds}

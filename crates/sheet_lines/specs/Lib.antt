@@ -1,4 +1,3 @@
-pub mod Begun
 pub mod Pending
 pub mod SheetLines
 pub mod steps

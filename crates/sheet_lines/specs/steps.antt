@@ -1,3 +1,4 @@
+pub mod Begun
 pub mod Adding
 pub mod Contents
 pub mod Fields

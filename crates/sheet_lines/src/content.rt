@@ -18,7 +18,7 @@ pub struct Content {
 
 impl Model for Content {
     ghost use Rattle.std.specs.String.{string_bytes};
-    ghost use Rattle.sheet_lines.specs.Begun.{ContentData, IsBegun};
+    ghost use Rattle.sheet_lines.specs.steps.Begun.{ContentData, IsBegun};
 
     ghost Value = { ContentData };
 

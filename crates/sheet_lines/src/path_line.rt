@@ -20,7 +20,7 @@ pub struct PathLine {
 
 impl Model for PathLine {
     ghost use Rattle.geda_model.specs.Ranges.{IsNumber};
-    ghost use Rattle.sheet_lines.specs.Begun.{PathLineData};
+    ghost use Rattle.sheet_lines.specs.steps.Begun.{PathLineData};
 
     ghost Value = { PathLineData };
 

@@ -25,7 +25,7 @@ pub struct PictureLine {
 
 impl Model for PictureLine {
     ghost use Rattle.geda_grammar.specs.steps.Following.{PictureLineData};
-    ghost use Rattle.sheet_lines.specs.Begun.{IsPictureLine};
+    ghost use Rattle.sheet_lines.specs.steps.Begun.{IsPictureLine};
 
     ghost Value = { PictureLineData };
 

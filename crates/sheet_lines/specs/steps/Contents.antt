@@ -1,7 +1,7 @@
 -- Steps of the code; no public clause cites them.
 -- What a line adds to a content.
 use Rattle.std.specs.Prelude.{◌-◌, ℕ, List, [], ◌∷◌, ◌++◌}
-use Rattle.sheet_lines.specs.Begun.{ContentData}
+use Rattle.sheet_lines.specs.steps.Begun.{ContentData}
 
 -- one line more, with another behind it
 abbrev pub with_line : ContentData → List ℕ → ContentData

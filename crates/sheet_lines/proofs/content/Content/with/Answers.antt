@@ -1,5 +1,5 @@
 use Rattle.std.proofs.Common.{ap, sym, ◌∙◌}
-use Rattle.sheet_lines.specs.Begun.{ContentData}
+use Rattle.sheet_lines.specs.steps.Begun.{ContentData}
 use Rattle.std.specs.String.{string_bytes}
 use Rattle.sheet_lines.proofs.Contents.{next_line}
 use Rattle.sheet_lines.proofs.content.Content.with.Goals as goal
