@@ -1,6 +1,5 @@
 pub mod Picks
 pub mod Cutting
-pub mod Numbers
 pub mod Trims
 pub mod WordLemmas
 pub mod Cases

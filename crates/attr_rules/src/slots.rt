@@ -95,9 +95,9 @@ fn list_for(number: u32, slotdefs: &[Block]) -> Option<&str>
 /// `slotdef` (docs/RULES.md, "Slots"). They stand in the order of their list.
 ///
 /// `SlotRange` exactly where the slot is not 1 to 4 digits, or is 0, or exceeds a `numslots` of 1
-/// to 4 digits that is at least 1. Else `NoSlotdef` exactly where no `slotdef` has, before its first
-/// `:`, 1 to 4 digits with the slot's value. Else `BadSlotdef` exactly where the first such one has
-/// a number that is empty or no word, once the spaces round it are dropped.
+/// to 4 digits that is at least 1. Else `NoSlotdef` exactly where no `slotdef` has, before its
+/// first `:`, 1 to 4 digits with the slot's value. Else `BadSlotdef` exactly where the first such
+/// one has a number that is empty or no word, once the spaces round it are dropped.
 #[tactic(auto, unfolding(crate::specs::Slots::slot_pins))]
 pub fn slot_pins(
     alloc: Global,

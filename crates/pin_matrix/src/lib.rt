@@ -1,7 +1,7 @@
 //! How grave it is that two kinds of pins meet in a net: the usual matrix, and one from a file.
 //!
-//! The main type is `Matrix`. Rules: docs/RULES.md, "The usual matrix", and docs/FORMATS.md, "Matrix
-//! files". Definitions: specs/Matrices.antt and specs/MatrixFiles.antt.
+//! The main type is `Matrix`. Rules: docs/RULES.md, "The usual matrix", and docs/FORMATS.md,
+//! "Matrix files". Definitions: specs/Matrices.antt and specs/MatrixFiles.antt.
 #![tactic(auto)]
 
 mod fault;

@@ -10,8 +10,8 @@ use attr_rules::PinKind;
 use std::alloc::Global;
 use std::marker::Model;
 
-/// How grave it is that two kinds of pins meet in a net, one level a pair of kinds: rows in order of
-/// the kinds, each from `Unknown` on to its own kind, one behind the other.
+/// How grave it is that two kinds of pins meet in a net, one level a pair of kinds: rows in order
+/// of the kinds, each from `Unknown` on to its own kind, one behind the other.
 #[derive(Debug, Drop)]
 pub struct Matrix {
     levels: [Level; 78],

@@ -1,5 +1,5 @@
-//! How the texts of a project print: words, in which spaces, tabs and line ends become `_`, and lines
-//! of such words.
+//! How the texts of a project print: words, in which spaces, tabs and line ends become `_`, and
+//! lines of such words.
 //! Rules: docs/FORMATS.md, "List text" and "Report". Definitions: specs/PrintedTexts.antt.
 #![tactic(auto)]
 
