@@ -4,6 +4,7 @@ ghost use Rattle.std.specs.Fmt.{decimal};
 ghost use Rattle.std.specs.String.{string_bytes};
 ghost use Rattle.geda_write.specs.steps.Output.{Adds, Got, Spare, Written};
 
+use itoa::Buffer;
 use std::alloc::AllocError;
 use std::convert::Infallible;
 
@@ -33,7 +34,7 @@ impl Output for String {
 
     #[tactic(auto, unfolding(crate::specs::steps::Output::more))]
     fn digits(&mut self, number: u32) -> Result<(), AllocError> {
-        write!(self, "{number}")?;
+        self.push_str(Buffer::new().format(number))?;
         Ok(())
     }
 }
