@@ -1,3 +1,4 @@
+pub mod Prefixes
 pub mod Picks
 pub mod Cutting
 pub mod Trims

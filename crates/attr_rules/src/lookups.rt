@@ -2,17 +2,27 @@
 ghost use Rattle.std.specs.Prelude.{◌≡◌, ◌≤◌, ◌++◌, IfOk, OnOk, length, option_copied};
 ghost use Rattle.std.specs.List.{filter_map, slice_get};
 ghost use Rattle.attr_rules.specs.Attributes.{value_named, values_named, free_text, parts_of, attr, attrs};
-ghost use Rattle.attr_rules.specs.steps.PartValues.{value_in_part};
+ghost use Rattle.attr_rules.specs.steps.PartValues.{begins_with, value_in_part};
 
 use crate::splits::split_attr;
 use geda_model::{Block, Body, Items, Object, Part, Shape, Symbol, Text};
 use std::alloc::{AllocError, Global};
 
+/// Whether a text begins as an attribute of a name does: most texts don't, and are passed over.
+fn begins_with(content: &str, name: &str) -> bool
+    ensures { result ≡ begins_with name.now content.now }
+{
+    content.as_bytes().starts_with(name.as_bytes())
+}
+
 fn value_named<'a>(text: &'a Text, name: &str) -> Option<&'a str>
     ensures { option_copied result ≡ value_named name.now text.now }
 {
-    let content = &text.content;
-    let (own, value) = split_attr(content.as_str())?;
+    let content = text.content.as_str();
+    if !begins_with(content, name) {
+        return None;
+    }
+    let (own, value) = split_attr(content)?;
     if own == name {
         return Some(value);
     }
