@@ -1,0 +1,4 @@
+pub mod ListLemmas
+pub mod LabelLemmas
+pub mod UnionLemmas
+pub mod SpanLemmas

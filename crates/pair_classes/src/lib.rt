@@ -1,0 +1,9 @@
+//! Classes of places, by pairs of places that stand in one class.
+//!
+//! The one call is `classes_of`; it is near-linear in the pairs, in any order. Places count from 0.
+//! Rules: docs/RULES.md, "Nets". Definitions: specs/Pairs.antt.
+#![tactic(auto)]
+
+mod unions;
+
+pub use unions::classes_of;
