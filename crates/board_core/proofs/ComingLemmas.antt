@@ -23,7 +23,7 @@ use Rattle.geda_model.specs.Sheets.{ObjectData, SymbolData}
 use Rattle.geda_model.specs.Tables.{row_now}
 use Rattle.attr_rules.specs.Libraries.{library_of}
 use Rattle.pin_place.specs.Pins.{conductors_of}
-use Rattle.board_core.specs.Conductors.{conductors_at, sheet_conductor}
+use Rattle.sheet_groups.specs.Conductors.{conductors_at, sheet_conductor}
 use Rattle.board_core.specs.Changed.{has_symbol_of, has_thing, is_object, is_symbol}
 use Rattle.board_core.specs.Bounds.{coming_count, given_count, is_renewed}
 use Rattle.board_core.specs.steps.ChangedThings.{HasNoSymbol}

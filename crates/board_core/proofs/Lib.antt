@@ -1,8 +1,3 @@
-pub mod NumberLemmas
-pub mod FlatLemmas
-pub mod ClassLemmas
-pub mod OrderLemmas
-pub mod GroupLemmas
 pub mod ThingLemmas
 pub mod TouchedLemmas
 pub mod SizeLemmas

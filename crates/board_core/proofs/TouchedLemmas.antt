@@ -24,7 +24,7 @@ use Rattle.geda_model.proofs.OrderedRows.{keys_sorted}
 use Rattle.geda_model.proofs.Rows.{IsKey, find_row}
 use Rattle.attr_rules.specs.Libraries.{library_of}
 use Rattle.pin_place.specs.Pins.{conductors_of}
-use Rattle.board_core.specs.Conductors.{SheetConductor, conductors_at, sheet_conductor, sheet_conductors}
+use Rattle.sheet_groups.specs.Conductors.{SheetConductor, conductors_at, sheet_conductor, sheet_conductors}
 use Rattle.board_core.specs.Changed.{has_symbol, has_symbol_of, has_thing, is_changed, is_object, is_symbol}
 use Rattle.board_core.specs.Bounds.{leaving}
 use Rattle.board_core.specs.steps.ChangedThings.{HasNoSymbol, may_touch}

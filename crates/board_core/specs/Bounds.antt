@@ -9,8 +9,8 @@ use Rattle.geda_model.specs.declared.change.Value.TheVariants as values
 use Rattle.geda_model.specs.Items.{Item}
 use Rattle.geda_model.specs.Projects.{ProjectData}
 use Rattle.geda_model.specs.Changes.{put}
-use Rattle.board_core.specs.Conductors.{SheetConductor, conductors_at}
-use Rattle.board_core.specs.Groups.{IsGroupSize}
+use Rattle.sheet_groups.specs.Conductors.{SheetConductor, conductors_at}
+use Rattle.board_core.specs.GroupSizes.{IsGroupSize}
 use Rattle.board_core.specs.Changed.{has_symbol_of, has_thing, is_changed, is_object}
 
 -- a conductor, and whether it leaves

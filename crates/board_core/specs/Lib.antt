@@ -1,5 +1,4 @@
-pub mod Conductors
-pub mod Groups
+pub mod GroupSizes
 pub mod Changed
 pub mod Bounds
 pub mod Boards

@@ -3,15 +3,16 @@ ghost use Rattle.std.specs.Prelude.{◌≡◌, ◌≤◌, ◌↔◌, [], IfOk, I
 ghost use Rattle.std.specs.FinMap.{get};
 ghost use Rattle.geda_model.specs.Projects.{no_parts};
 ghost use Rattle.geda_model.specs.Changes.{CanApply, put};
-ghost use Rattle.board_core.specs.Conductors.{sheet_conductors};
-ghost use Rattle.board_core.specs.Groups.{AreGroups};
+ghost use Rattle.sheet_groups.specs.Conductors.{sheet_conductors};
+ghost use Rattle.sheet_groups.specs.Groups.{AreGroups};
 ghost use Rattle.board_core.specs.Bounds.{IsBound};
 ghost use Rattle.board_core.specs.Boards.{MayGiveUp, RenewsGroups, StaysInBound};
 
 use crate::bound::bound_of;
-use crate::groups::groups_of;
+use crate::put_in::put_in;
 use geda_geom::Key;
 use geda_model::{Change, Head, Name, Project};
+use sheet_groups::local_groups;
 use std::alloc::{AllocError, Global};
 use std::collections::BTreeMap;
 use std::marker::Model;
@@ -50,8 +51,8 @@ impl Board {
         }
     }
 
-    /// A board of an equal project, with the groups of all sheets. It makes at most one step for each
-    /// conductor.
+    /// A board of an equal project, with the groups of all sheets. It makes at most one step for
+    /// each conductor.
     pub fn of(alloc: Global, project: &Project) -> Result<Board, AllocError>
         ensures project { IfOk result (λ board. board.project ≡ project.now.parts) }
         ensures fresh { IfOk result (λ board. board.invalidated ≡ []) }
@@ -89,8 +90,8 @@ impl Board {
         true
     }
 
-    /// The steps that its groups took since the board was made, at most 2^64 - 1. One step asks which
-    /// conductors touch a given one. It takes no memory.
+    /// The steps that its groups took since the board was made, at most 2^64 - 1. One step asks
+    /// which conductors touch a given one. It takes no memory.
     pub fn asked(&self) -> u64
         ensures { result ≡ self.now.asked }
     {
@@ -100,9 +101,9 @@ impl Board {
 
     /// Puts a change in (docs/RULES.md, "Groups").
     ///
-    /// On AllocError the project is as before, and the groups of sheets that the change touches may be
-    /// given up. Otherwise the groups of each sheet that it touches are kept afterwards. Its steps stay
-    /// within `bound`, where the groups of all touched sheets were kept.
+    /// On AllocError the project is as before, and the groups of sheets that the change touches may
+    /// be given up. Otherwise the groups of each sheet that it touches are kept afterwards. Its
+    /// steps stay within `bound`, where the groups of all touched sheets were kept.
     pub fn apply(&mut self, alloc: Global, change: &Change) -> Result<(), AllocError>
         requires { CanApply change.now.items }
         ensures ok { OnOk result (self.new.project ≡ put self.old.project change.now.items) }
@@ -112,14 +113,11 @@ impl Board {
         ensures later { self.old.asked ≤ self.new.asked }
         ensures few { StaysInBound self.old change.now.items self.new }
     {
-        let copy = change.copy(alloc)?;
-        self.project.reserve(alloc, &copy)?;
-        self.project.apply(copy);
-        Ok(())
+        put_in(alloc, &mut self.project, change)
     }
 
-    /// How many steps a change may take (docs/RULES.md, "Groups"): one for each conductor that comes,
-    /// and for each that leaves the size that its group has just before. At most 2^64 - 1.
+    /// How many steps a change may take (docs/RULES.md, "Groups"): one for each conductor that
+    /// comes, and for each that leaves the size that its group has just before. At most 2^64 - 1.
     pub fn bound(&self, alloc: Global, change: &Change) -> Result<u64, AllocError>
         requires { CanApply change.now.items }
         ensures { IfOk result (IsBound self.now.project change.now.items) }
@@ -132,6 +130,6 @@ impl Board {
         ensures { IfOk result
             (λ groups. AreGroups (sheet_conductors self.now.project) groups.entries) }
     {
-        groups_of(alloc, &self.project)
+        local_groups(alloc, &self.project)
     }
 }

@@ -8,8 +8,9 @@ ghost use Rattle.board_core.specs.steps.Coming.{capped, drawn_count};
 ghost use Rattle.board_core.specs.steps.Coming.{given_total, renewed_total};
 
 use crate::changed::Things;
-use crate::sheet_conductors::drawn_of;
+use crate::put_in::put_in;
 use geda_model::{Change, Object, Placed, Project, Thing, Value};
+use sheet_groups::drawn_of;
 use std::alloc::{AllocError, Global};
 
 /// How many conductors an object has, with the symbols of a project.
@@ -91,9 +92,7 @@ fn after_change(alloc: Global, project: &Project, change: &Change) -> Result<Pro
     ensures { IfOk result (λ after. after.parts ≡ put project.now.parts change.now.items) }
 {
     let mut after = project.copy(alloc)?;
-    let copy = change.copy(alloc)?;
-    after.reserve(alloc, &copy)?;
-    after.apply(copy);
+    put_in(alloc, &mut after, change)?;
     Ok(after)
 }
 

@@ -8,8 +8,7 @@ mod board;
 mod bound;
 mod changed;
 mod coming;
-mod groups;
-mod sheet_conductors;
+mod put_in;
 mod sizes;
 
 pub use board::Board;

@@ -1,41 +1,27 @@
 // The sizes of the groups of conductors that leave, each just before it leaves.
 ghost use Rattle.std.specs.Prelude.{◌≡◌, ◌<◌, ◌==◌, IfOk, length};
-ghost use Rattle.std.specs.List.{count_by, remove};
+ghost use Rattle.std.specs.List.{count_by};
 ghost use Rattle.board_core.specs.steps.Sizes.{AreSizes, IsSizeAt, leaves_by};
 
 use crate::changed::{Things, may_take};
-use crate::sheet_conductors::flat_conductors;
 use geda_geom::Key;
 use geda_model::Project;
-use link_classes::{FlatConductor, class_labels};
+use sheet_groups::{DrawnConductor, drawn_conductors, touch_labels};
 use std::alloc::{AllocError, Global};
 
 fn count_label(labels: &[usize], label: usize) -> usize
     ensures { result ≡ count_by (λ other. other == label) labels.now }
 {
-    let mut count = 0;
-    for other in labels {
-        if *other == label {
-            count += 1;
-        }
-    }
-    count
+    labels.iter().filter(|other| **other == label).count()
 }
 
 /// How many conductors the group of the one at a place has.
-fn group_size(alloc: Global, flat: &[FlatConductor], place: usize) -> Result<u64, AllocError>
-    requires { place < length flat.now }
-    ensures { IfOk result (IsSizeAt flat.now place) }
+fn group_size(alloc: Global, drawn: &[DrawnConductor], place: usize) -> Result<u64, AllocError>
+    requires { place < length drawn.now }
+    ensures { IfOk result (IsSizeAt drawn.now place) }
 {
-    let labels = class_labels(alloc, flat)?;
+    let labels = touch_labels(alloc, drawn)?;
     Ok(count_label(&labels, labels[place]) as u64)
-}
-
-fn take_out(flat: &mut Vec<FlatConductor>, place: usize)
-    requires { place < length flat.old.items }
-    ensures { flat.new.items ≡ remove flat.old.items place }
-{
-    flat.remove(place);
 }
 
 /// Whether a conductor with a key leaves.
@@ -53,13 +39,13 @@ fn leaves(project: &Project, things: &Things<'_>, key: Key) -> bool
 fn sizes_on_way(alloc: Global, project: &Project, things: &Things<'_>) -> Result<u64, AllocError>
     ensures { IfOk result (AreSizes project.now.parts things.now) }
 {
-    let mut flat = flat_conductors(alloc, project)?;
+    let mut drawn = drawn_conductors(alloc, project)?;
     let mut place = 0;
     let mut sum: u64 = 0;
-    while place < flat.len() {
-        if leaves(project, things, flat[place].key) {
-            sum = sum.saturating_add(group_size(alloc, &flat, place)?);
-            take_out(&mut flat, place);
+    while place < drawn.len() {
+        if leaves(project, things, drawn[place].key) {
+            sum = sum.saturating_add(group_size(alloc, &drawn, place)?);
+            drawn.remove(place);
         } else {
             place += 1;
         }

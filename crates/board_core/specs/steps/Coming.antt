@@ -8,7 +8,7 @@ use Rattle.geda_model.specs.Projects.{ProjectData}
 use Rattle.geda_model.specs.Sheets.{ObjectData}
 use Rattle.attr_rules.specs.Libraries.{library_of}
 use Rattle.pin_place.specs.Pins.{conductors_of}
-use Rattle.board_core.specs.Conductors.{conductors_at}
+use Rattle.sheet_groups.specs.Conductors.{conductors_at}
 use Rattle.board_core.specs.Bounds.{given_count, is_renewed}
 
 -- a number, at most 2^64 - 1

@@ -8,5 +8,5 @@ returns c =
     let labels = c.in_ok-labels.labels.items in
     let label = c.index.result.now in
     let lt : c.args.place < length labels = omega (arith, c.requires, c.in_ok-labels.ensures.len) in
-    group_size_at c.args.flat.now labels c.args.place label c.count_label.result c.in_ok-labels.ensures
+    group_size_at c.args.drawn.now labels c.args.place label c.count_label.result c.in_ok-labels.ensures.labels
     (c.index.ensures ∙ get_or_default labels c.args.place label 0 lt) (rw c.deref.ensures.value at c.count_label.ensures)
