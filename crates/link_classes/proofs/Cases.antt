@@ -2,8 +2,10 @@
 use Rattle.std.proofs.Common.{◌≡◌, ℕ, ◌≢◌, pos, List, [], ◌∷◌, Option, Some, None, refl, arith, inl, inr}
 use Rattle.std.specs.Prelude.{codes}
 use Rattle.geda_geom.specs.declared.conductor.Conductor.TheVariants.{End}
+use Rattle.geda_geom.specs.declared.conductor.Key.{Key}
 use Rattle.link_classes.specs.declared.conductors.FlatConductor.{FlatConductor}
 use Rattle.link_classes.specs.declared.conductors.PortPins.{PortPins}
+use Rattle.link_classes.specs.InstanceGroups.{AreGrouped, Groups}
 use Rattle.link_classes.specs.Links.{AreTied, AreTouching, Linked}
 
 -- a pin at one point, in this instance
@@ -24,6 +26,14 @@ hidden = record { instance = 1; key = record { id = 1; place = 0 }; shape = None
 
 abbrev drawn : FlatConductor
 drawn = record { instance = 0; key = record { id = 0; place = 0 }; shape = Some (End (record { x = pos 0; y = pos 0 })); global_names = []; drawn_names = codes "out" ∷ codes "Vcc" ∷ []; member = None; leads_down = None; leads_up = None }
+
+-- conductors of one instance that have one group stand in it
+one_group : (i : ℕ) (group : Key) → AreGrouped (λ key. Some group) (pin_in i) (pin_in i)
+one_group i group = record { together = refl; group = group; first = record { drawn = refl; has = refl }; second = record { drawn = refl; has = refl } }
+
+-- a hidden pin stands in none
+hidden_stands_apart : (groups : Groups) (f : FlatConductor) → AreGrouped groups hidden f → ⊥
+hidden_stands_apart groups f grouped = absurd (let e = grouped.first.drawn in cc)
 
 -- a name in common links them, whichever of the two kinds it is
 one_name_links : Linked (drawn ∷ hidden ∷ []) 0 1

@@ -1,11 +1,6 @@
 pub mod ListLemmas
-pub mod LabelLemmas
-pub mod UnionLemmas
-pub mod SpanLemmas
-pub mod SweepLemmas
-pub mod RowLemmas
-pub mod TouchLemmas
-pub mod NameLemmas
+pub mod FirstPlaceLemmas
+pub mod GroupLemmas
 pub mod PortLemmas
 pub mod LinkLemmas
 pub mod Cases

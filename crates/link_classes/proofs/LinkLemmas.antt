@@ -3,8 +3,8 @@ use Rattle.std.proofs.Common.{ℕ, ◌<◌, List, ◌++◌, length, append_assoc
 use Rattle.geda_defs.specs.Classes.{AreClasses}
 use Rattle.link_classes.specs.declared.conductors.FlatConductor.{FlatConductor}
 use Rattle.link_classes.specs.Links.{AreTied, AreTouching, AtPlaces, Linked, ShareName}
-use Rattle.link_classes.specs.steps.Unions.{ArePaired, Spans}
-use Rattle.link_classes.proofs.SpanLemmas.{Either, spanned_classes, spans_either}
+use Rattle.pair_classes.specs.Pairs.{ArePaired, Spans}
+use Rattle.pair_classes.proofs.SpanLemmas.{Either, spanned_classes, spans_either}
 
 -- what is linked at two places is below the count
 linked_inside : (conductors : List FlatConductor) (i j : ℕ) → Linked conductors i j → j < length conductors

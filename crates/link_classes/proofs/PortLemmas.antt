@@ -13,9 +13,10 @@ use Rattle.link_classes.specs.declared.conductors.PortPins.{PortPins}
 use Rattle.link_classes.specs.Links.{AreTied, AtPlaces, LeadsTo}
 use Rattle.link_classes.specs.steps.FirstPlaces.{pair_with}
 use Rattle.link_classes.specs.steps.PortPlaces.{HasPlaces, Joins, Notes, TiesPorts, Way, by_pins, down, found_for, up}
-use Rattle.link_classes.specs.steps.Unions.{IsSameAt, Spans}
-use Rattle.link_classes.proofs.ListLemmas.{earlier_or_here, no_conductor, none_is_in}
-use Rattle.link_classes.proofs.LabelLemmas.{joined_by}
+use Rattle.pair_classes.specs.Pairs.{IsSameAt, Spans}
+use Rattle.pair_classes.proofs.ListLemmas.{earlier_or_here, none_is_in}
+use Rattle.link_classes.proofs.ListLemmas.{no_conductor}
+use Rattle.pair_classes.proofs.LabelLemmas.{joined_by}
 
 -- pins that compare alike are one
 exact_pins : CmpEqualImpliesEq by_pins
@@ -34,13 +35,6 @@ none_is_some : {A P : Type 0} (a : A) → ◌≡◌ {A = Option A} None (Some a)
 none_is_some a e = absurd (cc)
 
 module _ (way : Way) (cs : List FlatConductor) where
-  pub no_places : (places : PortPins → Option ℕ) → ((q : PortPins) → places q ≡ None) → HasPlaces way cs 0 places
-  no_places places empty = record {
-    within = λ q p e. none_is_some p (sym (empty q) ∙ e);
-    sound = λ q p d e. none_is_some p (sym (empty q) ∙ e);
-    full = λ i d q lt. absurd (omega (arith, lt));
-  }
-
   -- the next conductor is noted
   pub next_places : (count : ℕ) (old new : PortPins → Option ℕ) (e : FlatConductor) → count < length cs
       → Notes (way (get_or cs count e)) count old new → HasPlaces way cs count old → HasPlaces way cs (count + 1) new
@@ -124,13 +118,6 @@ down_then_up a b q above below = inr (record { pins = q; below = below; above = 
 
 up_then_down : (a b : FlatConductor) (q : PortPins) → up a ≡ Some q → down b ≡ Some q → AreTied a b
 up_then_down a b q below above = inl (record { pins = q; below = below; above = above })
-
-pub no_ties : (above below : PortPins → Option ℕ) (cs : List FlatConductor) → TiesPorts above below cs 0 []
-no_ties above below cs = record {
-  sound = λ i j c. none_is_in (i, j) c;
-  ups = λ i d q p lt. absurd (omega (arith, lt));
-  downs = λ i d q p lt. absurd (omega (arith, lt));
-}
 
 -- the pairs of the next conductor are added
 pub next_ties : (above below : PortPins → Option ℕ) (cs : List FlatConductor) (count : ℕ) (e f : FlatConductor) (pairs : List (ℕ × ℕ)) → count < length cs

@@ -1,2 +1,3 @@
 pub mod Links
+pub mod InstanceGroups
 pub mod steps

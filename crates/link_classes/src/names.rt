@@ -1,9 +1,11 @@
 // Places that have a name in common, by the first place of each name.
-ghost use Rattle.std.specs.Prelude.{◌≡◌, ◌++◌, List, length, IfOk, OnOk};
+ghost use Rattle.std.specs.Prelude.{◌≡◌, ◌++◌, ℕ, List, length, IfOk, OnOk};
 ghost use Rattle.std.specs.HashMap.{get_by_text};
-ghost use Rattle.link_classes.specs.steps.FirstPlaces.{AddsName, Named, TiesNames, named_at, pair_with};
+ghost use Rattle.std.specs.Str.{bytes_eq};
+ghost use Rattle.link_classes.specs.steps.FirstPlaces.{AddsKey, Keyed, TiesKeys, keyed_at};
+ghost use Rattle.link_classes.specs.steps.FirstPlaces.{pair_with};
 ghost use Rattle.link_classes.specs.Links.{AtPlaces, ShareName, names_of};
-ghost use Rattle.link_classes.specs.steps.Unions.{Spans};
+ghost use Rattle.pair_classes.specs.Pairs.{Spans};
 
 use crate::conductors::FlatConductor;
 use geda_model::Block;
@@ -18,7 +20,7 @@ fn tie_name(
     place: usize,
 ) -> Result<(), AllocError>
     ensures first { OnOk result
-        (AddsName name.now place (get_by_text first.old) (get_by_text first.new)) }
+        (AddsKey bytes_eq name.now place (get_by_text first.old) (get_by_text first.new)) }
     ensures pairs { OnOk result
         (pairs.new.items ≡ pairs.old.items ++ pair_with (get_by_text first.old name.now) place) }
 {
@@ -38,9 +40,9 @@ fn tie_names(
     names: &[Block],
     place: usize,
 ) -> Result<(), AllocError>
-    ensures { OnOk result ((named : List Named)
-        → TiesNames (get_by_text first.old) pairs.old.items named
-        → TiesNames (get_by_text first.new) pairs.new.items (named ++ named_at place names.now)) }
+    ensures { OnOk result ((keyed : List (Keyed (List ℕ)))
+        → TiesKeys (get_by_text first.old) pairs.old.items keyed
+        → TiesKeys (get_by_text first.new) pairs.new.items (keyed ++ keyed_at place names.now)) }
 {
     for name in names {
         tie_name(first, pairs, name, place)?;
@@ -55,10 +57,10 @@ fn tie_conductor(
     conductor: &FlatConductor,
     place: usize,
 ) -> Result<(), AllocError>
-    ensures { OnOk result ((named : List Named)
-        → TiesNames (get_by_text first.old) pairs.old.items named
-        → TiesNames (get_by_text first.new) pairs.new.items
-        (named ++ named_at place (names_of conductor.now))) }
+    ensures { OnOk result ((keyed : List (Keyed (List ℕ)))
+        → TiesKeys (get_by_text first.old) pairs.old.items keyed
+        → TiesKeys (get_by_text first.new) pairs.new.items
+        (keyed ++ keyed_at place (names_of conductor.now))) }
 {
     tie_names(first, pairs, conductor.global_names.as_slice(), place)?;
     tie_names(first, pairs, conductor.drawn_names.as_slice(), place)

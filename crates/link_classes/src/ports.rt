@@ -4,7 +4,7 @@ ghost use Rattle.link_classes.specs.Links.{AreTied, AtPlaces};
 ghost use Rattle.link_classes.specs.steps.FirstPlaces.{pair_with};
 ghost use Rattle.link_classes.specs.steps.PortPlaces.{HasPlaces, Notes, down, up};
 ghost use Rattle.link_classes.specs.steps.PortPlaces.{found_for, place_of};
-ghost use Rattle.link_classes.specs.steps.Unions.{Spans};
+ghost use Rattle.pair_classes.specs.Pairs.{Spans};
 
 use crate::conductors::{FlatConductor, PortPins};
 use std::alloc::{AllocError, Global};

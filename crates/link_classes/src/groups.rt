@@ -1,0 +1,87 @@
+// Pairs that stand for all that touches: the members of a group in an instance with the first one.
+ghost use Rattle.std.specs.Prelude.{◌≡◌, ◌++◌, List, length, IfOk, OnOk};
+ghost use Rattle.std.specs.BTreeMap.{get};
+ghost use Rattle.std.specs.Option.{option_to_list};
+ghost use Rattle.geda_geom.specs.Keys.{by_key};
+ghost use Rattle.link_classes.specs.InstanceGroups.{AreInstanceGroups};
+ghost use Rattle.link_classes.specs.Links.{AreTouching, AtPlaces};
+ghost use Rattle.link_classes.specs.steps.FirstPlaces.{AddsKey, Keyed, TiesKeys, keyed_at};
+ghost use Rattle.link_classes.specs.steps.FirstPlaces.{pair_with};
+ghost use Rattle.link_classes.specs.steps.GroupPlaces.{InstanceGroup, group_of, group_place};
+ghost use Rattle.link_classes.specs.steps.GroupPlaces.{same_group};
+ghost use Rattle.pair_classes.specs.Pairs.{Spans};
+
+use crate::conductors::FlatConductor;
+use geda_geom::Key;
+use std::alloc::{AllocError, Global};
+use std::collections::hash_map::Entry;
+use std::collections::{BTreeMap, HashMap};
+
+/// The instance and the group of a conductor, if it is drawn and has a group.
+fn instance_group(conductor: &FlatConductor, groups: &BTreeMap<Key, Key>) -> Option<(usize, Key)>
+    ensures { result ≡ group_of (get by_key groups.now) conductor.now }
+{
+    if conductor.shape.is_none() {
+        return None;
+    }
+    let group = groups.get(&conductor.key)?;
+    Some((conductor.instance, *group))
+}
+
+/// Pairs a place with the first place of the group, or makes it the first.
+fn tie_group(
+    first: &mut HashMap<(usize, Key), usize>,
+    pairs: &mut Vec<(usize, usize)>,
+    group: (usize, Key),
+    place: usize,
+) -> Result<(), AllocError>
+    ensures first { OnOk result
+        (AddsKey same_group group place (group_place first.old) (group_place first.new)) }
+    ensures pairs { OnOk result
+        (pairs.new.items ≡ pairs.old.items ++ pair_with (group_place first.old group) place) }
+{
+    match first.entry(group)? {
+        Entry::Occupied(found) => pairs.push((*found.get(), place))?,
+        Entry::Vacant(free) => {
+            free.insert(place);
+        }
+    }
+    Ok(())
+}
+
+/// Ties the group of a conductor, if it has one.
+fn tie_member(
+    first: &mut HashMap<(usize, Key), usize>,
+    pairs: &mut Vec<(usize, usize)>,
+    group: Option<(usize, Key)>,
+    place: usize,
+) -> Result<(), AllocError>
+    ensures { OnOk result ((keyed : List (Keyed InstanceGroup))
+        → TiesKeys (group_place first.old) pairs.old.items keyed
+        → TiesKeys (group_place first.new) pairs.new.items
+        (keyed ++ keyed_at place (option_to_list group))) }
+{
+    if let Some(group) = group {
+        tie_group(first, pairs, group, place)?;
+    }
+    Ok(())
+}
+
+/// Pairs that stand for all that touches: at most one for each conductor.
+pub(crate) fn group_pairs(
+    alloc: Global,
+    conductors: &[FlatConductor],
+    groups: &BTreeMap<Key, Key>,
+) -> Result<Vec<(usize, usize)>, AllocError>
+    requires { AreInstanceGroups conductors.now (get by_key groups.now) }
+    ensures { IfOk result (λ pairs.
+        Spans (AtPlaces AreTouching conductors.now) (length conductors.now) pairs.items) }
+{
+    let mut first = HashMap::new(alloc);
+    let mut pairs = Vec::new(alloc);
+    for place in 0..conductors.len() {
+        let group = instance_group(&conductors[place], groups);
+        tie_member(&mut first, &mut pairs, group, place)?;
+    }
+    Ok(pairs)
+}
