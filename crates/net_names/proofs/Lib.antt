@@ -4,4 +4,9 @@ pub mod NumberingLemmas
 pub mod ListingLemmas
 pub mod PackageLemmas
 pub mod Uniqueness
+pub mod PlaceLemmas
+pub mod FlatLemmas
+pub mod DrawnLemmas
+pub mod GroupLemmas
+pub mod InstanceLemmas
 pub mod Cases

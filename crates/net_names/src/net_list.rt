@@ -1,21 +1,31 @@
 // The net list of a project.
 ghost use Rattle.std.specs.Prelude.{◌≡◌, IfOk};
 ghost use Rattle.hierarchy.specs.Instances.{instances_of};
+ghost use Rattle.sheet_groups.specs.Conductors.{sheet_conductors};
+ghost use Rattle.sheet_groups.specs.Groups.{AreGroups};
 ghost use Rattle.net_names.specs.NetLists.{IsNetListOf};
 
 use crate::listing::nets_by;
 use crate::nets::Nets;
 use crate::packages::packages_of;
 use flat_sheets::{FlatProject, flatten};
+use geda_geom::Key;
 use geda_model::Project;
 use hierarchy::Hierarchy;
 use link_classes::class_labels;
 use std::alloc::{AllocError, Global};
+use std::collections::BTreeMap;
 
-/// The net list of a project with this hierarchy (docs/RULES.md, "Nets", "Packages", "Names of
-/// nets").
-pub fn join(alloc: Global, project: &Project, hierarchy: &Hierarchy) -> Result<Nets, AllocError>
-    requires { hierarchy.now.instances ≡ instances_of project.now.parts }
+/// The net list of a project with this hierarchy and these groups of touching conductors
+/// (docs/RULES.md, "Nets", "Packages", "Names of nets").
+pub fn join(
+    alloc: Global,
+    project: &Project,
+    hierarchy: &Hierarchy,
+    groups: &BTreeMap<Key, Key>,
+) -> Result<Nets, AllocError>
+    requires hierarchy { hierarchy.now.instances ≡ instances_of project.now.parts }
+    requires groups { AreGroups (sheet_conductors project.now.parts) groups.now.entries }
     ensures { IfOk result (IsNetListOf project.now.parts) }
 {
     let FlatProject { conductors, parts } = flatten(
@@ -24,7 +34,7 @@ pub fn join(alloc: Global, project: &Project, hierarchy: &Hierarchy) -> Result<N
         hierarchy.instances.as_slice(),
     )?;
     let packages = packages_of(alloc, parts)?;
-    let labels = class_labels(alloc, conductors.as_slice())?;
+    let labels = class_labels(alloc, conductors.as_slice(), groups)?;
     let nets = nets_by(alloc, conductors, labels.as_slice())?;
     Ok(Nets { packages, nets })
 }
