@@ -12,7 +12,7 @@ use Rattle.std.proofs.lemmas.Map.Text.{is_eq-slice_cmp}
 use Rattle.printed_texts.specs.PrintedTexts.{word}
 use Rattle.text_tallies.specs.LookAlike.{look_alike, print_alike}
 use Rattle.text_tallies.specs.NameSets.{has_name}
-use Rattle.text_tallies.specs.steps.FirstNames.{AddsDiffering, AddsFirst, AddsIf, FirstNames, alike_after, differs, first_at}
+use Rattle.text_tallies.specs.steps.FirstNames.{AddsFirst, AddsIf, FirstNames, alike_after, first_at}
 use Rattle.text_tallies.proofs.PairLemmas.{and_false, any_none, any_pairs, any_same, or_false}
 use Rattle.text_tallies.proofs.SetLemmas.{same_bytes}
 
@@ -114,23 +114,6 @@ adds_if is_other text old new other updates q =
     by true = sym (or_true (has_name old q))
     by false = sym (or_false (has_name old q))
 
--- none is added where it is false
-pub adds_none : (is_other : Bool) (text : List ℕ) (old : set.BTreeSet (List ℕ)) → is_other ≡ false
-    → AddsIf is_other text old old
-adds_none is_other text old no_other q =
-    rw (no_other, and_false (bytes_eq text q)) (sym (or_false (has_name old q)))
-
--- the text of a name is added if its first name is another
-pub adds_differing : (name : List ℕ) (first : Option (List ℕ)) (firsts : FirstNames) (old new : set.BTreeSet (List ℕ))
-    → first_at firsts (word name) ≡ first → AddsIf (differs first name) (word name) old new
-    → AddsDiffering name firsts old new
-adds_differing name first firsts old new is adds q = adds q ∙ by (bytes_eq (word name) q) refl
-  where
-    by : (b : Bool) → bytes_eq (word name) q ≡ b
-        → (has_name old q || (b && differs first name)) ≡ (has_name old q || (b && differs (first_at firsts q) name))
-    by true e = rw (sym (same_bytes (word name) q e), is) refl
-    by false e = refl
-
 or_none : (first : Option (List ℕ)) → option_or first None ≡ first
 or_none None = refl
 or_none (Some first) = refl
@@ -147,15 +130,6 @@ adds_first text name old new free updates q =
         ≡ option_or (first_at old q) (cond b (Some name.now) None)
     by true e = rw (sym (same_bytes text q e), free) refl
     by false e = sym (or_none (first_at old q))
-
--- where a text has a first name, that stays
-pub first_stays : (text name first : List ℕ) (firsts : FirstNames) → first_at firsts text ≡ Some first
-    → AddsFirst text name firsts firsts
-first_stays text name first firsts is q = by (bytes_eq text q) refl
-  where
-    by : (b : Bool) → bytes_eq text q ≡ b → first_at firsts q ≡ option_or (first_at firsts q) (cond b (Some name) None)
-    by true e = rw (sym (same_bytes text q e), is) refl
-    by false e = sym (or_none (first_at firsts q))
 
 -- an empty set has no name
 pub none_has : (names : set.BTreeSet (List ℕ)) (q : List ℕ) → names.keys ≡ [] → has_name names q ≡ false

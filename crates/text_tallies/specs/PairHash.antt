@@ -1,31 +1,8 @@
 -- What a hash function is fed of a pair of texts (own).
-use Rattle.std.proofs.Common.{◌∙◌, refl, sym}
-use Rattle.std.specs.Prelude.{◌≡◌, ℕ, true, List, ◌++◌, IsTrue}
+use Rattle.std.specs.Prelude.{◌++◌}
 use Rattle.std.specs.Hash as fed
-use Rattle.std.specs.Cmp.Lexicographic.{slice_cmp}
-use Rattle.std.specs.Ordering.{eq_by_cmp, is_eq, nat_cmp, ordering_then}
-use Rattle.std.specs.declared.cmp.Ordering.{Ordering}
-use Rattle.std.specs.declared.cmp.Ordering.TheVariants.{Less, Equal, Greater}
-use Rattle.std.proofs.lemmas.Map.Text.{is_eq-slice_cmp}
-use Rattle.std.proofs.lemmas.Slice.Eq.{bytes_eq-Decides}
-use Rattle.text_tallies.specs.PairSets.{PairData, by_pair}
+use Rattle.text_tallies.specs.PairSets.{PairData}
 
 -- the first text, then the second
 abbrev pub pair_writes : PairData → fed.HashWrites
 pair_writes p = fed.str p.first ++ fed.str p.second
-
-both_equal : (a b : Ordering) → is_eq (ordering_then a b) ≡ true → (is_eq a ≡ true) × (is_eq b ≡ true)
-both_equal Less b e = absurd (let h = e in cc)
-both_equal Equal b e = (refl, e)
-both_equal Greater b e = absurd (let h = e in cc)
-
-same_text : (x y : List ℕ) → is_eq (slice_cmp nat_cmp x y) ≡ true → x ≡ y
-same_text x y e = (bytes_eq-Decides x y).0 (sym (is_eq-slice_cmp x y) ∙ e)
-
--- pairs that compare as equal are fed alike
-pub pairs_fed : (p q : PairData) → IsTrue (eq_by_cmp by_pair p q) → pair_writes p ≡ pair_writes q
-pairs_fed p q e =
-    let both = both_equal (slice_cmp nat_cmp p.first q.first) (slice_cmp nat_cmp p.second q.second) e in
-    let first = same_text p.first q.first both.0 in
-    let second = same_text p.second q.second both.1 in
-    λ i. fed.str (first i) ++ fed.str (second i)

@@ -1,4 +1,5 @@
 -- Steps of the code; no public clause cites them.
+pub mod PairsFed
 pub mod Twice
 pub mod SetSteps
 pub mod FirstNames

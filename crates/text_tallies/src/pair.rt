@@ -81,7 +81,8 @@ impl<'a> Ord for PairKey<'a> {
 }
 
 impl<'a> Hash for PairKey<'a> {
-    ghost use Rattle.text_tallies.specs.PairHash.{pair_writes, pairs_fed};
+    ghost use Rattle.text_tallies.specs.PairHash.{pair_writes};
+    ghost use Rattle.text_tallies.specs.steps.PairsFed.{pairs_fed};
 
     ghost hash_input = { pair_writes };
 
