@@ -14,12 +14,16 @@ use Rattle.drc_findings.specs.declared.finding.Finding.{Finding}
 use Rattle.drc_findings.specs.Report.{is_error, report_text}
 use Rattle.drc_rules.specs.Findings.{findings}
 
--- what a project comes to, given what its net list comes to; a fault, where its sheets have too many
--- instances
+-- the net list of a project comes to this
+abbrev pub HasNetList : {A : Type 0} → (Nets → A) → ProjectData → A → Type 0
+HasNetList answer p a = (nets : Nets) × IsNetListOf p nets × (a ≡ answer nets)
+
+-- what a project comes to, given what its net list comes to; a fault, where its sheets have too
+-- many instances
 abbrev pub OfNetList : {A E : Type 0} → E → (Nets → A) → ProjectData → Result A E → Type 0
 OfNetList crowded answer p outcome =
     (IsCrowded p × (outcome ≡ Err crowded))
-    ⊎ (¬ (IsCrowded p) × ((nets : Nets) × IsNetListOf p nets × (outcome ≡ Ok (answer nets))))
+    ⊎ (¬ (IsCrowded p) × HasNetList (λ nets. Ok (answer nets)) p outcome)
 
 -- the text of a check, and whether an error is among what it found
 pub record CheckData : Type 0 where

@@ -8,7 +8,7 @@ ghost use Rattle.reports.specs.Reports.{Reports, text_or};
 ghost use Rattle.reports.specs.steps.Faults.{Told};
 
 use crate::fault::ReportFault;
-use crate::net_lists::{check, net_report};
+use crate::net_lists::{board_check, board_report};
 use crate::sheet_texts::{objects_text, sheet_text, sheets_text};
 use crate::what::What;
 use board_core::Board;
@@ -63,8 +63,8 @@ pub fn report(
 {
     let project = board.project();
     match what {
-        What::Net(form) => Ok(net_report(alloc, *form, project)?),
-        What::Drc => Ok(check(alloc, matrix, project)?.text),
+        What::Net(form) => Ok(board_report(alloc, *form, board)?),
+        What::Drc => Ok(board_check(alloc, matrix, board)?.text),
         What::Sheet(name) => sheet_report(alloc, project, name),
         What::Symbol(name) => symbol_report(alloc, project, name),
         What::Objects(name) => objects_report(alloc, project, name),

@@ -1,14 +1,22 @@
 // What a project comes to by its net list.
+ghost use Rattle.std.specs.Prelude.{◌≡◌, IfOk};
+ghost use Rattle.hierarchy.specs.Instances.{instances_of, lost_of};
+ghost use Rattle.sheet_groups.specs.Conductors.{sheet_conductors};
+ghost use Rattle.sheet_groups.specs.Groups.{AreGroups};
 ghost use Rattle.backends.specs.Forms.{net_text};
-ghost use Rattle.reports.specs.NetLists.{Elaborates, OfNetList, checked, seen};
+ghost use Rattle.reports.specs.NetLists.{Elaborates, HasNetList, OfNetList, checked, seen};
 
 use crate::check_report::{Check, reported};
 use backends::{Form, net_text};
+use board_core::Board;
 use drc_rules::{Matrix, findings};
+use geda_geom::Key;
 use geda_model::Project;
-use hierarchy::{ElabFault, elaborate};
+use hierarchy::{ElabFault, Hierarchy, elaborate};
 use net_names::{Nets, join};
-use std::alloc::Global;
+use sheet_groups::local_groups;
+use std::alloc::{AllocError, Global};
+use std::collections::BTreeMap;
 
 /// The net list of a project (docs/RULES.md, "Nets").
 ///
@@ -18,7 +26,24 @@ pub fn net_list(alloc: Global, project: &Project) -> Result<Nets, ElabFault>
         (OfNetList ElabFault.TooManyInstances (λ nets. nets) project.now.parts) result }
 {
     let hierarchy = elaborate(alloc, project)?;
-    Ok(join(alloc, project, &hierarchy)?)
+    let groups = local_groups(alloc, project)?;
+    Ok(join(alloc, project, &hierarchy, &groups)?)
+}
+
+/// The text of the net list of a project with this hierarchy and these groups, in a form.
+fn net_text_by(
+    alloc: Global,
+    form: Form,
+    project: &Project,
+    hierarchy: &Hierarchy,
+    groups: &BTreeMap<Key, Key>,
+) -> Result<Vec<u8>, AllocError>
+    requires instances { hierarchy.now.instances ≡ instances_of project.now.parts }
+    requires groups { AreGroups (sheet_conductors project.now.parts) groups.now.entries }
+    ensures { IfOk result (λ text. HasNetList (net_text form) project.now.parts text.items) }
+{
+    let nets = join(alloc, project, hierarchy, groups)?;
+    Ok(net_text(alloc, form, &nets)?)
 }
 
 /// The text of the net list of a project in a form.
@@ -29,8 +54,40 @@ pub fn net_report(alloc: Global, form: Form, project: &Project) -> Result<Vec<u8
         (OfNetList ElabFault.TooManyInstances (net_text form) project.now.parts)
         (seen result) }
 {
-    let nets = net_list(alloc, project)?;
-    Ok(net_text(alloc, form, &nets)?)
+    let hierarchy = elaborate(alloc, project)?;
+    let groups = local_groups(alloc, project)?;
+    Ok(net_text_by(alloc, form, project, &hierarchy, &groups)?)
+}
+
+/// The text of the net list of a board's project in a form, by the groups that the board has.
+pub(crate) fn board_report(alloc: Global, form: Form, board: &Board) -> Result<Vec<u8>, ElabFault>
+    ensures { Elaborates
+        (OfNetList ElabFault.TooManyInstances (net_text form) board.now.project)
+        (seen result) }
+{
+    let project = board.project();
+    let hierarchy = elaborate(alloc, project)?;
+    let groups = board.local_groups(alloc)?;
+    Ok(net_text_by(alloc, form, project, &hierarchy, &groups)?)
+}
+
+/// The report of the check of a project with this hierarchy and these groups, under a matrix.
+fn check_by(
+    alloc: Global,
+    matrix: &Matrix,
+    project: &Project,
+    hierarchy: &Hierarchy,
+    groups: &BTreeMap<Key, Key>,
+) -> Result<Check, AllocError>
+    requires instances { hierarchy.now.instances ≡ instances_of project.now.parts }
+    requires lost { hierarchy.now.lost ≡ lost_of project.now.parts }
+    requires groups { AreGroups (sheet_conductors project.now.parts) groups.now.entries }
+    ensures { IfOk result
+        (HasNetList (checked project.now.parts matrix.now) project.now.parts) }
+{
+    let nets = join(alloc, project, hierarchy, groups)?;
+    let found = findings(alloc, project, hierarchy, &nets, matrix)?;
+    reported(alloc, &found)
 }
 
 /// The report of the check of a project under a matrix (docs/RULES.md, "Findings").
@@ -42,7 +99,18 @@ pub fn check(alloc: Global, matrix: &Matrix, project: &Project) -> Result<Check,
         project.now.parts) result }
 {
     let hierarchy = elaborate(alloc, project)?;
-    let nets = join(alloc, project, &hierarchy)?;
-    let found = findings(alloc, project, &hierarchy, &nets, matrix)?;
-    Ok(reported(alloc, &found)?)
+    let groups = local_groups(alloc, project)?;
+    Ok(check_by(alloc, matrix, project, &hierarchy, &groups)?)
+}
+
+/// The report of the check of a board's project under a matrix, by the groups that the board has.
+pub(crate) fn board_check(alloc: Global, matrix: &Matrix, board: &Board) -> Result<Check, ElabFault>
+    ensures { Elaborates
+        (OfNetList ElabFault.TooManyInstances (checked board.now.project matrix.now)
+        board.now.project) result }
+{
+    let project = board.project();
+    let hierarchy = elaborate(alloc, project)?;
+    let groups = board.local_groups(alloc)?;
+    Ok(check_by(alloc, matrix, project, &hierarchy, &groups)?)
 }

@@ -1,7 +1,7 @@
 -- The rows of groups.
 use Rattle.std.proofs.Common.{◌≡◌, ℕ, suc, List, [], ◌∷◌, length, refl, ap, arith}
-use Rattle.board_core.specs.Conductors.{SheetConductor}
-use Rattle.board_core.specs.Groups.{AreGroups, group_rows}
+use Rattle.sheet_groups.specs.Conductors.{SheetConductor}
+use Rattle.sheet_groups.specs.Groups.{AreGroups, group_rows}
 use Rattle.geda_geom.specs.declared.conductor.Key.{Key}
 
 length-group_rows : (all conductors : List SheetConductor) (labels : List ℕ) → length labels ≡ length conductors → length (group_rows all conductors labels) ≡ length conductors

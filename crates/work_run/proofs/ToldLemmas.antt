@@ -1,7 +1,7 @@
 -- What is told of a run, by what its net list comes to.
 use Rattle.std.proofs.Common.{◌≡◌, ℕ, ◌≤◌, ◌<◌, ◌-◌, ◌^◌, min, List, Ok, Err, inl, inr, ap, subst, ◌∙◌, arith}
-use Rattle.board_core.specs.Conductors.{sheet_conductors}
-use Rattle.board_core.specs.Groups.{AreGroups}
+use Rattle.sheet_groups.specs.Conductors.{sheet_conductors}
+use Rattle.sheet_groups.specs.Groups.{AreGroups}
 use Rattle.geda_geom.specs.declared.conductor.Key.{Key}
 use Rattle.geda_model.specs.Projects.{ProjectData}
 use Rattle.hierarchy.specs.declared.fault.ElabFault.{ElabFault}

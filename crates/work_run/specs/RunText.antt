@@ -5,8 +5,8 @@ use Rattle.std.specs.Fmt.{decimal}
 use Rattle.geda_defs.specs.Lines.{ended}
 use Rattle.geda_geom.specs.declared.conductor.Key.{Key}
 use Rattle.net_names.specs.declared.nets.Nets.{Nets}
-use Rattle.board_core.specs.Conductors.{sheet_conductors}
-use Rattle.board_core.specs.Groups.{AreGroups}
+use Rattle.sheet_groups.specs.Conductors.{sheet_conductors}
+use Rattle.sheet_groups.specs.Groups.{AreGroups}
 use Rattle.hierarchy.specs.declared.fault.ElabFault.{ElabFault}
 use Rattle.hierarchy.specs.declared.fault.ElabFault.TheVariants as faults
 use Rattle.reports.specs.NetLists.{OfNetList}

@@ -3,8 +3,8 @@ ghost use Rattle.std.specs.Prelude.{◌≡◌, ◌<◌, ◌≤◌, ◌^◌, ◌+
 ghost use Rattle.std.specs.FinMap.{entries};
 ghost use Rattle.std.specs.Fmt.{decimal};
 ghost use Rattle.std.specs.String.{string_bytes};
-ghost use Rattle.board_core.specs.Conductors.{sheet_conductors};
-ghost use Rattle.board_core.specs.Groups.{AreGroups};
+ghost use Rattle.sheet_groups.specs.Conductors.{sheet_conductors};
+ghost use Rattle.sheet_groups.specs.Groups.{AreGroups};
 ghost use Rattle.reports.specs.NetLists.{Elaborates, seen};
 ghost use Rattle.work_run.specs.RunText.{WorkComesTo, is_first, named_number, run_text};
 ghost use Rattle.work_run.specs.steps.SoundRuns.{run_of};

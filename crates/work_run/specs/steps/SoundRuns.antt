@@ -14,8 +14,8 @@ pub record OpenRun : Type 0 where
 abbrev pub run_of : OpenRun → RunData
 run_of run = record { state = run.state; project = run.board.project; bound = run.bound }
 
--- the groups of all sheets are kept, and took no more steps than the bounds allow, where both counts
--- stay at 2^64 - 1
+-- the groups of all sheets are kept, and took no more steps than the bounds allow, where both
+-- counts stay at 2^64 - 1
 pub record IsSoundBoard (board : BoardData) (bound : ℕ) : Type 0 where
   pub kept : (sheet : List ℕ) → ¬ (Contains board.invalidated sheet)
   pub few : min board.asked (2 ^ 64 - 1) ≤ bound

@@ -1,7 +1,7 @@
 use Rattle.std.proofs.Common.{ap, subst, ◌∙◌}
 use Rattle.std.proofs.lemmas.Result.{err_from_is_err_and}
-use Rattle.board_core.specs.Conductors.{sheet_conductors}
-use Rattle.board_core.specs.Groups.{AreGroups}
+use Rattle.sheet_groups.specs.Conductors.{sheet_conductors}
+use Rattle.sheet_groups.specs.Groups.{AreGroups}
 use Rattle.work_run.specs.steps.SoundRuns.{OpenRun}
 use Rattle.work_run.proofs.ToldLemmas.{WorkComesTo-fault, WorkComesTo-text}
 use Rattle.work_run.proofs.run_text.work_text.Goals as goal
