@@ -41,7 +41,7 @@ fn names_once(alloc: Global, words: &[&str]) -> Result<IndexSet<Name>, WordFault
 }
 
 /// The names of a set, in its order.
-pub fn names_of(alloc: Global, set: IndexSet<Name>) -> Result<Vec<Name>, AllocError>
+fn names_of(alloc: Global, set: IndexSet<Name>) -> Result<Vec<Name>, AllocError>
     ensures names { IfOk result (λ names. names.items ≡ set.keys) }
     ensures apart { IfOk result (λ names. AllPairs ◌≢◌ names.items) }
 {

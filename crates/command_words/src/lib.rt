@@ -7,4 +7,3 @@ mod files;
 mod numbers;
 
 pub use command::{Command, command_of};
-pub use files::names_of;

@@ -1,0 +1,7 @@
+pub mod Counts
+pub mod MemoryFolder
+pub mod FileReads
+pub mod Gathering
+pub mod Opening
+pub mod ProjectFiles
+pub mod steps

@@ -1,0 +1,158 @@
+// A folder of files, and one in memory.
+ghost use Rattle.std.specs.Prelude.{◌≡◌, ℕ, Option, take, option_copied};
+ghost use Rattle.project_files.specs.MemoryFolder.{file_in, files_in};
+ghost use Rattle.geda_defs.specs.Causes.{HasCause};
+ghost use Rattle.geda_defs.specs.Contents.{Files, KeepsFiles, ReadsFile};
+ghost use Rattle.project_files.specs.declared.folder.FolderFault.TheVariants.{NoMemory};
+
+use crate::failing_calls::is_listed;
+use geda_model::{MOST_FILE_BYTES, Name};
+use std::alloc::{AllocError, Global};
+use std::collections::BTreeMap;
+use std::marker::Model;
+
+/// The bytes that are read of a file at most: one more than a file may have, so that a longer one
+/// is told from the longest.
+pub const MOST_READ_BYTES: usize = MOST_FILE_BYTES + 1;
+
+/// Why a call of a folder failed.
+#[derive(Clone, Copy, Debug, PartialEq, Eq)]
+pub enum FolderFault {
+    /// The folder failed.
+    Failed,
+    /// Memory ran out.
+    NoMemory,
+}
+
+impl From<AllocError> for FolderFault {
+    ghost from_gives = { λ _ e. e ≡ NoMemory };
+
+    fn from(_: AllocError) -> FolderFault {
+        FolderFault::NoMemory
+    }
+}
+
+/// A folder of files.
+pub trait Folder {
+    /// The files by name, where the folder tells them.
+    ghost files: { Self → Option Files };
+
+    /// How often a call failed. The count never falls, and stays at the end of its type.
+    ghost faults: { Self → ℕ };
+
+    /// The bytes of a file, or of one of over 4,194,305 bytes just the first so many. `None`
+    /// exactly where there is no such file. All files stay.
+    ///
+    /// `Failed` only where the count of faults rose.
+    fn read(&mut self, alloc: Global, name: &str) -> Result<Option<Vec<u8>>, FolderFault>
+        ensures file { ReadsFile (files self.old) name.now (λ v. v.items) result }
+        ensures same { KeepsFiles (files self.old) (files self.new) }
+        ensures cause { HasCause (faults self.old) (faults self.new) result FolderFault.Failed };
+}
+
+/// A folder in memory that tells its files.
+#[derive(Drop)]
+pub struct MemoryFolder {
+    files: BTreeMap<Name, Vec<u8>>,
+    failing: Vec<u64>,
+    calls: u64,
+    faults: u64,
+}
+
+impl Model for MemoryFolder {
+    ghost use Rattle.project_files.specs.MemoryFolder.{MemoryFolderData, files_in};
+
+    ghost Value = { MemoryFolderData };
+
+    ghost view = { λ m. record {
+      files = files_in m.files;
+      failing = m.failing.items;
+      calls = m.calls;
+      faults = m.faults;
+    } };
+}
+
+fn find_file<'a>(files: &'a BTreeMap<Name, Vec<u8>>, name: &str) -> Option<&'a [u8]>
+    ensures { option_copied result ≡ file_in (files_in files.now) name.now }
+{
+    for (key, bytes) in files {
+        if key.as_str() == name {
+            return Some(bytes.as_slice());
+        }
+    }
+    None
+}
+
+fn first_bytes(bytes: &[u8]) -> &[u8]
+    ensures { result.now ≡ take 4194305 bytes.now }
+{
+    match bytes.get(..MOST_READ_BYTES) {
+        Some(first) => first,
+        None => bytes,
+    }
+}
+
+impl MemoryFolder {
+    ghost use Rattle.std.specs.Prelude.{◌≡◌, option_copied};
+    ghost use Rattle.project_files.specs.MemoryFolder.{file_in, files_in};
+
+    /// A folder of these files. The calls whose numbers are in `failing`, counted from 1, fail.
+    pub fn new(files: BTreeMap<Name, Vec<u8>>, failing: Vec<u64>) -> MemoryFolder
+        ensures files { result.files ≡ files_in files }
+        ensures failing { result.failing ≡ failing.items }
+        ensures calls { result.calls ≡ 0 }
+        ensures faults { result.faults ≡ 0 }
+    {
+        MemoryFolder {
+            files,
+            failing,
+            calls: 0,
+            faults: 0,
+        }
+    }
+
+    /// The bytes of a file, or `None` exactly where there is none. It takes no memory.
+    pub fn file(&self, name: &str) -> Option<&[u8]>
+        ensures { option_copied result ≡ file_in self.now.files name.now }
+    {
+        find_file(&self.files, name)
+    }
+}
+
+impl Folder for MemoryFolder {
+    ghost use Rattle.std.specs.Prelude.{◌≡◌, ◌↔◌, Some, IsErrOf};
+    ghost use Rattle.geda_defs.specs.Causes.{HasCause};
+    ghost use Rattle.geda_defs.specs.Contents.{ReadsFile};
+    ghost use Rattle.project_files.specs.MemoryFolder.{FolderFails, file_in, folder_after_fault};
+    ghost use Rattle.project_files.specs.MemoryFolder.{folder_after_read};
+
+    ghost files = { λ m. Some (file_in m.files) };
+
+    ghost faults = { λ m. m.faults };
+
+    /// The bytes of a file, or of one of over 4,194,305 bytes just the first so many. `None`
+    /// exactly where there is no such file.
+    ///
+    /// `Failed` exactly where the number of the call is in the list of those that fail. The count
+    /// of calls rises by one, with `Failed` the count of faults too, and all else stays.
+    fn read(&mut self, alloc: Global, name: &str) -> Result<Option<Vec<u8>>, FolderFault>
+        ensures file { ReadsFile (Some (file_in self.old.files)) name.now (λ v. v.items) result }
+        ensures same { self.new.files ≡ self.old.files }
+        ensures cause { HasCause self.old.faults self.new.faults result FolderFault.Failed }
+        ensures failed { IsErrOf result FolderFault.Failed ↔ FolderFails self.old }
+        ensures after_fault { IsErrOf result FolderFault.Failed →
+            self.new ≡ folder_after_fault self.old }
+        ensures after_read { ¬ (IsErrOf result FolderFault.Failed) →
+            self.new ≡ folder_after_read self.old }
+    {
+        self.calls = self.calls.saturating_add(1);
+        if is_listed(&self.failing, self.calls) {
+            self.faults = self.faults.saturating_add(1);
+            return Err(FolderFault::Failed);
+        }
+        match find_file(&self.files, name) {
+            None => Ok(None),
+            Some(bytes) => Ok(Some(first_bytes(bytes).to_vec(alloc)?)),
+        }
+    }
+}

@@ -1,0 +1,138 @@
+// The files of a project: the sheets that are named, those below them, and their symbols.
+ghost use Rattle.std.specs.Prelude.{◌≡◌, ◌≢◌, ◌≤◌, ◌++◌, ◌∷◌, [], IfOk, OnOk};
+ghost use Rattle.std.specs.List.{AllPairs};
+ghost use Rattle.geda_defs.specs.Contents.{KeepsFiles};
+ghost use Rattle.project_files.specs.Counts.{counts};
+ghost use Rattle.project_files.specs.Gathering.{AskedSymbol};
+ghost use Rattle.project_files.specs.ProjectFiles.{IsFolderAnswer, with_view};
+ghost use Rattle.project_files.specs.steps.Standing.{IsStart, IsWhole, ReadsFrom, ReadsWords};
+ghost use Rattle.project_files.specs.steps.Progress.{Asks, gathered};
+ghost use Rattle.project_files.specs.steps.Asking.{AsksObjects};
+
+use crate::asking::Asked;
+use crate::fault::FileFault;
+use crate::file_reads::{read_sheet_file, sheet_in};
+use crate::folder::Folder;
+use crate::gathered::GatheredFiles;
+use geda_model::{Name, Sheet, Symbol};
+use indexmap::{IndexMap, IndexSet};
+use std::alloc::{AllocError, Global};
+
+/// The names of a set, in its order.
+fn names_of(alloc: Global, set: IndexSet<Name>) -> Result<Vec<Name>, AllocError>
+    ensures names { IfOk result (λ names. names.items ≡ set.keys) }
+    ensures apart { IfOk result (λ names. AllPairs ◌≢◌ names.items) }
+{
+    let mut names = Vec::new(alloc);
+    for name in set {
+        names.push(name)?;
+    }
+    Ok(names)
+}
+
+/// The symbols of a map, in its order.
+fn symbols_of(
+    alloc: Global,
+    map: IndexMap<Name, Option<Symbol>>,
+) -> Result<Vec<(Name, Option<Symbol>)>, AllocError>
+    ensures symbols { IfOk result (λ symbols. symbols.items ≡ map.entries) }
+    ensures apart { IfOk result (λ symbols.
+        AllPairs (λ (a b : AskedSymbol). a.0 ≢ b.0) symbols.items) }
+{
+    let mut symbols = Vec::new(alloc);
+    for symbol in map {
+        symbols.push(symbol)?;
+    }
+    Ok(symbols)
+}
+
+/// What was gathered, when no sheet waits.
+fn finish(alloc: Global, asked: Asked, sheets: Vec<Sheet>) -> Result<GatheredFiles, AllocError>
+    ensures all { IfOk result (λ g. g ≡ gathered sheets.items asked) }
+    ensures apart { IfOk result (λ g. AllPairs ◌≢◌ g.queue) }
+    ensures symbols_apart { IfOk result (λ g.
+        AllPairs (λ (a b : AskedSymbol). a.0 ≢ b.0) g.symbols) }
+{
+    let Asked { queue, symbols, .. } = asked;
+    let queue = names_of(alloc, queue)?;
+    let symbols = symbols_of(alloc, symbols)?;
+    Ok(GatheredFiles {
+        queue,
+        sheets,
+        symbols,
+    })
+}
+
+/// The words as the queue, before anything is read.
+fn words_to_read(alloc: Global, names: &[Name]) -> Result<Asked, AllocError>
+    requires { AllPairs ◌≢◌ names.now }
+    ensures { IfOk result (IsStart names.now) }
+{
+    let mut asked = Asked::new(alloc);
+    for name in names {
+        asked.queue.insert(name.clone()?)?;
+    }
+    Ok(asked)
+}
+
+/// Puts a sheet behind those that are read, after asking for what its objects need.
+fn add_sheet<F: Folder>(
+    alloc: Global,
+    sheet: Sheet,
+    asked: &mut Asked,
+    sheets: &mut Vec<Sheet>,
+    folder: &mut F,
+) -> Result<(), FileFault>
+    ensures read { IsFolderAnswer (counts (F.faults folder.old) (F.faults folder.new))
+        (Asks (F.files folder.old) asked.old (AsksObjects asked.old sheet.objects))
+        (with_view (λ _. asked.new) result) }
+    ensures sheets { OnOk result (sheets.new.items ≡ sheets.old.items ++ sheet ∷ []) }
+    ensures later { F.faults folder.old ≤ F.faults folder.new }
+    ensures files { KeepsFiles (F.files folder.old) (F.files folder.new) }
+{
+    asked.ask_objects(alloc, sheet.objects.as_slice(), folder)?;
+    sheets.push(sheet)?;
+    Ok(())
+}
+
+/// The sheets of the words, and what they ask for.
+fn read_words<F: Folder>(
+    alloc: Global,
+    names: &[Name],
+    folder: &mut F,
+) -> Result<(Asked, Vec<Sheet>), FileFault>
+    requires { AllPairs ◌≢◌ names.now }
+    ensures read { IsFolderAnswer (counts (F.faults folder.old) (F.faults folder.new))
+        (ReadsWords (F.files folder.old) names.now) (with_view (λ r. (r.0, r.1.items)) result) }
+    ensures later { F.faults folder.old ≤ F.faults folder.new }
+    ensures files { KeepsFiles (F.files folder.old) (F.files folder.new) }
+{
+    let mut asked = words_to_read(alloc, names)?;
+    let mut sheets = Vec::new(alloc);
+    for name in names {
+        let sheet = read_sheet_file(alloc, name, folder)?;
+        add_sheet(alloc, sheet, &mut asked, &mut sheets, folder)?;
+    }
+    Ok((asked, sheets))
+}
+
+/// The sheets of these names, those below them, and the symbols that they ask for (docs/RULES.md,
+/// "The project of the files").
+pub fn gather<F: Folder>(
+    alloc: Global,
+    names: &[Name],
+    folder: &mut F,
+) -> Result<GatheredFiles, FileFault>
+    requires { AllPairs ◌≢◌ names.now }
+    ensures read { IsFolderAnswer (counts (F.faults folder.old) (F.faults folder.new))
+        (ReadsFrom (F.files folder.old) names.now) (with_view (λ g. g) result) }
+    ensures whole { IfOk result IsWhole }
+    ensures files { KeepsFiles (F.files folder.old) (F.files folder.new) }
+{
+    let (mut asked, mut sheets) = read_words(alloc, names, folder)?;
+    while let Some(file) = asked.waiting.pop_front() {
+        let sheet = sheet_in(alloc, &file.name, &file.bytes)?;
+        add_sheet(alloc, sheet, &mut asked, &mut sheets, folder)?;
+    }
+    Ok(finish(alloc, asked, sheets)?)
+}

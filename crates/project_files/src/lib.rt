@@ -1,0 +1,26 @@
+//! The project of the files of a folder: the sheets that are named, those below them, and the
+//! symbols that they ask for.
+//!
+//! The main call is `project_of`, over any `Folder`. Rule: docs/RULES.md, "The project of the
+//! files". Definitions: specs/ProjectFiles.antt, which stands on FileReads.antt, Gathering.antt and
+//! Opening.antt.
+#![tactic(auto)]
+
+mod asking;
+mod dir_folder;
+mod failing_calls;
+mod fault;
+mod file_reads;
+mod folder;
+mod gathered;
+mod gathering;
+mod opening;
+mod project;
+mod project_text;
+
+pub use dir_folder::DirFolder;
+pub use failing_calls::is_listed;
+pub use fault::FileFault;
+pub use file_reads::{sheet_in, symbol_in};
+pub use folder::{Folder, FolderFault, MemoryFolder};
+pub use project::project_of;
