@@ -9,10 +9,13 @@ use Rattle.pin_matrix.specs.declared.level.Level.{Level}
 use Rattle.pin_matrix.specs.Matrices.{usual}
 use Rattle.pin_matrix.specs.MatrixFiles.{document_of}
 use Rattle.gafd.specs.declared.fault.RunFault.{RunFault}
-use Rattle.gafd.specs.ProjectFiles.{FileComesTo, ProjectFiles}
-use Rattle.gafd.specs.Answers.{OfFiles, matrix_of}
+use Rattle.gafd.specs.declared.fault.RunFault.TheVariants as faults
+use Rattle.project_files.specs.FileReads.{FileComesTo}
+use Rattle.project_files.specs.Gathering.{ProjectFiles}
+use Rattle.project_files.specs.ProjectFiles.{OfFiles}
+use Rattle.gafd.specs.Answers.{matrix_of}
 use Rattle.gafd.specs.steps.Checking.{MatrixFrom}
-use Rattle.gafd.proofs.Reading.{HoldsOfWhole}
+use Rattle.project_files.proofs.Reading.{HoldsOfWhole}
 
 short_of : (n : ℕ) → nat_le n 4194304 ≡ true → n ≤ 4194304
 short_of n e = grind (arith, nat_tests)
@@ -33,7 +36,7 @@ document_whole whole = document_go whole (nat_le (length whole) 4194304) refl
 
 -- the matrix of the first part of a file is that of the file
 pub matrix_whole : (file : List ℕ) (read : Result (List Level) RunFault)
-    → HoldsOfWhole (λ found. FileComesTo (λ bytes end. end ≡ matrix_of file (document_of bytes)) file found read)
+    → HoldsOfWhole (λ found. FileComesTo (faults.Missing file) (λ bytes end. end ≡ matrix_of file (document_of bytes)) found read)
 matrix_whole file read None h = h
 matrix_whole file read (Some whole) h = h ∙ ap (matrix_of file) (document_whole whole)
 

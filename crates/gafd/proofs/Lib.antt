@@ -1,10 +1,5 @@
 mod OneOutcome
 mod Passing
-mod Reading
 mod ExportLemmas
-mod ProjectLemmas
+mod NetListLemmas
 mod CheckLemmas
-mod OpeningLemmas
-mod TextLemmas
-mod AskingLemmas
-mod SheetLemmas

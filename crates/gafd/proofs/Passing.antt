@@ -1,26 +1,22 @@
--- How faults are passed on, from the reader to the end of a run.
-use Rattle.std.proofs.Common.{◌≡◌, ◌⊎◌, ℕ, ◌≤◌, List, Option, Some, None, Result, Ok, Err, take, inl, inr, refl, sym, subst, arith}
+-- How faults are passed on, from the files to the end of a run.
+use Rattle.std.proofs.Common.{◌≡◌, ◌⊎◌, ℕ, ◌≤◌, List, Option, Some, None, Result, Ok, Err, take, inl, inr, refl, sym, subst}
 use Rattle.std.specs.declared.option.Option.{Option}
-use Rattle.geda_defs.specs.Causes.{HasCause, HasRisen}
+use Rattle.geda_defs.specs.Causes.{HasCause}
 use Rattle.geda_defs.specs.Contents.{Files, Writes}
-use Rattle.geda_grammar.specs.declared.kind.ReadKind.{ReadKind}
-use Rattle.geda_grammar.specs.Faults.{FileKind, IsFault}
-use Rattle.geda_read.specs.declared.fault.ReadFault.{ReadFault}
-use Rattle.geda_read.specs.declared.fault.ReadFault.TheVariants as read
 use Rattle.command_words.specs.declared.command.Command.{Command}
+use Rattle.project_files.specs.declared.fault.FileFault.{FileFault}
+use Rattle.project_files.specs.declared.fault.FileFault.TheVariants as file_faults
+use Rattle.project_files.specs.Counts.{Counts, counts}
+use Rattle.project_files.specs.ProjectFiles.{IsAnswer, IsFolderAnswer}
+use Rattle.project_files.proofs.Passing.{risen}
 use Rattle.gafd.specs.declared.fault.RunFault.{RunFault}
 use Rattle.gafd.specs.declared.fault.RunFault.TheVariants as faults
 use Rattle.gafd.specs.declared.sink.SinkFault.{SinkFault}
 use Rattle.gafd.specs.declared.sink.SinkFault.TheVariants as sink
-use Rattle.gafd.specs.ProjectFiles.{ReadAs}
 use Rattle.gafd.specs.Answers.{AnswerData, ComesTo}
-use Rattle.gafd.specs.Runs.{Counts, counts, Ends, EndsWith, HoldsAfter, IsQuiet, Stream}
-use Rattle.gafd.specs.steps.Passing.{AnswerOf, ComesOf, IsRefusalOf, NamesFile, Reports, with_view}
-
--- a fault of the reader
-pub refusal : {V A : Type 0} (file : FileKind V) (Comes : V → Result A RunFault → Type 0) (name bytes : List ℕ) (fault : ReadFault) (e : RunFault) → ((kind : ReadKind) (line : ℕ) → fault ≡ read.At kind line → IsFault file bytes kind line) → IsRefusalOf name fault e → ComesOf (ReadAs file Comes name bytes) (Err e)
-refusal {A = A} file Comes name bytes (read.At kind line) e has is = subst (λ (f : RunFault). ComesOf {A = A} (ReadAs file Comes name bytes) (Err f)) (sym is) (inr (line, kind, has kind line refl, refl))
-refusal {A = A} file Comes name bytes read.NoMemory e has is = subst (λ (f : RunFault). ComesOf {A = A} (ReadAs file Comes name bytes) (Err f)) (sym is) tt
+use Rattle.gafd.specs.Faults.{run_fault}
+use Rattle.gafd.specs.Runs.{Ends, EndsWith, HoldsAfter, IsQuiet, Stream}
+use Rattle.gafd.specs.steps.Passing.{AnswerOf, ComesOf, NamesFile, Reports}
 
 -- what is come to, as an answer of a call that a folder is lent to
 pub answer_from : {A : Type 0} (counts : Counts) (P Q : Result A RunFault → Type 0) (outcome : Result A RunFault) → ((r : Result A RunFault) → P r → Q r) → ComesOf P outcome → AnswerOf counts Q outcome
@@ -37,28 +33,23 @@ answer_from counts P Q (Err faults.FolderFault) f h = absurd h
 answer_from counts P Q (Err faults.OutputFault) f h = h
 answer_from counts P Q (Err faults.NoMemory) f h = tt
 
--- a count that has risen later on has risen from before
-risen : (before between now : ℕ) → before ≤ between → HasRisen between now → HasRisen before now
-risen before between now later h = omega arith
+-- a fault that is met in the bytes of a file, as that of the program
+pub bytes_fault : {A B : Type 0} (P : Result A FileFault → Type 0) (Q : Result B RunFault → Type 0) (e : FileFault) → (P (Err e) → Q (Err (run_fault e))) → IsAnswer P (Err e) → ComesOf Q (Err (run_fault e))
+bytes_fault P Q (file_faults.Missing file) f h = f h
+bytes_fault P Q (file_faults.Refused file line kind) f h = f h
+bytes_fault P Q file_faults.TooManyObjects f h = f h
+bytes_fault P Q file_faults.ProjectFull f h = f h
+bytes_fault P Q file_faults.FolderFault f h = h
+bytes_fault P Q file_faults.NoMemory f h = tt
 
--- a fault that a later call met, as that of a whole
-pub fault_later : {A B : Type 0} (before between now : ℕ) (P : Result A RunFault → Type 0) (Q : Result B RunFault → Type 0) (e : RunFault) → before ≤ between → (P (Err e) → Q (Err e)) → AnswerOf (counts between now) P (Err e) → AnswerOf (counts before now) Q (Err e)
-fault_later before between now P Q (faults.Missing file) later f h = f h
-fault_later before between now P Q (faults.Refused file line kind) later f h = f h
-fault_later before between now P Q (faults.BadToml file) later f h = f h
-fault_later before between now P Q (faults.BadRows file) later f h = f h
-fault_later before between now P Q faults.TooManyObjects later f h = f h
-fault_later before between now P Q faults.ProjectFull later f h = f h
-fault_later before between now P Q faults.TooManyInstances later f h = f h
-fault_later before between now P Q faults.Usage later f h = f h
-fault_later before between now P Q faults.FolderFault later f h = risen before between now later h
-fault_later before between now P Q faults.OutputFault later f h = h
-fault_later before between now P Q faults.NoMemory later f h = tt
-
--- what a call answers that comes last, as what the whole answers
-pub answer_then : {X A B : Type 0} (before between now : ℕ) (P : Result A RunFault → Type 0) (Q : Result B RunFault → Type 0) (f : X → A) (g : X → B) (r : Result X RunFault) → before ≤ between → ((o : Result X RunFault) → P (with_view f o) → Q (with_view g o)) → AnswerOf (counts between now) P (with_view f r) → AnswerOf (counts before now) Q (with_view g r)
-answer_then before between now P Q f g (Ok x) later as_well h = as_well (Ok x) h
-answer_then before between now P Q f g (Err fault) later as_well h = fault_later before between now P Q fault later (as_well (Err fault)) h
+-- the same of a later call that a folder was lent to, as that of a whole
+pub files_fault : {A B : Type 0} (before between now : ℕ) (P : Result A FileFault → Type 0) (Q : Result B RunFault → Type 0) (e : FileFault) → before ≤ between → (P (Err e) → Q (Err (run_fault e))) → IsFolderAnswer (counts between now) P (Err e) → AnswerOf (counts before now) Q (Err (run_fault e))
+files_fault before between now P Q (file_faults.Missing file) later f h = f h
+files_fault before between now P Q (file_faults.Refused file line kind) later f h = f h
+files_fault before between now P Q file_faults.TooManyObjects later f h = f h
+files_fault before between now P Q file_faults.ProjectFull later f h = f h
+files_fault before between now P Q file_faults.FolderFault later f h = risen before between now later h
+files_fault before between now P Q file_faults.NoMemory later f h = tt
 
 -- what a write that failed left
 first_part : {E : Type 0} (old new : Option (List ℕ)) (piece : List ℕ) (e : E) → Writes old new piece (Err e) → (n : ℕ) × HoldsAfter old new (take n piece)

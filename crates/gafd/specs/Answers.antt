@@ -19,7 +19,11 @@ use Rattle.reports.specs.NetLists.{CheckData, OfNetList, checked as check_of}
 use Rattle.work_run.specs.RunText.{WorkComesTo}
 use Rattle.command_words.specs.declared.command.Command.{Command}
 use Rattle.command_words.specs.declared.command.Command.TheVariants.{Netlist, Drc, Export, Work}
-use Rattle.gafd.specs.ProjectFiles.{FileComesTo, GathersTo, ProjectFiles, ReadAs, Then}
+use Rattle.project_files.specs.declared.fault.FileFault.{FileFault}
+use Rattle.project_files.specs.FileReads.{FileComesTo, ReadAs, Then}
+use Rattle.project_files.specs.Gathering.{ProjectFiles}
+use Rattle.project_files.specs.ProjectFiles.{GathersTo, OfFiles, OfSome}
+use Rattle.gafd.specs.Faults.{run_fault}
 use Rattle.gafd.specs.declared.fault.RunFault.{RunFault}
 use Rattle.gafd.specs.declared.fault.RunFault.TheVariants as faults
 
@@ -44,12 +48,17 @@ abbrev pub ByNetList : (ProjectData → Nets → AnswerData) → ProjectData →
 ByNetList answer project outcome =
     OfNetList faults.TooManyInstances (answer project) project outcome
 
+-- what files come to, with the faults of the program
+abbrev pub as_run : {A : Type 0} → Result A FileFault → Result A RunFault
+as_run (Ok a) = Ok a
+as_run (Err fault) = Err (run_fault fault)
+
 -- what sheets come to, with those below them and with their symbols, given the answer by a net list
 abbrev pub SheetsOf :
     (ProjectData → Nets → AnswerData) → ProjectFiles → List (List ℕ) → Outcome → Type 0
 SheetsOf answer files names outcome =
-    (gathered : Result ProjectData RunFault) × GathersTo files names gathered
-    × Then gathered (ByNetList answer) outcome
+    (gathered : Result ProjectData FileFault) × GathersTo files names gathered
+    × Then (as_run gathered) (ByNetList answer) outcome
 
 -- the text of a net list in a form
 abbrev pub listed : Form → ProjectData → Nets → AnswerData
@@ -77,7 +86,8 @@ matrix_of file (Some document) = matrix_or_fault file (matrix_in document)
 abbrev pub MatrixComesTo : Files → Option (List ℕ) → Result (List Level) RunFault → Type 0
 MatrixComesTo files None matrix = matrix ≡ Ok usual
 MatrixComesTo files (Some file) matrix =
-    FileComesTo (λ bytes read. read ≡ matrix_of file (document_of bytes)) file (files file) matrix
+    FileComesTo (faults.Missing file) (λ bytes read. read ≡ matrix_of file (document_of bytes))
+    (files file) matrix
 
 -- a file with this name is a symbol
 abbrev pub is_symbol_name : List ℕ → Bool
@@ -85,19 +95,11 @@ is_symbol_name name = ends_with nat_eq name (codes ".sym")
 
 -- the canonical text of a symbol or of a sheet
 abbrev pub TextOf : Bool → List ℕ → List ℕ → Outcome → Type 0
-TextOf true = ReadAs symbol_file (λ symbol outcome. outcome ≡ done (symbol_text symbol))
-TextOf false = ReadAs sheet_file (λ sheet outcome. outcome ≡ done (sheet_text sheet))
-
--- something holds of the files of sheets and symbols that a folder tells; where it tells none, of
--- some files
-abbrev pub OfFiles : Option Files → (ProjectFiles → Type 0) → Type 0
-OfFiles None P = (files : ProjectFiles) × P files
-OfFiles (Some files) P = P (record { sheets = files; symbols = files })
-
--- the same of files that are all read as one kind
-abbrev pub OfSome : Option Files → (Files → Type 0) → Type 0
-OfSome None P = (files : Files) × P files
-OfSome (Some files) P = P files
+TextOf true name =
+    ReadAs symbol_file (faults.Refused name)
+    (λ symbol outcome. outcome ≡ done (symbol_text symbol))
+TextOf false name =
+    ReadAs sheet_file (faults.Refused name) (λ sheet outcome. outcome ≡ done (sheet_text sheet))
 
 -- what the check comes to: the matrix is read before the sheets
 abbrev pub CheckOf : Option Files → Option (List ℕ) → List (List ℕ) → Outcome → Type 0
@@ -123,7 +125,8 @@ CommandComesTo files (Netlist form names) outcome =
     OfFiles files (λ known. SheetsOf (listed form) known names outcome)
 CommandComesTo files (Drc matrix names) outcome = CheckOf files matrix names outcome
 CommandComesTo files (Export name) outcome = OfSome files
-    (λ known. FileComesTo (TextOf (is_symbol_name name) name) name (known name) outcome)
+    (λ known. FileComesTo (faults.Missing name) (TextOf (is_symbol_name name) name) (known name)
+    outcome)
 CommandComesTo files (Work start count) outcome = WorkOf start count outcome
 
 -- what the arguments come to: what their command comes to, or a fault of usage

@@ -1,10 +1,21 @@
--- The status and the line of each fault (own).
+-- The faults that are met in files, and the status and the line of each fault (own).
 use Rattle.std.specs.Prelude.{ℕ, List, ◌++◌, codes}
 use Rattle.std.specs.Fmt.{decimal}
 use Rattle.geda_grammar.specs.declared.kind.ReadKind.{ReadKind}
 use Rattle.geda_grammar.specs.declared.kind.ReadKind.TheVariants as kinds
+use Rattle.project_files.specs.declared.fault.FileFault.{FileFault}
+use Rattle.project_files.specs.declared.fault.FileFault.TheVariants as file_faults
 use Rattle.gafd.specs.declared.fault.RunFault.{RunFault}
 use Rattle.gafd.specs.declared.fault.RunFault.TheVariants as faults
+
+-- a fault that is met in files, as the program ends with it
+abbrev pub run_fault : FileFault → RunFault
+run_fault (file_faults.Missing file) = faults.Missing file
+run_fault (file_faults.Refused file line kind) = faults.Refused file line kind
+run_fault file_faults.TooManyObjects = faults.TooManyObjects
+run_fault file_faults.ProjectFull = faults.ProjectFull
+run_fault file_faults.FolderFault = faults.FolderFault
+run_fault file_faults.NoMemory = faults.NoMemory
 
 -- the status with which the program ends
 abbrev pub status_of : RunFault → ℕ

@@ -1,6 +1,5 @@
 pub mod Memory
 pub mod Faults
-pub mod ProjectFiles
 pub mod Answers
 pub mod Runs
 pub mod steps

@@ -1,17 +1,12 @@
 -- How a run of the program ends (own).
 use Rattle.std.specs.Prelude.{◌≡◌, ◌⊎◌, ℕ, List, ◌++◌, Ok, Err, Some, None, ⊤, IsSome, take}
 use Rattle.std.specs.declared.option.Option.{Option}
-use Rattle.geda_defs.specs.Causes.{HasRisen}
 use Rattle.geda_defs.specs.Contents.{Files}
 use Rattle.command_words.specs.declared.command.Command.{Command}
+use Rattle.project_files.specs.Counts.{Counts, Failed}
 use Rattle.gafd.specs.declared.fault.RunFault.TheVariants as faults
 use Rattle.gafd.specs.Faults.{error_line, status_of}
 use Rattle.gafd.specs.Answers.{AnswerData, Outcome, ComesTo}
-
--- how often something failed, before a run and after it
-pub record Counts : Type 0 where
-  pub old : ℕ
-  pub new : ℕ
 
 -- what a stream holds, where it tells it, and how often it failed, before a run and after it
 pub record Stream : Type 0 where
@@ -19,16 +14,9 @@ pub record Stream : Type 0 where
   pub new : Option (List ℕ)
   pub faults : Counts
 
--- the two, from what was told before and after
-abbrev pub counts : ℕ → ℕ → Counts
-counts old new = record { old = old; new = new }
-
+-- the three, from what was told before and after
 abbrev pub stream : Option (List ℕ) → Option (List ℕ) → Counts → Stream
 stream old new faults = record { old = old; new = new; faults = faults }
-
--- the count rose
-abbrev pub Failed : Counts → Type 0
-Failed counts = HasRisen counts.old counts.new
 
 -- nothing went to the stream
 abbrev pub IsQuiet : Stream → Type 0

@@ -4,22 +4,18 @@ ghost use Rattle.pin_matrix.specs.MatrixFiles.{document_of};
 ghost use Rattle.geda_defs.specs.Contents.{KeepsFiles};
 ghost use Rattle.command_words.specs.Commands.{IsAskable, most_steps};
 ghost use Rattle.command_words.specs.declared.command.Command.TheVariants.{Drc, Export, Netlist};
-ghost use Rattle.gafd.specs.Answers.{ByNetList, MatrixComesTo, TextOf, WorkOf, checked, is_symbol_name};
-ghost use Rattle.gafd.specs.Answers.{listed, matrix_of, reported};
-ghost use Rattle.gafd.specs.Runs.{counts};
+ghost use Rattle.project_files.specs.Counts.{counts};
+ghost use Rattle.gafd.specs.Answers.{ByNetList, TextOf, WorkOf, checked, is_symbol_name, listed};
+ghost use Rattle.gafd.specs.Answers.{matrix_of, reported};
 ghost use Rattle.gafd.specs.steps.Checking.{MatrixFrom};
-ghost use Rattle.gafd.specs.steps.Gathering.{GathersFrom};
-ghost use Rattle.gafd.specs.steps.Passing.{AnswerOf, ComesOf, Over, with_view};
+ghost use Rattle.gafd.specs.steps.Passing.{AnswerOf, ComesOf, Over};
 
-use crate::fault::{RunFault, refused};
-use crate::folder::Folder;
-use crate::gathering::gather;
-use crate::opening::opened;
+use crate::fault::RunFault;
 use command_words::Command;
 use drc_rules::{Matrix, MatrixFault};
 use geda_model::{Items, Name, Project};
-use geda_read::{read_sheet, read_symbol};
 use geda_write::{sheet_text, symbol_text};
+use project_files::{Folder, project_of, sheet_in, symbol_in};
 use reports::{Check, Form, check, net_report};
 use std::alloc::Global;
 use std::marker::Model;
@@ -77,23 +73,19 @@ fn checked(alloc: Global, matrix: &Matrix, project: &Project) -> Result<Answer, 
 }
 
 /// The canonical text of the sheet that these bytes spell.
-fn sheet_export(alloc: Global, file: Name, bytes: &[u8]) -> Result<Answer, RunFault>
-    ensures { ComesOf (TextOf false file bytes.now) result }
+fn sheet_export(alloc: Global, file: &Name, bytes: &[u8]) -> Result<Answer, RunFault>
+    ensures { ComesOf (TextOf false file.now bytes.now) result }
 {
-    match read_sheet(alloc, bytes) {
-        Ok(sheet) => Ok(Answer::done(sheet_text(alloc, &sheet)?)),
-        Err(fault) => Err(refused(file, fault)),
-    }
+    let sheet = sheet_in(alloc, file, bytes)?;
+    Ok(Answer::done(sheet_text(alloc, &sheet)?))
 }
 
 /// The canonical text of the symbol that these bytes spell.
-fn symbol_export(alloc: Global, file: Name, bytes: &[u8]) -> Result<Answer, RunFault>
-    ensures { ComesOf (TextOf true file bytes.now) result }
+fn symbol_export(alloc: Global, file: &Name, bytes: &[u8]) -> Result<Answer, RunFault>
+    ensures { ComesOf (TextOf true file.now bytes.now) result }
 {
-    match read_symbol(alloc, bytes) {
-        Ok(symbol) => Ok(Answer::done(symbol_text(alloc, &symbol)?)),
-        Err(fault) => Err(refused(file, fault)),
-    }
+    let symbol = symbol_in(alloc, file, bytes)?;
+    Ok(Answer::done(symbol_text(alloc, &symbol)?))
 }
 
 fn is_symbol_name(name: &Name) -> bool
@@ -103,25 +95,14 @@ fn is_symbol_name(name: &Name) -> bool
 }
 
 /// The canonical text of what these bytes spell.
-fn text_of(alloc: Global, file: Name, bytes: &[u8]) -> Result<Answer, RunFault>
-    ensures { ComesOf (TextOf (is_symbol_name file) file bytes.now) result }
+fn text_of(alloc: Global, file: &Name, bytes: &[u8]) -> Result<Answer, RunFault>
+    ensures { ComesOf (TextOf (is_symbol_name file.now) file.now bytes.now) result }
 {
-    if is_symbol_name(&file) {
+    if is_symbol_name(file) {
         symbol_export(alloc, file, bytes)
     } else {
         sheet_export(alloc, file, bytes)
     }
-}
-
-/// The project of the sheets of these names.
-fn project_of<F: Folder>(alloc: Global, names: &[Name], folder: &mut F) -> Result<Project, RunFault>
-    requires { AllPairs ◌≢◌ names.now }
-    ensures project { AnswerOf (counts (F.faults folder.old) (F.faults folder.new))
-        (GathersFrom (F.files folder.old) names.now) (with_view (λ p. p.parts) result) }
-    ensures files { KeepsFiles (F.files folder.old) (F.files folder.new) }
-{
-    let gathered = gather(alloc, names, folder)?;
-    opened(alloc, gathered)
 }
 
 fn netlist<F: Folder>(
@@ -193,7 +174,7 @@ fn export<F: Folder>(alloc: Global, file: Name, folder: &mut F) -> Result<Answer
     ensures files { KeepsFiles (F.files folder.old) (F.files folder.new) }
 {
     match folder.read(alloc, file.as_str())? {
-        Some(bytes) => text_of(alloc, file, &bytes),
+        Some(bytes) => text_of(alloc, &file, &bytes),
         None => Err(RunFault::Missing { file }),
     }
 }

@@ -3,7 +3,8 @@ ghost use Rattle.std.specs.Prelude.{◌≡◌, ◌++◌, IfOk, IsErr, codes, str
 ghost use Rattle.std.specs.Fmt.{decimal};
 ghost use Rattle.std.specs.Cow.{cow_str_bytes};
 ghost use Rattle.gafd.specs.Faults.{error_line, kind_name, status_of};
-ghost use Rattle.gafd.specs.Runs.{SaidLine, counts, stream};
+ghost use Rattle.project_files.specs.Counts.{counts};
+ghost use Rattle.gafd.specs.Runs.{SaidLine, stream};
 ghost use Rattle.gafd.specs.steps.Passing.{NamesFile, Reports};
 
 use crate::fault::RunFault;

@@ -1,15 +1,15 @@
 // Why the program ends otherwise than with an answer.
 ghost use Rattle.std.specs.Prelude.{◌≡◌};
-ghost use Rattle.gafd.specs.steps.Passing.{FromElaboration, FromFolder, FromWords, IsRefusalOf};
+ghost use Rattle.gafd.specs.Faults.{run_fault};
+ghost use Rattle.gafd.specs.steps.Passing.{FromElaboration, FromFolder, FromWords};
 ghost use Rattle.gafd.specs.declared.fault.RunFault.TheVariants.{NoMemory, OutputFault};
 
-use crate::folder::FolderFault;
 use crate::sink::SinkFault;
 use geda_grammar::ReadKind;
 use geda_model::Name;
-use geda_read::ReadFault;
 use hierarchy::ElabFault;
 use option_words::WordFault;
+use project_files::{FileFault, FolderFault};
 use std::alloc::{AllocError, AllocFailed};
 
 /// Why the program ends otherwise than with an answer (docs/FORMATS.md, "Statuses").
@@ -90,6 +90,21 @@ impl From<FolderFault> for RunFault {
     }
 }
 
+impl From<FileFault> for RunFault {
+    ghost from_gives = { λ fault e. e ≡ run_fault fault };
+
+    fn from(fault: FileFault) -> RunFault {
+        match fault {
+            FileFault::Missing { file } => RunFault::Missing { file },
+            FileFault::Refused { file, line, kind } => RunFault::Refused { file, line, kind },
+            FileFault::TooManyObjects => RunFault::TooManyObjects,
+            FileFault::ProjectFull => RunFault::ProjectFull,
+            FileFault::FolderFault => RunFault::FolderFault,
+            FileFault::NoMemory => RunFault::NoMemory,
+        }
+    }
+}
+
 impl From<WordFault> for RunFault {
     ghost from_gives = { FromWords };
 
@@ -109,15 +124,5 @@ impl From<ElabFault> for RunFault {
             ElabFault::TooManyInstances => RunFault::TooManyInstances,
             ElabFault::NoMemory => RunFault::NoMemory,
         }
-    }
-}
-
-/// The fault of a file that the reader refuses.
-pub fn refused(file: Name, fault: ReadFault) -> RunFault
-    ensures { IsRefusalOf file fault result }
-{
-    match fault {
-        ReadFault::At { read: kind, line } => RunFault::Refused { file, line, kind },
-        ReadFault::NoMemory => RunFault::NoMemory,
     }
 }

@@ -7,30 +7,21 @@
 #![tactic(auto)]
 
 mod answer;
-mod asking;
 #[cfg(test)]
 mod check_tests;
-mod dir_folder;
 #[cfg(test)]
 mod drawings;
 mod error_lines;
-mod failing_calls;
 mod fault;
-mod file_reads;
-mod folder;
-mod gathered;
-mod gathering;
 #[cfg(test)]
 mod net_tests;
-mod opening;
-mod project_text;
 mod run;
 mod sink;
 mod std_sink;
 #[cfg(test)]
 mod tests;
 
-use dir_folder::DirFolder;
+use project_files::DirFolder;
 use std::process::ExitCode;
 use std::rt::Env;
 use std::{env, io};

@@ -4,14 +4,15 @@ ghost use Rattle.std.specs.declared.alloc.Global.{Global};
 ghost use Rattle.geda_defs.specs.Contents.{Files, KeepsFiles};
 ghost use Rattle.command_words.specs.Commands.{command_of};
 ghost use Rattle.gafd.specs.Answers.{ComesTo, IsFixed, Outcome};
-ghost use Rattle.gafd.specs.Runs.{Ends, EndsWith, counts, stream};
+ghost use Rattle.project_files.specs.Counts.{counts};
+ghost use Rattle.gafd.specs.Runs.{Ends, EndsWith, stream};
 
 use crate::answer::{Answer, answer_of};
 use crate::error_lines::report;
 use crate::fault::RunFault;
-use crate::folder::Folder;
 use crate::sink::Sink;
 use command_words::command_of;
+use project_files::Folder;
 use std::alloc::Global;
 
 /// Does what the arguments ask for. Nothing goes out before all is computed.
@@ -64,8 +65,8 @@ pub fn run<F: Folder, O: Sink, E: Sink>(
     }
 }
 
-/// The law that arguments come to one outcome over files, where they don't ask for the work: its text
-/// tells how many steps the groups of a board took, of which the bound alone is fixed.
+/// The law that arguments come to one outcome over files, where they don't ask for the work: its
+/// text tells how many steps the groups of a board took, of which the bound alone is fixed.
 pub fn one_outcome()
     ensures { (files : Files) (arguments : List (String Global)) (first second : Outcome) →
         IsFixed (command_of arguments) →

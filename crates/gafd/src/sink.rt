@@ -3,7 +3,7 @@ ghost use Rattle.std.specs.Prelude.{ℕ, List, Option};
 ghost use Rattle.geda_defs.specs.Causes.{HasCause};
 ghost use Rattle.geda_defs.specs.Contents.{Writes};
 
-use crate::failing_calls::is_listed;
+use project_files::is_listed;
 use std::alloc::{AllocError, Global};
 use std::marker::Model;
 
@@ -46,7 +46,13 @@ impl Model for MemorySink {
 
     ghost Value = { MemorySinkData };
 
-    ghost view = { λ m. record { written = m.written.items; room = m.room; failing = m.failing.items; calls = m.calls; faults = m.faults } };
+    ghost view = { λ m. record {
+      written = m.written.items;
+      room = m.room;
+      failing = m.failing.items;
+      calls = m.calls;
+      faults = m.faults;
+    } };
 
     ghost invariant = { λ m. vec_len m.written + m.room ≤ vec_capacity m.written };
 }
@@ -93,8 +99,8 @@ impl Sink for MemorySink {
     /// Writes all the bytes of a piece. It takes no memory.
     ///
     /// `Failed` exactly where the number of the call is in the list of those that fail, or the
-    /// piece has more bytes than there is room for. The count of calls rises by one. With `Failed` the
-    /// count of faults does too, and all else stays; otherwise the room falls by the piece.
+    /// piece has more bytes than there is room for. The count of calls rises by one. With `Failed`
+    /// the count of faults does too, and all else stays; otherwise the room falls by the piece.
     fn write(&mut self, piece: &[u8]) -> Result<(), SinkFault>
         ensures bytes { Writes (Some self.old.written) (Some self.new.written) piece.now result }
         ensures cause { HasCause self.old.faults self.new.faults result SinkFault.Failed }

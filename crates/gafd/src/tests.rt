@@ -1,10 +1,9 @@
 // The program over a folder and sinks in memory, and over a real folder.
-use crate::dir_folder::DirFolder;
 use crate::drawings::{Drawing, put_drawing};
-use crate::folder::{Folder, MemoryFolder};
 use crate::run::run;
 use crate::sink::MemorySink;
 use geda_model::Name;
+use project_files::{DirFolder, Folder, MemoryFolder};
 use std::alloc::{AllocError, Global};
 use std::collections::BTreeMap;
 use std::fs;

@@ -5,7 +5,8 @@ use Rattle.std.specs.declared.option.Option.{Option}
 use Rattle.geda_defs.specs.Contents.{Files}
 use Rattle.pin_matrix.specs.declared.level.Level.{Level}
 use Rattle.gafd.specs.declared.fault.RunFault.{RunFault}
-use Rattle.gafd.specs.Answers.{MatrixComesTo, OfSome}
+use Rattle.project_files.specs.ProjectFiles.{OfSome}
+use Rattle.gafd.specs.Answers.{MatrixComesTo}
 
 -- what the matrix comes to that a folder has under a name
 abbrev pub MatrixFrom : Option Files → Option (List ℕ) → Result (List Level) RunFault → Type 0

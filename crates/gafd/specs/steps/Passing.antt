@@ -1,10 +1,8 @@
 -- Steps of the code; no public clause cites them.
 -- How faults are passed on from one function to the next (own).
-use Rattle.std.specs.Prelude.{◌≡◌, ◌⊎◌, ℕ, List, Result, Ok, Err, Some, ⊤}
+use Rattle.std.specs.Prelude.{◌≡◌, ◌⊎◌, ℕ, Result, Err, Some, ⊤}
 use Rattle.std.specs.declared.option.Option.{Option}
 use Rattle.geda_defs.specs.Contents.{Files}
-use Rattle.geda_read.specs.declared.fault.ReadFault.{ReadFault}
-use Rattle.geda_read.specs.declared.fault.ReadFault.TheVariants as read
 use Rattle.command_words.specs.declared.command.Command.{Command}
 use Rattle.gafd.specs.declared.fault.RunFault.{RunFault}
 use Rattle.gafd.specs.declared.fault.RunFault.TheVariants as faults
@@ -12,21 +10,17 @@ use Rattle.hierarchy.specs.declared.fault.ElabFault.{ElabFault}
 use Rattle.hierarchy.specs.declared.fault.ElabFault.TheVariants as elaboration
 use Rattle.option_words.specs.declared.fault.WordFault.{WordFault}
 use Rattle.option_words.specs.declared.fault.WordFault.TheVariants as words
-use Rattle.gafd.specs.declared.folder.FolderFault.{FolderFault}
-use Rattle.gafd.specs.declared.folder.FolderFault.TheVariants as folder
+use Rattle.project_files.specs.declared.folder.FolderFault.{FolderFault}
+use Rattle.project_files.specs.declared.folder.FolderFault.TheVariants as folder
 use Rattle.gafd.specs.Answers.{Outcome, ComesTo}
-use Rattle.gafd.specs.Runs.{Counts, Failed, Stream, SaidLine}
+use Rattle.project_files.specs.Counts.{Counts, Failed}
+use Rattle.gafd.specs.Runs.{Stream, SaidLine}
 use Rattle.gafd.specs.Faults.{error_line, status_of}
 
 -- what a fault of the folder becomes
 abbrev pub FromFolder : FolderFault → RunFault → Type 0
 FromFolder folder.Failed e = e ≡ faults.FolderFault
 FromFolder folder.NoMemory e = e ≡ faults.NoMemory
-
--- what a fault of the reader becomes
-abbrev pub IsRefusalOf : List ℕ → ReadFault → RunFault → Type 0
-IsRefusalOf file (read.At kind line) e = e ≡ faults.Refused file line kind
-IsRefusalOf file read.NoMemory e = e ≡ faults.NoMemory
 
 -- what a fault of the words becomes
 abbrev pub FromWords : WordFault → RunFault → Type 0
@@ -50,11 +44,6 @@ abbrev pub AnswerOf : {A : Type 0} →
     Counts → (Result A RunFault → Type 0) → Result A RunFault → Type 0
 AnswerOf counts Comes (Err faults.FolderFault) = Failed counts
 AnswerOf counts Comes outcome = ComesOf Comes outcome
-
--- a result of code, as definitions speak of it
-abbrev pub with_view : {X A : Type 0} → (X → A) → Result X RunFault → Result A RunFault
-with_view view (Ok x) = Ok (view x)
-with_view view (Err fault) = Err fault
 
 -- what a command comes to over the files that a folder tells
 abbrev pub Over : Option Files → Command → Outcome → Type 0

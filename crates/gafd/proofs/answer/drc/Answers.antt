@@ -1,15 +1,13 @@
-use Rattle.std.proofs.Common.{List, ℕ, Ok, Err, Result, subst}
+use Rattle.std.proofs.Common.{List, ℕ, Ok, Err, subst}
 use Rattle.std.proofs.lemmas.Result.{err_from_is_err_and}
 use Rattle.command_words.specs.declared.command.Command.TheVariants.{Drc}
-use Rattle.gafd.specs.declared.fault.RunFault.{RunFault}
-use Rattle.geda_model.specs.Projects.{ProjectData}
-use Rattle.gafd.specs.ProjectFiles.{GathersTo}
+use Rattle.project_files.specs.ProjectFiles.{GathersFrom, GathersTo}
 use Rattle.gafd.specs.Answers.{ByNetList, checked}
-use Rattle.gafd.specs.steps.Gathering.{GathersFrom}
+use Rattle.gafd.specs.Faults.{run_fault}
 use Rattle.gafd.specs.steps.Passing.{Over}
 use Rattle.gafd.proofs.CheckLemmas.{of_kept}
-use Rattle.gafd.proofs.ProjectLemmas.{sheets_come, sheets_fail}
-use Rattle.gafd.proofs.Passing.{answer_from, fault_later}
+use Rattle.gafd.proofs.NetListLemmas.{sheets_come, sheets_fail}
+use Rattle.gafd.proofs.Passing.{answer_from, files_fault}
 use Rattle.gafd.proofs.answer.drc.Goals as goal
 
 pub returns-clause-answer : goal.returns-clause-answer
@@ -31,8 +29,7 @@ returns-in_err-project-clause-answer g c =
     let levels = c.in_ok-matrix.matrix in
     let e = c.in_err-project.field-0.0 in
     let fault = err_from_is_err_and c.from_residual-in_err-project.result c.from_residual-in_err-project.ensures.1 in
-    let Gathers : List (List ℕ) → Result ProjectData RunFault → Type 0 = GathersFrom later in
-    let whole : (h : GathersFrom later c.as_slice.result.now (Err e)) → Over files (Drc c.args.matrix names) (Err e) = λ h.
+    let whole : (h : GathersFrom later c.as_slice.result.now (Err e)) → Over files (Drc c.args.matrix names) (Err (run_fault e)) = λ h.
     (Ok levels, c.in_ok-matrix.ensures.matrix, sheets_fail (checked levels) files names e (of_kept files later (λ known. GathersTo known names (Err e)) c.in_ok-matrix.ensures.files (subst (λ (ns : List (List ℕ)). GathersFrom later ns (Err e)) c.as_slice.ensures h))) in
-    let h = fault_later (g.F.Folder.faults c.args.folder.now) (g.F.Folder.faults c.matrix_of.new.folder) (g.F.Folder.faults c.project_of.new.folder) (GathersFrom later c.as_slice.result.now) (Over files (Drc c.args.matrix names)) e c.in_ok-matrix.ensures.later whole c.in_err-project.ensures.project in
+    let h = files_fault (g.F.Folder.faults c.args.folder.now) (g.F.Folder.faults c.matrix_of.new.folder) (g.F.Folder.faults c.project_of.new.folder) (GathersFrom later c.as_slice.result.now) (Over files (Drc c.args.matrix names)) e c.in_ok-matrix.ensures.later whole c.in_err-project.ensures.project in
     rw (fault.1, fault.2) h

@@ -2,10 +2,10 @@ use Rattle.std.proofs.Common.{List, ℕ, Ok, Err, subst, arith}
 use Rattle.std.proofs.lemmas.Result.{err_from_is_err_and}
 use Rattle.command_words.specs.declared.command.Command.TheVariants.{Netlist}
 use Rattle.gafd.specs.Answers.{ByNetList, listed}
-use Rattle.gafd.specs.steps.Gathering.{GathersFrom}
+use Rattle.project_files.specs.ProjectFiles.{GathersFrom}
 use Rattle.gafd.specs.steps.Passing.{Over}
-use Rattle.gafd.proofs.ProjectLemmas.{sheets_come, sheets_fail}
-use Rattle.gafd.proofs.Passing.{answer_from, fault_later}
+use Rattle.gafd.proofs.NetListLemmas.{sheets_come, sheets_fail}
+use Rattle.gafd.proofs.Passing.{answer_from, files_fault}
 use Rattle.gafd.proofs.answer.netlist.Goals as goal
 
 pub returns-clause-answer : goal.returns-clause-answer
@@ -24,5 +24,5 @@ returns-in_err-project-clause-answer g c =
     let form = c.args.form in
     let e = c.in_err-project.field-0.0 in
     let fault = err_from_is_err_and c.from_residual.result c.from_residual.ensures.1 in
-    let h = fault_later (g.F.Folder.faults c.args.folder.now) _ (g.F.Folder.faults c.project_of.new.folder) (GathersFrom files c.as_slice.result.now) (Over files (Netlist form names)) e (omega arith) (λ came. sheets_fail (listed form) files names e (subst (λ (ns : List (List ℕ)). GathersFrom files ns (Err e)) c.as_slice.ensures came)) c.in_err-project.ensures.project in
+    let h = files_fault (g.F.Folder.faults c.args.folder.now) _ (g.F.Folder.faults c.project_of.new.folder) (GathersFrom files c.as_slice.result.now) (Over files (Netlist form names)) e (omega arith) (λ came. sheets_fail (listed form) files names e (subst (λ (ns : List (List ℕ)). GathersFrom files ns (Err e)) c.as_slice.ensures came)) c.in_err-project.ensures.project in
     rw (fault.1, fault.2) h

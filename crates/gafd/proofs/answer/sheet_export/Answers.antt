@@ -1,11 +1,11 @@
-use Rattle.std.proofs.Common.{◌≡◌, Err, ap, ◌∙◌}
-use Rattle.geda_grammar.specs.Faults.{sheet_file}
-use Rattle.geda_grammar.specs.Canonical.{sheet_text}
-use Rattle.gafd.specs.Answers.{done}
-use Rattle.gafd.proofs.Passing.{refusal}
+use Rattle.std.proofs.lemmas.Result.{err_from_is_err_and}
+use Rattle.gafd.proofs.ExportLemmas.{sheet_exported, sheet_refused}
 use Rattle.gafd.proofs.answer.sheet_export.Goals as goal
 
-pub returns-in-Err : goal.returns-in-Err
-returns-in-Err c =
-    refusal sheet_file (λ sheet outcome. outcome ≡ done (sheet_text sheet)) c.args.file c.args.bytes.now c.in-Err.fault c.refused.result
-    (λ kind line is. c.read_sheet.ensures.told kind line (c.in-Err.is ∙ ap Err is)) c.refused.ensures
+pub returns-in_err-sheet : goal.returns-in_err-sheet
+returns-in_err-sheet c =
+    let fault = err_from_is_err_and c.from_residual.result c.from_residual.ensures.1 in
+    rw (fault.1, fault.2) (sheet_refused c.args.file.now c.args.bytes.now c.in_err-sheet.field-0.0 c.in_err-sheet.ensures)
+
+pub returns : goal.returns
+returns c = sheet_exported c.args.file.now c.args.bytes.now c.in_ok-sheet_text.field-0.items c.in_ok-sheet.sheet c.done.result c.in_ok-sheet.ensures c.in_ok-sheet_text.ensures.text c.done.ensures

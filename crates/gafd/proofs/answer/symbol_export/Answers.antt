@@ -1,11 +1,11 @@
-use Rattle.std.proofs.Common.{◌≡◌, Err, ap, ◌∙◌}
-use Rattle.geda_grammar.specs.Faults.{symbol_file}
-use Rattle.geda_grammar.specs.Canonical.{symbol_text}
-use Rattle.gafd.specs.Answers.{done}
-use Rattle.gafd.proofs.Passing.{refusal}
+use Rattle.std.proofs.lemmas.Result.{err_from_is_err_and}
+use Rattle.gafd.proofs.ExportLemmas.{symbol_exported, symbol_refused}
 use Rattle.gafd.proofs.answer.symbol_export.Goals as goal
 
-pub returns-in-Err : goal.returns-in-Err
-returns-in-Err c =
-    refusal symbol_file (λ symbol outcome. outcome ≡ done (symbol_text symbol)) c.args.file c.args.bytes.now c.in-Err.fault c.refused.result
-    (λ kind line is. c.read_symbol.ensures.told kind line (c.in-Err.is ∙ ap Err is)) c.refused.ensures
+pub returns-in_err-symbol : goal.returns-in_err-symbol
+returns-in_err-symbol c =
+    let fault = err_from_is_err_and c.from_residual.result c.from_residual.ensures.1 in
+    rw (fault.1, fault.2) (symbol_refused c.args.file.now c.args.bytes.now c.in_err-symbol.field-0.0 c.in_err-symbol.ensures)
+
+pub returns : goal.returns
+returns c = symbol_exported c.args.file.now c.args.bytes.now c.in_ok-symbol_text.field-0.items c.in_ok-symbol.symbol c.done.result c.in_ok-symbol.ensures c.in_ok-symbol_text.ensures.text c.done.ensures

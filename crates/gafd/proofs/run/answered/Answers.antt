@@ -1,6 +1,6 @@
 use Rattle.std.proofs.Common.{ap, ◌∙◌}
 use Rattle.gafd.specs.Answers.{AnswerData}
-use Rattle.gafd.specs.Runs.{counts}
+use Rattle.project_files.specs.Counts.{counts}
 use Rattle.std.proofs.lemmas.Result.{err_from_is_err_and}
 use Rattle.gafd.proofs.Passing.{failed_write}
 use Rattle.gafd.proofs.run.answered.Goals as goal

@@ -1,7 +1,0 @@
-use Rattle.std.proofs.Common.{arith}
-use Rattle.gafd.specs.steps.Counting.{asked_bytes}
-use Rattle.gafd.proofs.TextLemmas.{whole_sum}
-use Rattle.gafd.proofs.project_text.bytes_of_symbols.Goals as goal
-
-pub returns : goal.returns
-returns c = whole_sum asked_bytes c.args.symbols.now c.loop-name._name-index c.loop-name.bytes _ (omega arith) c.loop-name.invariant.fits c.loop-name.invariant.rest

@@ -1,7 +1,0 @@
-use Rattle.std.proofs.Common.{arith}
-use Rattle.gafd.specs.steps.Counting.{object_count}
-use Rattle.gafd.proofs.TextLemmas.{whole_sum}
-use Rattle.gafd.proofs.project_text.object_count.Goals as goal
-
-pub returns : goal.returns
-returns c = whole_sum object_count c.args.sheets.now c.loop-sheet.sheet-index c.loop-sheet.count _ (omega arith) c.loop-sheet.invariant.fits c.loop-sheet.invariant.rest
