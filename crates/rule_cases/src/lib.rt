@@ -6,6 +6,8 @@
 #[cfg(test)]
 mod attributes;
 #[cfg(test)]
+mod boards;
+#[cfg(test)]
 mod drawings;
 #[cfg(test)]
 mod faults;
