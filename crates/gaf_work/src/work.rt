@@ -9,7 +9,8 @@ use geda_model::{Change, Project};
 use std::alloc::{AllocError, Global};
 use std::marker::Model;
 
-/// A generator of changes (docs/RULES.md, "Work"). Contracts see it as the number that it drew last.
+/// A generator of changes (docs/RULES.md, "Work"). Contracts see it as the number that it drew
+/// last.
 #[derive(Debug, Drop)]
 pub struct Work {
     state: u32,
@@ -45,8 +46,8 @@ impl Work {
         }
     }
 
-    /// Draws a number, and answers the change of the next step on a project. On want of memory nothing
-    /// is drawn.
+    /// Draws a number, and answers the change of the next step on a project. On want of memory
+    /// nothing is drawn.
     ///
     /// `None` exactly where the step takes an object away and the project has none.
     pub fn next(&mut self, alloc: Global, project: &Project) -> Result<Option<Change>, AllocError>

@@ -168,7 +168,8 @@ fn is_word(text: &str) -> bool
 impl Word {
     /// The word that a text is.
     ///
-    /// `NotAName` exactly where the text is over 200 bytes, or has a space, a tab or a control byte.
+    /// `NotAName` exactly where the text is over 200 bytes, or has a space, a tab or a control
+    /// byte.
     pub fn new(alloc: Global, text: &str) -> Result<Word, NameFault>
         ensures same { IfOk result (λ word. word ≡ text.now) }
         ensures word { OnOk result (IsWord text.now) }

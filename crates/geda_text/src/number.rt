@@ -12,33 +12,27 @@ pub fn are_digits(field: &[u8]) -> bool
     field.iter().all(|byte| byte.is_ascii_digit())
 }
 
-fn value_of(digits: &[u8]) -> u32
-    requires short { length digits.now < 10 }
-    requires digits { list_all is_ascii_digit digits.now ≡ true }
-    ensures value { result ≡ digits_value 10 digits.now }
-    ensures small { result < 1000000000 }
-{
-    let mut value: u32 = 0;
-    for byte in digits {
-        value = value * 10 + u32::from(*byte - b'0');
-    }
-    value
-}
-
 /// The number that 1 to 9 digits spell. `None` exactly for any other field. It takes no memory.
 #[tactic(auto, unfolding(crate::specs::Lines::digits_of))]
 pub fn natural(field: &[u8]) -> Option<u32>
     ensures value { result ≡ digits_of field.now }
     ensures small { IfSome result (λ n. n < 1000000000) }
 {
-    if field.is_empty() || field.len() > 9 || !are_digits(field) {
+    if field.is_empty() || field.len() > 9 {
         return None;
     }
-    Some(value_of(field))
+    let mut value: u32 = 0;
+    for byte in field {
+        if !byte.is_ascii_digit() {
+            return None;
+        }
+        value = value * 10 + u32::from(*byte - b'0');
+    }
+    Some(value)
 }
 
-/// The number that a field spells: an optional minus sign, and 1 to 9 digits. `None` exactly for any
-/// other field. It takes no memory.
+/// The number that a field spells: an optional minus sign, and 1 to 9 digits. `None` exactly for
+/// any other field. It takes no memory.
 #[tactic(auto, unfolding(crate::specs::Lines::whole_of))]
 pub fn whole(field: &[u8]) -> Option<i32>
     ensures { result ≡ whole_of field.now }

@@ -1,0 +1,11 @@
+use Rattle.std.proofs.Common.{◌≡◌, ◌<◌, ◌^◌, drop, take}
+use Rattle.std.specs.Char.{is_ascii_digit}
+use Rattle.std.specs.List.{list_all}
+use Rattle.std.specs.Str.Parse.{digits_value}
+use Rattle.geda_text.proofs.number.natural.Given as goal
+
+abbrev pub invariant-loop-byte : goal.invariant-loop-byte
+invariant-loop-byte l =
+    (l.value ≡ digits_value 10 (take l.byte-index l.field))
+    × (l.value < 10 ^ l.byte-index)
+    × (list_all is_ascii_digit (drop l.byte-index l.field) ≡ list_all is_ascii_digit l.field)
