@@ -17,7 +17,7 @@ mod splits;
 pub use components::{has_sources, is_graphical, refdes_of};
 pub use kinds::{PinKind, pin_kind};
 pub use libraries::library_of;
-pub use lookups::{attr_of, attrs_of, first_value, parts_of};
+pub use lookups::{attr_of, attrs_of, begins_with, first_value, parts_of};
 pub use nets::{NetEntry, NetFault, net_entries};
 pub use slots::{SlotFault, short_number, slot_pins};
 pub use splits::split_attr;

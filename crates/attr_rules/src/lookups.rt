@@ -1,20 +1,22 @@
 // Looking up attributes by name.
-ghost use Rattle.std.specs.Prelude.{◌≡◌, ◌≤◌, ◌++◌, IfOk, OnOk, length, option_copied};
-ghost use Rattle.std.specs.List.{filter_map, slice_get};
+ghost use Rattle.std.specs.Prelude.{◌≡◌, ◌==◌, ◌≤◌, ◌++◌, IfOk, OnOk, length, option_copied};
+ghost use Rattle.std.specs.List.{filter_map, slice_get, starts_with};
 ghost use Rattle.attr_rules.specs.Attributes.{value_named, values_named, free_text, parts_of, attr, attrs};
-ghost use Rattle.attr_rules.specs.steps.PartValues.{begins_with, value_in_part};
+ghost use Rattle.attr_rules.specs.steps.PartValues.{value_in_part};
 
 use crate::splits::split_attr;
 use geda_model::{Block, Body, Items, Object, Part, Shape, Symbol, Text};
 use std::alloc::{AllocError, Global};
 
-/// Whether a text begins as an attribute of a name does: most texts don't, and are passed over.
-fn begins_with(content: &str, name: &str) -> bool
-    ensures { result ≡ begins_with name.now content.now }
+/// Whether a text begins with another one. It takes no memory.
+pub fn begins_with(text: &str, beginning: &str) -> bool
+    ensures { result ≡ starts_with ◌==◌ text.now beginning.now }
 {
-    content.as_bytes().starts_with(name.as_bytes())
+    text.as_bytes().starts_with(beginning.as_bytes())
 }
 
+/// The value of a text that is an attribute of a name. Most texts begin in another way, and are
+/// passed over.
 fn value_named<'a>(text: &'a Text, name: &str) -> Option<&'a str>
     ensures { option_copied result ≡ value_named name.now text.now }
 {
