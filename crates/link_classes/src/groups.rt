@@ -77,8 +77,8 @@ pub(crate) fn group_pairs(
     ensures { IfOk result (λ pairs.
         Spans (AtPlaces AreTouching conductors.now) (length conductors.now) pairs.items) }
 {
-    let mut first = HashMap::new(alloc);
-    let mut pairs = Vec::new(alloc);
+    let mut first = HashMap::with_capacity(alloc, conductors.len())?;
+    let mut pairs = Vec::with_capacity(alloc, conductors.len())?;
     for place in 0..conductors.len() {
         let group = instance_group(&conductors[place], groups);
         tie_member(&mut first, &mut pairs, group, place)?;

@@ -87,7 +87,7 @@ fn places(alloc: Global, count: usize) -> Result<Vec<usize>, AllocError>
     ensures len { IfOk result (λ places. length places.items ≡ count) }
     ensures places { IfOk result (λ places. StandAtThemselves places.items) }
 {
-    let mut places = Vec::new(alloc);
+    let mut places = Vec::with_capacity(alloc, count)?;
     for place in 0..count {
         places.push(place)?;
     }

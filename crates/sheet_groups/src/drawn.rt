@@ -109,7 +109,7 @@ pub fn drawn_conductors(alloc: Global, project: &Project) -> Result<Vec<DrawnCon
     let rows = project.objects_by_id(alloc)?;
     let mut gathered = Gathered {
         numbers: HashMap::new(alloc),
-        drawn: Vec::new(alloc),
+        drawn: Vec::with_capacity(alloc, rows.len())?,
     };
     for place in 0..rows.len() {
         gathered.take_in(alloc, project, place, rows[place].0, rows[place].1)?;

@@ -33,7 +33,7 @@ fn key_rows(
     requires within { All (λ label. label < length drawn.now) labels.now }
     ensures { IfOk result (λ rows. rows.items ≡ drawn_rows drawn.now drawn.now labels.now) }
 {
-    let mut rows = Vec::new(alloc);
+    let mut rows = Vec::with_capacity(alloc, drawn.len())?;
     for place in 0..drawn.len() {
         rows.push((drawn[place].key, drawn[labels[place]].key))?;
     }

@@ -1,7 +1,5 @@
 use Rattle.std.proofs.Common.{drop, length, arith}
 use Rattle.std.proofs.lemmas.List.{take_at}
-use Rattle.pair_classes.specs.Pairs.{ArePaired}
-use Rattle.geda_defs.specs.Classes.{AreClasses}
 use Rattle.pair_classes.proofs.unions.classes_of.Goals as goal
 
 pub returns : goal.returns
