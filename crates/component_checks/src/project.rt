@@ -13,7 +13,7 @@ use flat_sheets::{LabelSets, Occurrence, occurrences};
 use geda_model::Project;
 use hierarchy::Instance;
 use std::alloc::{AllocError, Global};
-use std::collections::{BTreeSet, HashMap};
+use std::collections::HashMap;
 
 fn instance_at(instances: &[Instance], place: usize) -> Option<&Instance>
     ensures { option_copied result ≡ slice_get instances.now place }
@@ -49,11 +49,11 @@ fn components_among(
     alloc: Global,
     project: &Project,
     instances: &[Instance],
-    occurrences: &BTreeSet<Occurrence>,
+    occurrences: &[Occurrence],
 ) -> Result<Vec<CheckedComponent>, AllocError>
     requires { instances.now ≡ instances_of project.now.parts }
     ensures { IfOk result (λ components. components.items ≡
-        filter_map (checked_at project.now.parts) occurrences.now.keys) }
+        filter_map (checked_at project.now.parts) occurrences.now) }
 {
     let mut components = Vec::new(alloc);
     let mut known: LabelSets = HashMap::new(alloc);

@@ -1,4 +1,5 @@
 pub mod Outcomes
+pub mod OnceLaws
 pub mod SheetIdLemmas
 pub mod LabelLemmas
 pub mod LineLemmas

@@ -1,5 +1,5 @@
 -- The ids of each sheet: after one more object, and after all.
-use Rattle.std.proofs.Common.{◌≡◌, ℕ, Bool, true, false, List, [], ◌∷◌, ◌++◌, Option, Some, None, refl, ap, ◌∙◌}
+use Rattle.std.proofs.Common.{◌≡◌, ℕ, Bool, true, false, List, [], ◌∷◌, ◌++◌, Option, Some, refl, ap, ◌∙◌}
 use Rattle.std.specs.BTreeMap.{Updates, get, is_at}
 use Rattle.std.specs.List.{filter}
 use Rattle.std.specs.Map.{keys_of}
@@ -14,20 +14,20 @@ use Rattle.flat_sheets.specs.Order.{by_bytes}
 use Rattle.flat_sheets.specs.SheetIds.{IdsBySheet, ids_at}
 use Rattle.flat_sheets.specs.steps.SheetIds.{AddsId, id_on, ids_in}
 
--- a list is taken out, made longer and put back
-pub adds_id : (row : ℕ × Placed) (old mid new : IdsBySheet) (known : Option (List ℕ)) (key ids : List ℕ)
+-- the list of a sheet, empty where there was none, is made longer
+pub adds_id : (row : ℕ × Placed) (old new : IdsBySheet) (known : Option (List ℕ)) (key ids : List ℕ)
     → known ≡ get by_bytes old row.1.sheet → key ≡ row.1.sheet → ids ≡ unwrap_or known [] ++ row.0 ∷ []
-    → Updates by_bytes old mid row.1.sheet None → Updates by_bytes mid new key (Some ids) → AddsId row old new
-adds_id row old mid new known key ids is is_key made out back name = by (bytes_eq row.1.sheet name) refl
+    → Updates by_bytes old new key (Some ids) → AddsId row old new
+adds_id row old new known key ids is is_key made updates name = by (bytes_eq row.1.sheet name) refl
   where
     by : (b : Bool) → bytes_eq row.1.sheet name ≡ b → ids_at new name ≡ ids_at old name ++ id_on name row
     by true e =
         let hit : is_at (by_bytes row.1.sheet) name ≡ true = is_eq-slice_cmp row.1.sheet name ∙ e in
         let same : row.1.sheet ≡ name = (bytes_eq-Decides row.1.sheet name).0 e in
-        rw (back.0 name, is_key, hit, e, made, is, same) refl
+        rw (updates.0 name, is_key, hit, e, made, is, same) refl
     by false e =
         let miss : is_at (by_bytes row.1.sheet) name ≡ false = is_eq-slice_cmp row.1.sheet name ∙ e in
-        rw (back.0 name, is_key, miss, out.0 name, miss, e, append-nil (ids_at old name)) refl
+        rw (updates.0 name, is_key, miss, e, append-nil (ids_at old name)) refl
 
 -- the ids of those objects that stand on a sheet
 pub ids_in-are : (rows : List (ℕ × Placed)) (name : List ℕ) → ids_in rows name ≡ keys_of (filter (is_on name) rows)

@@ -20,7 +20,7 @@ use geda_model::{Body, Object, Project};
 use hierarchy::Instance;
 use pin_place::pins_of;
 use std::alloc::{AllocError, Global};
-use std::collections::{BTreeSet, HashMap};
+use std::collections::HashMap;
 
 fn instance_at(instances: &[Instance], place: usize) -> Option<&Instance>
     ensures { option_copied result ≡ slice_get instances.now place }
@@ -137,19 +137,19 @@ pub fn contents_of(
     alloc: Global,
     project: &Project,
     instances: &[Instance],
-    occurrences: &BTreeSet<Occurrence>,
+    occurrences: &[Occurrence],
 ) -> Result<ProjectContents, AllocError>
     requires { instances.now ≡ instances_of project.now.parts }
     ensures drawn { IfOk result (λ s. s.conductors.drawn.items ≡
-        drawn_in project.now.parts occurrences.now.keys) }
+        drawn_in project.now.parts occurrences.now) }
     ensures hidden { IfOk result (λ s. s.conductors.hidden.items ≡
-        hidden_in project.now.parts occurrences.now.keys) }
+        hidden_in project.now.parts occurrences.now) }
     ensures parts { IfOk result (λ s. s.parts.items ≡
-        parts_in project.now.parts occurrences.now.keys) }
+        parts_in project.now.parts occurrences.now) }
 {
     let mut contents = ProjectContents {
         conductors: FlatConductors {
-            drawn: Vec::new(alloc),
+            drawn: Vec::with_capacity(alloc, occurrences.len())?,
             hidden: Vec::new(alloc),
         },
         parts: Vec::new(alloc),

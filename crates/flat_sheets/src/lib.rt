@@ -8,6 +8,7 @@
 mod conductors;
 mod contents;
 mod occurrence;
+mod once;
 mod order;
 mod package;
 mod ports;
@@ -17,6 +18,7 @@ mod sheet_ids;
 mod texts;
 
 pub use occurrence::Occurrence;
+pub use once::once_in_order;
 pub use order::occurrences;
 pub use package::Package;
 pub use ports::{LabelSets, is_port};

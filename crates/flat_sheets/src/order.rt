@@ -1,15 +1,15 @@
 // All objects in all instances, in order.
-ghost use Rattle.std.specs.Prelude.{◌≡◌, IfOk, OnOk, map};
+ghost use Rattle.std.specs.Prelude.{◌≡◌, ◌++◌, IfOk, OnOk, map};
 ghost use Rattle.hierarchy.specs.Instances.{instances_of};
-ghost use Rattle.flat_sheets.specs.Occurrences.{occurrences};
-ghost use Rattle.flat_sheets.specs.steps.SheetIds.{entered, occurrence};
+ghost use Rattle.flat_sheets.specs.Occurrences.{occurrences, occurrences_from};
+ghost use Rattle.flat_sheets.specs.steps.SheetIds.{occurrence};
 
 use crate::occurrence::Occurrence;
+use crate::once::once_in_order;
 use crate::sheet_ids::{ids_at, ids_by_sheet};
 use geda_model::{Items, Project};
 use hierarchy::Instance;
 use std::alloc::{AllocError, Global};
-use std::collections::BTreeSet;
 
 fn occurrence(
     alloc: Global,
@@ -27,20 +27,40 @@ fn occurrence(
     })
 }
 
-fn enter_ids(
+/// Adds the objects of an instance.
+fn push_ids(
     alloc: Global,
-    listed: &mut BTreeSet<Occurrence>,
+    listed: &mut Vec<Occurrence>,
     place: usize,
     instance: &Instance,
     ids: &[u32],
 ) -> Result<(), AllocError>
-    ensures { OnOk result (listed.new.keys ≡
-        entered listed.old.keys (map (occurrence place instance.now) ids.now)) }
+    ensures { OnOk result (listed.new.items ≡
+        listed.old.items ++ map (occurrence place instance.now) ids.now) }
 {
     for id in ids {
-        listed.insert(occurrence(alloc, place, instance, *id)?)?;
+        listed.push(occurrence(alloc, place, instance, *id)?)?;
     }
     Ok(())
+}
+
+/// All objects in all instances, one instance after the other.
+fn listed_by_instance(
+    alloc: Global,
+    project: &Project,
+    instances: &[Instance],
+) -> Result<Vec<Occurrence>, AllocError>
+    ensures { IfOk result
+        (λ listed. listed.items ≡ occurrences_from project.now.parts 0 instances.now) }
+{
+    let table = ids_by_sheet(alloc, project)?;
+    let mut listed = Vec::new(alloc);
+    for place in 0..instances.len() {
+        let instance = &instances[place];
+        let ids = ids_at(&table, &instance.sheet);
+        push_ids(alloc, &mut listed, place, instance, ids)?;
+    }
+    Ok(listed)
 }
 
 /// All objects in all instances, in order.
@@ -48,16 +68,10 @@ pub fn occurrences(
     alloc: Global,
     project: &Project,
     instances: &[Instance],
-) -> Result<BTreeSet<Occurrence>, AllocError>
+) -> Result<Vec<Occurrence>, AllocError>
     requires { instances.now ≡ instances_of project.now.parts }
-    ensures { IfOk result (λ set. set.keys ≡ occurrences project.now.parts) }
+    ensures { IfOk result (λ listed. listed.items ≡ occurrences project.now.parts) }
 {
-    let table = ids_by_sheet(alloc, project)?;
-    let mut listed = BTreeSet::new(alloc);
-    for place in 0..instances.len() {
-        let instance = &instances[place];
-        let ids = ids_at(&table, &instance.sheet);
-        enter_ids(alloc, &mut listed, place, instance, ids)?;
-    }
-    Ok(listed)
+    let listed = listed_by_instance(alloc, project, instances)?;
+    once_in_order(listed)
 }

@@ -1,5 +1,5 @@
 // The ids of the objects of each sheet.
-ghost use Rattle.std.specs.Prelude.{◌≡◌, IfOk, OnOk, map};
+ghost use Rattle.std.specs.Prelude.{◌≡◌, ◌++◌, ◌∷◌, [], IfOk, OnOk, map};
 ghost use Rattle.geda_model.specs.Tables.{row_now};
 ghost use Rattle.flat_sheets.specs.SheetIds.{AreIdsBySheet, ids_at};
 ghost use Rattle.flat_sheets.specs.steps.SheetIds.{AddsId, AreIdsOf};
@@ -7,7 +7,19 @@ ghost use Rattle.flat_sheets.specs.steps.SheetIds.{AddsId, AreIdsOf};
 use geda_model::{Items, Name, Placed, Project};
 use std::alloc::{AllocError, Global};
 use std::collections::BTreeMap;
+use std::mem;
 
+/// Puts an id behind others.
+fn push_id(alloc: Global, ids: &mut Items<u32>, id: u32) -> Result<(), AllocError>
+    ensures { OnOk result (ids.new ≡ ids.old ++ id ∷ []) }
+{
+    let mut longer = mem::replace(ids, Items::from_vec(Vec::new(alloc))).into_vec();
+    longer.push(id)?;
+    *ids = Items::from_vec(longer);
+    Ok(())
+}
+
+/// Puts the id of an object behind those of its sheet.
 fn add_id(
     alloc: Global,
     table: &mut BTreeMap<Name, Items<u32>>,
@@ -16,11 +28,12 @@ fn add_id(
 ) -> Result<(), AllocError>
     ensures { OnOk result (AddsId (id, placed.now) table.old table.new) }
 {
-    let known = table.remove(&placed.sheet);
-    let mut ids = known.unwrap_or(Items::from_vec(Vec::new(alloc))).into_vec();
+    if let Some(ids) = table.get_mut(&placed.sheet) {
+        return push_id(alloc, ids, id);
+    }
+    let mut ids = Vec::new(alloc);
     ids.push(id)?;
-    let name = placed.sheet.clone()?;
-    table.insert(name, Items::from_vec(ids))?;
+    table.insert(placed.sheet.clone()?, Items::from_vec(ids))?;
     Ok(())
 }
 

@@ -28,7 +28,7 @@ use Rattle.flat_sheets.specs.Occurrences.{FlatObject, OccurrenceData, by_occurre
 use Rattle.flat_sheets.specs.Order.{is_equal}
 use Rattle.flat_sheets.specs.steps.ObjectContents.{flat}
 use Rattle.flat_sheets.specs.steps.SheetIds.{occurrence}
-use Rattle.net_names.proofs.OnceLaws.{find_once, is_once_in_order}
+use Rattle.flat_sheets.proofs.OnceLaws.{find_once, is_once_in_order}
 use Rattle.net_names.proofs.PlaceLemmas.{contains_filter, found, is_found, place_in}
 
 -- occurrences are in a total order, and those that compare as equal have one route and one id

@@ -1,4 +1,3 @@
-pub mod OnceLaws
 pub mod GatheringLemmas
 pub mod NumberingLemmas
 pub mod ListingLemmas

@@ -19,7 +19,7 @@ use Rattle.flat_sheets.specs.Order.{by_bytes, is_equal, once_in_order}
 use Rattle.net_names.specs.Packages.{attr_in_package, package_attr, package_of, packages_by}
 use Rattle.net_names.specs.steps.Orders.{by_bytes_total}
 use Rattle.net_names.specs.steps.PackageRows.{AreRowsOf, PackageRows, no_attributes, package_of_row, row_after, row_and_part, row_at, row_with, with_attributes_of}
-use Rattle.net_names.proofs.OnceLaws.{find_once, is_once_in_order, option_or-assoc, option_or-none}
+use Rattle.flat_sheets.proofs.OnceLaws.{find_once, is_once_in_order, option_or-assoc, option_or-none}
 
 -- ---- one part
 

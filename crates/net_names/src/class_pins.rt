@@ -74,7 +74,10 @@ impl Ord for ClassPin {
     ghost matches_eq = { Prim.search (comparing, rules) };
 
     fn cmp(&self, other: &ClassPin) -> Ordering {
-        let by_refdes = self.member.refdes.cmp(&other.member.refdes);
-        by_refdes.then(self.member.pin.cmp(&other.member.pin))
+        // Most pins differ by their refdes, so the numbers are not looked at.
+        match self.member.refdes.cmp(&other.member.refdes) {
+            Ordering::Equal => self.member.pin.cmp(&other.member.pin),
+            by_refdes => by_refdes,
+        }
     }
 }

@@ -12,7 +12,6 @@ mod net_classes;
 mod net_list;
 mod nets;
 mod numbering;
-mod once;
 mod packages;
 mod taken;
 

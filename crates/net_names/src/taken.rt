@@ -1,20 +1,15 @@
 // Names of conductors that look like those of nets without names.
-ghost use Rattle.std.specs.Prelude.{◌≡◌, ◌==◌, [], OnOk, codes};
-ghost use Rattle.std.specs.List.{fold, starts_with};
+ghost use Rattle.std.specs.Prelude.{◌≡◌, [], OnOk, codes};
+ghost use Rattle.std.specs.List.{fold};
 ghost use Rattle.link_classes.specs.Links.{names_of};
 ghost use Rattle.net_names.specs.steps.Numbering.{with_taken};
 
 use crate::names::NetName;
+use attr_rules::begins_with;
 use geda_model::Block;
 use link_classes::FlatConductor;
 use std::alloc::{AllocError, Global};
 use std::collections::BTreeSet;
-
-fn begins_with(name: &str, prefix: &str) -> bool
-    ensures { result ≡ starts_with ◌==◌ name.now prefix.now }
-{
-    name.as_bytes().starts_with(prefix.as_bytes())
-}
 
 fn take_names(
     taken: &mut BTreeSet<NetName>,

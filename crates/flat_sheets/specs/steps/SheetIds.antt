@@ -1,13 +1,11 @@
 -- Steps of the code; no public clause cites them.
--- The ids of each sheet, gathered in one pass over all objects, and the objects of all instances,
--- entered one by one.
+-- The ids of each sheet, gathered in one pass over all objects, and the objects of an instance.
 use Rattle.std.specs.Prelude.{◌≡◌, ℕ, if◌then◌else◌, List, [], ◌∷◌, ◌++◌}
-use Rattle.std.specs.BTreeSet.{insert_key}
-use Rattle.std.specs.List.{flat_map, fold}
+use Rattle.std.specs.List.{flat_map}
 use Rattle.geda_model.specs.declared.change.Placed.{Placed}
 use Rattle.geda_model.specs.Projects.{is_on}
 use Rattle.hierarchy.specs.declared.instances.Instance.{Instance}
-use Rattle.flat_sheets.specs.Occurrences.{OccurrenceData, by_occurrence}
+use Rattle.flat_sheets.specs.Occurrences.{OccurrenceData}
 use Rattle.flat_sheets.specs.SheetIds.{IdsBySheet, ids_at}
 
 -- the id of an object, if that stands on the sheet
@@ -29,7 +27,3 @@ AreIdsOf rows table = (name : List ℕ) → ids_at table name ≡ ids_in rows na
 -- an object in the instance at a place
 abbrev pub occurrence : ℕ → Instance → ℕ → OccurrenceData
 occurrence place i id = record { route = i.route; instance = place; id = id }
-
--- those that are listed, and then these
-abbrev pub entered : List OccurrenceData → List OccurrenceData → List OccurrenceData
-entered listed os = fold (insert_key by_occurrence) listed os

@@ -1,4 +1,4 @@
-use Rattle.std.proofs.Common.{◌≡◌, ◌++◌}
+use Rattle.std.proofs.Common.{◌≡◌, ◌++◌, drop}
 use Rattle.std.specs.List.{filter_map}
 use Rattle.flat_sheets.specs.LabelSets.{AreLabelSets}
 use Rattle.component_checks.specs.steps.CheckedObjects.{checked_at}
@@ -7,7 +7,7 @@ use Rattle.component_checks.proofs.project.components_among.Given as goal
 abbrev pub invariant-loop-occurrence : goal.invariant-loop-occurrence
 invariant-loop-occurrence l = record {
   components :
-      l.components.items ++ filter_map (checked_at l.project.parts) l.occurrence-iterator
-      ≡ filter_map (checked_at l.project.parts) l.occurrences.keys;
+      l.components.items ++ filter_map (checked_at l.project.parts) (drop l.occurrence-index l.occurrences)
+      ≡ filter_map (checked_at l.project.parts) l.occurrences;
   known : AreLabelSets l.project.parts l.known;
 }

@@ -1,11 +1,23 @@
-use Rattle.std.proofs.Common.{◌≡◌, ◌++◌, ◌∷◌, [], refl}
-use Rattle.std.specs.Option.{unwrap_or}
+use Rattle.std.proofs.Common.{[], None, Some, refl, rules, sym, ◌∷◌, ◌≡◌}
+use Rattle.std.specs.BTreeMap.{get}
+use Rattle.flat_sheets.specs.Order.{by_bytes}
+use Rattle.flat_sheets.proofs.Outcomes.{on_ok}
 use Rattle.flat_sheets.proofs.SheetIdLemmas.{adds_id}
 use Rattle.flat_sheets.proofs.sheet_ids.add_id.Goals as goal
 
+pub returns-in-Some : goal.returns-in-Some
+returns-in-Some c =
+    let table = c.args.table.now in
+    let sheet = c.args.placed.now.sheet in
+    let ids = c.push_id.new.ids in
+    let known : Some c.in-Some.ids.now ≡ get by_bytes table sheet = c.in-Some.ensures.value in
+    on_ok
+    (λ made. adds_id (c.args.id, c.args.placed.now) table (c.get_mut.follows.lender ids) (Some c.in-Some.ids.now) sheet ids known refl made ((c.get_mut.follows.holds ids).3 (rw (sym known) refl)))
+    c.push_id.result c.push_id.ensures
+
 pub returns : goal.returns
 returns c =
-    let ids : c.from_vec-2.result ≡ unwrap_or c.remove-known.result [] ++ c.args.id ∷ [] =
-    rw (c.from_vec-2.ensures, c.in_ok-push.ensures.items, c.into_vec-ids.ensures, c.unwrap_or.ensures, c.from_vec.ensures, c.new.ensures.items) refl in
-    adds_id (c.args.id, c.args.placed.now) c.args.table.now c.remove-known.new.self c.insert.new.self c.remove-known.result c.in_ok-name.name c.from_vec-2.result
-    c.remove-known.ensures.value c.in_ok-name.ensures.cases ids c.remove-known.ensures.updates c.in_ok-insert.ensures.updates
+    let table = c.args.table.now in
+    let none : None ≡ get by_bytes table c.args.placed.now.sheet = search rules in
+    let one : c.from_vec.result ≡ c.args.id ∷ [] = rw (c.from_vec.ensures, c.in_ok-push.ensures.items, c.new-ids.ensures.items) refl in
+    adds_id (c.args.id, c.args.placed.now) table c.insert.new.self None c.in_ok-clone.field-0 c.from_vec.result none (search rules) one (rw c.get_mut.follows.holds-at-none at c.in_ok-insert.ensures.updates)
