@@ -9,7 +9,7 @@ ghost use Rattle.command_words.specs.Commands.{file_of, sheets_of};
 use geda_model::{Name, NameFault};
 use indexmap::IndexSet;
 use option_words::WordFault;
-use std::alloc::{AllocError, Global};
+use std::alloc::Global;
 
 /// The file that a word names.
 pub fn file_of(alloc: Global, word: &str) -> Result<Name, WordFault>
@@ -40,18 +40,6 @@ fn names_once(alloc: Global, words: &[&str]) -> Result<IndexSet<Name>, WordFault
     Ok(names)
 }
 
-/// The names of a set, in its order.
-fn names_of(alloc: Global, set: IndexSet<Name>) -> Result<Vec<Name>, AllocError>
-    ensures names { IfOk result (λ names. names.items ≡ set.keys) }
-    ensures apart { IfOk result (λ names. AllPairs ◌≢◌ names.items) }
-{
-    let mut names = Vec::new(alloc);
-    for name in set {
-        names.push(name)?;
-    }
-    Ok(names)
-}
-
 /// The sheets that the words name: at least one, and they differ.
 pub fn sheets_of(alloc: Global, words: &[&str]) -> Result<Vec<Name>, WordFault>
     ensures sheets { Gives (λ sheets. sheets.items) result
@@ -65,5 +53,5 @@ pub fn sheets_of(alloc: Global, words: &[&str]) -> Result<Vec<Name>, WordFault>
     if names.len() != words.len() {
         return Err(WordFault::Usage);
     }
-    Ok(names_of(alloc, names)?)
+    Ok(names.into_iter().collect(alloc)?)
 }

@@ -4,7 +4,7 @@ use Rattle.std.specs.declared.option.Option.{Option}
 use Rattle.std.specs.Str.{bytes_eq}
 use Rattle.std.specs.List.{AllPairs, IsDistinct, slice_get}
 use Rattle.std.specs.Map.{keys_of}
-use Rattle.std.proofs.lemmas.List.{append-nil, append_assoc, get_or_append_left, get_or-drop, get_or-take, get_or_default, length-append, length-drop}
+use Rattle.std.proofs.lemmas.List.{append-nil, append_assoc, get_or-drop, get_or-take, get_or_default, length-append, length-drop}
 use Rattle.std.proofs.lemmas.List.Folds.{list_any-append, list_any_none}
 use Rattle.std.proofs.lemmas.Map.Entries.{length-keys_of}
 use Rattle.std.proofs.lemmas.Map.Made.{AllPairs-from_IsDistinct}
@@ -254,22 +254,12 @@ once_behind names i name apart h is = not_in name (drop (i + 1) names) (λ k d l
     later : (k : ℕ) → k < length (drop (i + 1) names) → i + 1 + k < length names
     later k lt = omega (arith, lt, length-drop (i + 1) names)
 
--- a part of a list in which each is apart from the others
-pub apart_front : {X : Type 0} (R : X → X → Type 0) (xs ys : List X) → AllPairs R (xs ++ ys) → AllPairs R xs
-apart_front R xs ys apart i j d lt within =
-    let there : j < length (xs ++ ys) = omega (arith, length-append xs ys) in
-    let first = get_or_append_left xs ys d i (omega arith) in
-    let second = get_or_append_left xs ys d j within in
-    subst (λ x. R (get_or xs i d) x) second (subst (λ x. R x (get_or (xs ++ ys) j d)) first (apart i j d lt there))
-
-pub names_apart : (names keys left : List (List ℕ)) → IsDistinct bytes_eq keys → names ++ left ≡ keys → AllPairs ◌≢◌ names
-names_apart names keys left distinct is = apart_front ◌≢◌ names left (subst (AllPairs ◌≢◌) (sym is) (AllPairs-from_IsDistinct bytes_eq-Decides keys distinct))
-
+-- texts that stand once each, and what they name
 key_at : (symbols : List AskedSymbol) (i : ℕ) (d : AskedSymbol) → get_or (keys_of symbols) i d.0 ≡ (get_or symbols i d).0
 key_at [] i d = refl
 key_at (s ∷ symbols) zero d = refl
 key_at (s ∷ symbols) (suc i) d = key_at symbols i d
 
-pub symbols_apart : (symbols all left : List AskedSymbol) → IsDistinct bytes_eq (keys_of all) → symbols ++ left ≡ all → AllPairs (λ (a b : AskedSymbol). a.0 ≢ b.0) symbols
-symbols_apart symbols all left distinct is = apart_front (λ (a b : AskedSymbol). a.0 ≢ b.0) symbols left (subst (AllPairs (λ (a b : AskedSymbol). a.0 ≢ b.0)) (sym is) (λ i j d lt within same.
-    AllPairs-from_IsDistinct bytes_eq-Decides (keys_of all) distinct i j d.0 lt (omega (arith, length-keys_of all)) (key_at all i d ∙ same ∙ sym (key_at all j d))))
+pub symbols_apart : (all : List AskedSymbol) → IsDistinct bytes_eq (keys_of all) → AllPairs (λ (a b : AskedSymbol). a.0 ≢ b.0) all
+symbols_apart all distinct i j d lt within same =
+    AllPairs-from_IsDistinct bytes_eq-Decides (keys_of all) distinct i j d.0 lt (omega (arith, length-keys_of all)) (key_at all i d ∙ same ∙ sym (key_at all j d))

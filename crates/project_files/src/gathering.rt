@@ -14,37 +14,8 @@ use crate::fault::FileFault;
 use crate::file_reads::{read_sheet_file, sheet_in};
 use crate::folder::Folder;
 use crate::gathered::GatheredFiles;
-use geda_model::{Name, Sheet, Symbol};
-use indexmap::{IndexMap, IndexSet};
+use geda_model::{Name, Sheet};
 use std::alloc::{AllocError, Global};
-
-/// The names of a set, in its order.
-fn names_of(alloc: Global, set: IndexSet<Name>) -> Result<Vec<Name>, AllocError>
-    ensures names { IfOk result (λ names. names.items ≡ set.keys) }
-    ensures apart { IfOk result (λ names. AllPairs ◌≢◌ names.items) }
-{
-    let mut names = Vec::new(alloc);
-    for name in set {
-        names.push(name)?;
-    }
-    Ok(names)
-}
-
-/// The symbols of a map, in its order.
-fn symbols_of(
-    alloc: Global,
-    map: IndexMap<Name, Option<Symbol>>,
-) -> Result<Vec<(Name, Option<Symbol>)>, AllocError>
-    ensures symbols { IfOk result (λ symbols. symbols.items ≡ map.entries) }
-    ensures apart { IfOk result (λ symbols.
-        AllPairs (λ (a b : AskedSymbol). a.0 ≢ b.0) symbols.items) }
-{
-    let mut symbols = Vec::new(alloc);
-    for symbol in map {
-        symbols.push(symbol)?;
-    }
-    Ok(symbols)
-}
 
 /// What was gathered, when no sheet waits.
 fn finish(alloc: Global, asked: Asked, sheets: Vec<Sheet>) -> Result<GatheredFiles, AllocError>
@@ -54,8 +25,8 @@ fn finish(alloc: Global, asked: Asked, sheets: Vec<Sheet>) -> Result<GatheredFil
         AllPairs (λ (a b : AskedSymbol). a.0 ≢ b.0) g.symbols) }
 {
     let Asked { queue, symbols, .. } = asked;
-    let queue = names_of(alloc, queue)?;
-    let symbols = symbols_of(alloc, symbols)?;
+    let queue = queue.into_iter().collect(alloc)?;
+    let symbols = symbols.into_iter().collect(alloc)?;
     Ok(GatheredFiles {
         queue,
         sheets,
