@@ -12,7 +12,7 @@ use board_core::Board;
 use drc_rules::{Matrix, findings};
 use geda_geom::Key;
 use geda_model::Project;
-use hierarchy::{ElabFault, Hierarchy, elaborate};
+use hierarchy::{ElabFault, elaborate};
 use net_names::{Nets, join};
 use sheet_groups::local_groups;
 use std::alloc::{AllocError, Global};
@@ -30,19 +30,20 @@ pub fn net_list(alloc: Global, project: &Project) -> Result<Nets, ElabFault>
     Ok(join(alloc, project, &hierarchy, &groups)?)
 }
 
-/// The text of the net list of a project with this hierarchy and these groups, in a form.
-fn net_text_by(
+/// The text of the net list of a project with these groups, in a form.
+fn net_report_by(
     alloc: Global,
     form: Form,
     project: &Project,
-    hierarchy: &Hierarchy,
     groups: &BTreeMap<Key, Key>,
-) -> Result<Vec<u8>, AllocError>
-    requires instances { hierarchy.now.instances ≡ instances_of project.now.parts }
-    requires groups { AreGroups (sheet_conductors project.now.parts) groups.now.entries }
-    ensures { IfOk result (λ text. HasNetList (net_text form) project.now.parts text.items) }
+) -> Result<Vec<u8>, ElabFault>
+    requires { AreGroups (sheet_conductors project.now.parts) groups.now.entries }
+    ensures { Elaborates
+        (OfNetList ElabFault.TooManyInstances (net_text form) project.now.parts)
+        (seen result) }
 {
-    let nets = join(alloc, project, hierarchy, groups)?;
+    let hierarchy = elaborate(alloc, project)?;
+    let nets = join(alloc, project, &hierarchy, groups)?;
     Ok(net_text(alloc, form, &nets)?)
 }
 
@@ -54,9 +55,8 @@ pub fn net_report(alloc: Global, form: Form, project: &Project) -> Result<Vec<u8
         (OfNetList ElabFault.TooManyInstances (net_text form) project.now.parts)
         (seen result) }
 {
-    let hierarchy = elaborate(alloc, project)?;
     let groups = local_groups(alloc, project)?;
-    Ok(net_text_by(alloc, form, project, &hierarchy, &groups)?)
+    net_report_by(alloc, form, project, &groups)
 }
 
 /// The text of the net list of a board's project in a form, by the groups that the board has.
@@ -65,29 +65,26 @@ pub(crate) fn board_report(alloc: Global, form: Form, board: &Board) -> Result<V
         (OfNetList ElabFault.TooManyInstances (net_text form) board.now.project)
         (seen result) }
 {
-    let project = board.project();
-    let hierarchy = elaborate(alloc, project)?;
     let groups = board.local_groups(alloc)?;
-    Ok(net_text_by(alloc, form, project, &hierarchy, &groups)?)
+    net_report_by(alloc, form, board.project(), &groups)
 }
 
-/// The report of the check of a project with this hierarchy and these groups, under a matrix.
+/// The report of the check of a project with these groups, under a matrix.
 fn check_by(
     alloc: Global,
     matrix: &Matrix,
     project: &Project,
-    hierarchy: &Hierarchy,
     groups: &BTreeMap<Key, Key>,
-) -> Result<Check, AllocError>
-    requires instances { hierarchy.now.instances ≡ instances_of project.now.parts }
-    requires lost { hierarchy.now.lost ≡ lost_of project.now.parts }
-    requires groups { AreGroups (sheet_conductors project.now.parts) groups.now.entries }
-    ensures { IfOk result
-        (HasNetList (checked project.now.parts matrix.now) project.now.parts) }
+) -> Result<Check, ElabFault>
+    requires { AreGroups (sheet_conductors project.now.parts) groups.now.entries }
+    ensures { Elaborates
+        (OfNetList ElabFault.TooManyInstances (checked project.now.parts matrix.now)
+        project.now.parts) result }
 {
-    let nets = join(alloc, project, hierarchy, groups)?;
-    let found = findings(alloc, project, hierarchy, &nets, matrix)?;
-    reported(alloc, &found)
+    let hierarchy = elaborate(alloc, project)?;
+    let nets = join(alloc, project, &hierarchy, groups)?;
+    let found = findings(alloc, project, &hierarchy, &nets, matrix)?;
+    Ok(reported(alloc, &found)?)
 }
 
 /// The report of the check of a project under a matrix (docs/RULES.md, "Findings").
@@ -98,9 +95,8 @@ pub fn check(alloc: Global, matrix: &Matrix, project: &Project) -> Result<Check,
         (OfNetList ElabFault.TooManyInstances (checked project.now.parts matrix.now)
         project.now.parts) result }
 {
-    let hierarchy = elaborate(alloc, project)?;
     let groups = local_groups(alloc, project)?;
-    Ok(check_by(alloc, matrix, project, &hierarchy, &groups)?)
+    check_by(alloc, matrix, project, &groups)
 }
 
 /// The report of the check of a board's project under a matrix, by the groups that the board has.
@@ -109,8 +105,6 @@ pub(crate) fn board_check(alloc: Global, matrix: &Matrix, board: &Board) -> Resu
         (OfNetList ElabFault.TooManyInstances (checked board.now.project matrix.now)
         board.now.project) result }
 {
-    let project = board.project();
-    let hierarchy = elaborate(alloc, project)?;
     let groups = board.local_groups(alloc)?;
-    Ok(check_by(alloc, matrix, project, &hierarchy, &groups)?)
+    check_by(alloc, matrix, board.project(), &groups)
 }
