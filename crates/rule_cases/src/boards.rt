@@ -1,58 +1,47 @@
 // A project on a board, its groups and its reports (docs/RULES.md, "Groups", and docs/FORMATS.md,
 // "Reports").
-ghost use Rattle.std.specs.Prelude.{IfOk};
-ghost use Rattle.geda_model.specs.Changes.{CanApply};
-
+use crate::changes::change_of;
 use crate::projects::{put_object, put_sheet};
 use backends::Form;
 use board_core::Board;
 use drc_rules::Matrix;
-use geda_model::{Change, Name, Project, Thing};
+use geda_model::{Name, Project, Thing};
 use reports::{What, report};
 use std::alloc::{AllocError, Global};
 use std::test::Fail;
 
-// Two parts of one pin, with three wires in a row between them.
-const FIRST: &str = "C 0 0 1 0 0 EMBEDDEDk.sym
+/// A part of one pin, which ends 100 mils before its component or behind it.
+fn part(alloc: Global, x: i32, end: i32, refdes: &str) -> Result<String, AllocError> {
+    format!(in alloc;
+        "C {x} 0 1 0 0 EMBEDDEDk.sym
 [
-P 0 0 -100 0 1 0 0
-{
+P {x} 0 {end} 0 1 0 0
+{{
 T 0 0 5 8 0 1 0 0 1
 pinnumber=1
 T 0 0 5 8 0 1 0 0 1
 pintype=pas
-}
+}}
 ]
-{
+{{
 T 0 0 5 8 0 1 0 0 1
-refdes=A1
+refdes={refdes}
+}}
+"
+    )
 }
-";
 
-const LAST: &str = "C 300 0 1 0 0 EMBEDDEDk.sym
-[
-P 300 0 400 0 1 0 0
-{
-T 0 0 5 8 0 1 0 0 1
-pinnumber=1
-T 0 0 5 8 0 1 0 0 1
-pintype=pas
-}
-]
-{
-T 0 0 5 8 0 1 0 0 1
-refdes=A2
-}
-";
-
+/// Two parts with three wires in a row between them.
 fn board_of(alloc: Global) -> Result<Board, Fail> {
     let mut project = Project::new(alloc);
     put_sheet(alloc, &mut project, "s.sch")?;
-    put_object(alloc, &mut project, 0, "s.sch", FIRST)?;
+    let first = part(alloc, 0, -100, "A1")?;
+    let last = part(alloc, 300, 400, "A2")?;
+    put_object(alloc, &mut project, 0, "s.sch", first.as_str())?;
     put_object(alloc, &mut project, 1, "s.sch", "N 0 0 100 0 4\n")?;
     put_object(alloc, &mut project, 2, "s.sch", "N 100 0 200 0 4\n")?;
     put_object(alloc, &mut project, 3, "s.sch", "N 200 0 300 0 4\n")?;
-    put_object(alloc, &mut project, 4, "s.sch", LAST)?;
+    put_object(alloc, &mut project, 4, "s.sch", last.as_str())?;
     Ok(Board::of(alloc, &project)?)
 }
 
@@ -102,16 +91,6 @@ fn a_board_has_its_reports(rt: HostRuntime) -> Result<(), Fail> {
     Ok(())
 }
 
-/// The change that takes the wire in the middle away.
-#[tactic(auto, using(crate::proofs::OneChange::one_can_apply))]
-fn without_middle(alloc: Global) -> Result<Change, AllocError>
-    ensures { IfOk result (λ change. CanApply change.items) }
-{
-    let mut change = Change::new(alloc);
-    change.push(Thing::Object(2), None)?;
-    Ok(change)
-}
-
 /// For each conductor the id of its object, and that of the first one of its group.
 fn groups_text(alloc: Global, board: &Board) -> Result<String, AllocError> {
     let mut out = String::new(alloc);
@@ -127,7 +106,7 @@ fn a_board_has_groups_that_fall_apart(rt: HostRuntime) -> Result<(), Fail> {
     let mut board = board_of(alloc)?;
     let found = groups_text(alloc, &board)?;
     assert!(rt; found.as_str() == "0:0 1:0 2:0 3:0 4:0 ", "{found}");
-    let change = without_middle(alloc)?;
+    let change = change_of(alloc, Thing::Object(2), None)?;
     assert_eq!(rt; board.bound(alloc, &change)?, 5);
     board.apply(alloc, &change)?;
     let found = groups_text(alloc, &board)?;

@@ -7,6 +7,7 @@
 mod attributes;
 #[cfg(test)]
 mod boards;
+mod changes;
 #[cfg(test)]
 mod drawings;
 #[cfg(test)]

@@ -2,6 +2,7 @@
 ghost use Rattle.geda_model.specs.Changes.{IsIdInRange};
 ghost use Rattle.geda_model.specs.declared.change.Thing.TheVariants as things;
 
+use crate::changes::change_of;
 use attr_rules::library_of;
 use geda_model::{Change, Name, Placed, Project, Thing, Value};
 use geda_read::{read_object, read_sheet, read_symbol};
@@ -9,7 +10,6 @@ use std::alloc::{AllocError, Global};
 use std::test::Fail;
 
 /// Gives one thing a value, or takes it out, and answers the change that undoes it.
-#[tactic(auto, using(crate::proofs::OneChange::one_can_apply))]
 fn put(
     alloc: Global,
     project: &mut Project,
@@ -18,8 +18,7 @@ fn put(
 ) -> Result<Change, AllocError>
     requires { IsIdInRange thing }
 {
-    let mut change = Change::new(alloc);
-    change.push(thing, value)?;
+    let change = change_of(alloc, thing, value)?;
     project.reserve(alloc, &change)?;
     Ok(project.apply(change))
 }
