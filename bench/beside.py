@@ -16,8 +16,9 @@ import tempfile
 
 sys.dont_write_bytecode = True
 
+from built import PROGRAM
 from part_shapes import board
-from projects import PROGRAM, put
+from projects import put
 from reading import measured
 from sheet_shapes import instances
 

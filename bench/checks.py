@@ -20,9 +20,10 @@ import sys
 
 sys.dont_write_bytecode = True
 
+from built import PROGRAM
 from check_cases import case_table
 from check_rules import NAMES, answer_of
-from projects import PROGRAM, compare_folders, failed_of, folder_of
+from projects import compare_folders, failed_of, folder_of
 from random_checks import random_check
 
 

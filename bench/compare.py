@@ -15,7 +15,10 @@ import subprocess
 import sys
 import tempfile
 
-PROGRAM = pathlib.Path(__file__).resolve().parent.parent / "crates" / "gafd" / "out" / "gafd"
+sys.dont_write_bytecode = True
+
+from built import PROGRAM
+
 UNREAD = ("slot", "net", "source", "graphical")
 
 

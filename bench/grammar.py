@@ -12,7 +12,7 @@ Usage:
   grammar.py --self-test                          the Python reader on cases with known answers
 
 With --alone the program is not run: it tells what the Python reader finds. --program names another
-program than crates/gafd/out/gafd. A difference is printed when it is found, and each hundredth file
+program than out/gafd. A difference is printed when it is found, and each hundredth file
 says how far it is. The status is 1 where something differs; the first twenty files that differ are
 kept, cut down to the lines that matter, in a folder that is printed.
 """
@@ -27,12 +27,11 @@ import time
 
 sys.dont_write_bytecode = True
 
+from built import PROGRAM
 from geda_files import Fault, canonical, read_object, read_sheet, read_symbol, written
 from grammar_cases import case_table
 from project_rules import answer_of
 from random_files import edges, random_file
-
-PROGRAM = pathlib.Path(__file__).resolve().parent.parent / "crates" / "gafd" / "out" / "gafd"
 
 
 def export_of(name, data):

@@ -12,7 +12,10 @@ import sys
 import tempfile
 import time
 
-PROGRAM = pathlib.Path(__file__).resolve().parent.parent / "crates" / "gafd" / "out" / "gafd"
+sys.dont_write_bytecode = True
+
+from built import PROGRAM
+
 VERSION = "v 20130925 2\n"
 PINS = 100
 SECONDS = 5

@@ -26,7 +26,8 @@ import check_rules
 import part_shapes
 import project_rules
 import sheet_shapes
-from projects import PROGRAM, put
+from built import PROGRAM
+from projects import put
 from reading import measured
 
 RUNS = 5

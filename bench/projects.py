@@ -25,6 +25,7 @@ import time
 sys.dont_write_bytecode = True
 
 import compare
+from built import PROGRAM
 from geda_files import Fault, read_sheet
 from project_cases import case_table
 from project_limits import limits
@@ -32,7 +33,6 @@ from project_rules import answer_of
 from random_files import random_file
 from random_projects import random_folder, with_form
 
-PROGRAM = pathlib.Path(__file__).resolve().parent.parent / "out" / "gafd"
 LONGEST = 60
 MOST_SHRUNK = 1_000_000
 

@@ -12,7 +12,10 @@ import subprocess
 import sys
 import tempfile
 
-PROGRAM = pathlib.Path(__file__).resolve().parent.parent / "crates" / "gafd" / "out" / "gafd"
+sys.dont_write_bytecode = True
+
+from built import PROGRAM
+
 MOST_BYTES = 4_194_304
 VERSION = "v 20130925 2\n"
 RUNS = 5

@@ -29,7 +29,8 @@ import time
 
 sys.dont_write_bytecode = True
 
-from projects import PROGRAM, failed_of
+from built import PROGRAM
+from projects import failed_of
 from reading import measured
 
 PRIME, FACTOR = 2_147_483_647, 48_271
