@@ -1,3 +1,4 @@
+pub mod CuttingDigits
 pub mod CuttingFields
 pub mod CuttingLines
 pub mod Digits

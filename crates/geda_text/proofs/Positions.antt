@@ -1,9 +1,10 @@
 -- Where the first byte of a kind is found.
-use Rattle.std.proofs.Common.{◌≡◌, ℕ, ◌<◌, ◌≤◌, Bool, true, false, cond, List, [], ◌∷◌, length, Some, None, ltb, refl, arith}
+use Rattle.std.proofs.Common.{◌≡◌, ℕ, ◌<◌, ◌≤◌, Bool, true, false, cond, List, [], ◌∷◌, length, get_or, Option, Some, None, ltb, refl, arith}
 use Rattle.std.specs.List.{position, slice_split, position_or_len}
-use Rattle.std.proofs.lemmas.List.Sums.{fails_before_first}
+use Rattle.std.proofs.lemmas.List.Sums.{fails_before_first, position_or_len_is}
 use Rattle.std.proofs.lemmas.List.Splits.{slice_split_none}
-use Rattle.std.proofs.lemmas.Bool.{ltb-true, ltb-false}
+use Rattle.std.proofs.lemmas.Bool.{le-ltb, lt-ltb, ltb-true, ltb-false}
+use Rattle.memchr.specs.Find.{IsFirstByte, Passes}
 
 -- which way a position was found
 found_at : (b : Bool) (i place : ℕ) → cond b (Some i) None ≡ Some place → (b ≡ true) × (i ≡ place)
@@ -32,3 +33,20 @@ pub one_piece : (p : ℕ → Bool) (bs : List ℕ) → position p bs ≡ None �
 one_piece p bs e =
     let past = nowhere p bs e in
     slice_split_none p bs (λ k d lt. fails_before_first p bs k d (omega arith))
+
+-- what does not pass fails
+fails : (p : ℕ → Bool) (bs : List ℕ) (k : ℕ) → ¬ (Passes p bs k) → p (get_or bs k 0) ≡ false
+fails p bs k unlike = go (p (get_or bs k 0)) refl
+  where
+    go : (b : Bool) → p (get_or bs k 0) ≡ b → p (get_or bs k 0) ≡ false
+    go true e = absurd (unlike e)
+    go false e = e
+
+-- what passes first is at the position
+pub first_position : (p : ℕ → Bool) (bs : List ℕ) (r : Option ℕ) → IsFirstByte p bs r → r ≡ position p bs
+first_position p bs None nowhere_at =
+    let past = position_or_len_is p bs (length bs) 0 (omega arith) (λ k lt. fails p bs k (nowhere_at k (omega arith) lt)) (λ lt. absurd (omega (arith, lt))) in
+    rw (past, le-ltb (length bs) (length bs) (omega arith)) refl
+first_position p bs (Some k) at =
+    let first = position_or_len_is p bs k 0 (omega (arith, at.0.high)) (λ i lt. fails p bs i (at.0.before i (omega arith) lt)) (λ lt. at.1) in
+    rw (first, lt-ltb k (length bs) at.0.high) refl

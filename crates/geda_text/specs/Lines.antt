@@ -72,3 +72,8 @@ first_field (word ∷ words) = word
 abbrev pub other_fields : List (List ℕ) → List (List ℕ)
 other_fields [] = []
 other_fields (word ∷ words) = words
+
+-- the number that the first of some fields spells
+abbrev pub next_whole : List (List ℕ) → Option (Option ℤ)
+next_whole [] = None
+next_whole (word ∷ words) = Some (whole_of word)

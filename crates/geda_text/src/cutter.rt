@@ -3,12 +3,13 @@ ghost use Rattle.geda_defs.specs.Lines.{is_line_feed};
 ghost use Rattle.geda_text.specs.Lines.{lines_of, without_crs, IsCutLine};
 ghost use Rattle.geda_text.specs.steps.Pieces.{HasNoLineFeed};
 
+use memchr::memchr;
 use std::marker::Model;
 
 fn line_feed_at(bytes: &[u8]) -> Option<usize>
     ensures { result ≡ position is_line_feed bytes.now }
 {
-    bytes.iter().position(|byte| *byte == b'\n')
+    memchr(b'\n', bytes)
 }
 
 /// The first line with the CRs at its end, and the bytes behind its line feed.

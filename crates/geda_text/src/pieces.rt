@@ -1,8 +1,9 @@
-ghost use Rattle.std.specs.Prelude.{◌≡◌, ◌+◌, ◌<◌, ◌≤◌, ◌∷◌, length, position};
+ghost use Rattle.std.specs.Prelude.{◌≡◌, ◌+◌, ◌<◌, ◌≤◌, ◌∷◌, length, position, IfSome};
 ghost use Rattle.std.specs.Iterator.{YieldsFirstRef, item_count};
-ghost use Rattle.geda_text.specs.Lines.{is_blank, fields_of};
-ghost use Rattle.geda_text.specs.steps.Words.{StartsWord};
+ghost use Rattle.geda_text.specs.Lines.{is_blank, fields_of, next_whole, other_fields};
+ghost use Rattle.geda_text.specs.steps.Words.{BeginsWithDigits, StartsWord};
 
+use crate::number::whole;
 use std::marker::Model;
 
 fn is_blank(byte: u8) -> bool
@@ -43,6 +44,33 @@ fn cut_field(bytes: &[u8]) -> (&[u8], &[u8])
     }
 }
 
+/// The number that 1 to 9 digits spell, where they stand first and before a blank or the end, and
+/// the bytes behind that blank.
+fn cut_digits(bytes: &[u8]) -> Option<(u32, &[u8])>
+    requires { StartsWord bytes.now }
+    ensures { IfSome result (λ r. BeginsWithDigits bytes.now r.0 r.1.now) }
+{
+    let mut value: u32 = 0;
+    let mut count = 0;
+    while count < bytes.len() && bytes[count].is_ascii_digit() {
+        if count == 9 {
+            return None;
+        }
+        value = value * 10 + u32::from(bytes[count] - b'0');
+        count += 1;
+    }
+    if count == 0 {
+        return None;
+    }
+    if count == bytes.len() {
+        return Some((value, &[]));
+    }
+    if !is_blank(bytes[count]) {
+        return None;
+    }
+    Some((value, &bytes[count + 1..]))
+}
+
 /// The fields of a line that are still to come, each of at least one byte and without blanks.
 #[derive(Drop)]
 pub struct Fields<'a> {
@@ -65,6 +93,22 @@ impl<'a> Fields<'a> {
         ensures few { length result ≤ length line.now + 1 }
     {
         Fields { rest: line }
+    }
+
+    /// The number that the next field spells, as `whole` reads it. It takes no memory.
+    ///
+    /// `None` exactly where no field is left, `Some(None)` exactly where the next one is no number.
+    pub fn next_whole(&mut self) -> Option<Option<i32>>
+        ensures given { result ≡ next_whole self.old }
+        ensures rest { self.new ≡ other_fields self.old }
+    {
+        let rest = without_blanks(self.rest);
+        if let Some((number, after)) = cut_digits(rest) {
+            self.rest = after;
+            return Some(Some(number as i32));
+        }
+        let field = self.next()?;
+        Some(whole(field))
     }
 }
 
