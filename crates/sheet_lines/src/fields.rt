@@ -12,7 +12,7 @@ ghost use Rattle.sheet_lines.specs.steps.Fields.{spelled_basename, whole_at, wor
 use crate::fault::LineFault;
 use geda_grammar::ReadKind;
 use geda_model::{MOST_LINES, MOST_WORD_BYTES, Word};
-use geda_text::{Fields, text_of, whole};
+use geda_text::{Fields, text_of};
 use std::alloc::Global;
 
 /// The next field. It takes no memory.
@@ -29,8 +29,10 @@ fn field<'a>(rest: &mut Fields<'a>) -> Result<&'a [u8], LineFault>
 fn any_number(rest: &mut Fields) -> Result<i32, LineFault>
     ensures { Gives (λ z. (z, rest.new)) result (whole_at rest.old) }
 {
-    let field = field(rest)?;
-    whole(field).ok_or(LineFault::Refused(ReadKind::BadNumber))
+    let number = rest
+        .next_whole()
+        .ok_or(LineFault::Refused(ReadKind::FieldCount))?;
+    number.ok_or(LineFault::Refused(ReadKind::BadNumber))
 }
 
 /// The next field as a number that is at most so far from 0. It takes no memory.
