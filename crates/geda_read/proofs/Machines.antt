@@ -27,7 +27,7 @@ use Rattle.geda_read.specs.declared.rows.OpenRows.{OpenRows}
 use Rattle.geda_read.specs.steps.Expecting.{line_kind, rows_expect, version_kind}
 use Rattle.sheet_lines.specs.SheetLines.{own_kind}
 use Rattle.geda_read.specs.steps.Rows.{is_symbol_file, rows_start, rows_step}
-use Rattle.geda_read.specs.steps.Files.{admits_by, at_end, begun, between, end_by, map_ok, or_end, or_refused, read_lines, refused_kind, start_of, take_amid, take_between, take_line, take_lines, take_more, take_row, take_said, take_version}
+use Rattle.geda_read.specs.steps.Files.{admits_by, at_end, begun, end_by, map_ok, or_end, or_refused, read_lines, refused_kind, start_of, take_amid, take_between, take_line, take_lines, take_more, take_row, take_said, take_version}
 use Rattle.geda_read.proofs.LineKinds.{kind_amid, kind_between, kind_unbegun, line_good, own_faulty}
 use Rattle.geda_read.proofs.Places.{Expects}
 
@@ -84,7 +84,7 @@ module _ (S W V : Type 0) (m : RowMachine S W) (make : HeadData → W → V) (mo
       where
         go : (o : Option HeadData) → version_of line ≡ o → or_refused (version_kind line) (option_map (begun mode) o) ≡ or_refused (kind_of (file_machine m) Unbegun line) (option_map state (option_map (begun_at m.start) o))
         go None e = ap (λ k. Err k) (sym (kind_unbegun m line e))
-        go (Some head) e = ap (λ r. Ok (between head r)) start_is
+        go (Some head) e = ap (λ r. Ok (Begun head (Ready r))) start_is
 
     -- the kind of a line that is refused between rows
     refused : (head : HeadData) (s : S) (line : List ℕ) (kind : ReadKind) → (is_unknown (letter_at line) ≡ false → kind ≡ kind_or OutOfRange (line_fault (letter_at line) (other_fields (fields_of line)))) → refused_kind mode (held s) line kind ≡ kind_of (file_machine m) (Begun head (Ready s)) line
@@ -93,38 +93,38 @@ module _ (S W V : Type 0) (m : RowMachine S W) (make : HeadData → W → V) (mo
     no_fault : (line : List ℕ) → ¬ (sheet_line line ≡ Faulty) → is_unknown (letter_at line) ≡ false → OutOfRange ≡ kind_or OutOfRange (line_fault (letter_at line) (other_fields (fields_of line)))
     no_fault line some known = ap (kind_or OutOfRange) (sym (line_good line some))
 
-    row_taken : (head : HeadData) (s : S) (row : Row) (kind other : ReadKind) → kind ≡ other → map_ok (between head) (take_row mode (held s) row kind) ≡ or_refused other (option_map state (option_map (Begun head) (option_map (λ t. Ready t) (m.step s row))))
+    row_taken : (head : HeadData) (s : S) (row : Row) (kind other : ReadKind) → kind ≡ other → map_ok (Begun head) (map_ok Ready (take_row mode (held s) row kind)) ≡ or_refused other (option_map state (option_map (Begun head) (option_map (λ t. Ready t) (m.step s row))))
     unfolding take_row
     row_taken head s row kind other same = rw (step_is s row) (go (m.step s row))
       where
-        go : (o : Option S) → map_ok (between head) (or_refused kind (option_map held o)) ≡ or_refused other (option_map state (option_map (Begun head) (option_map (λ t. Ready t) o)))
+        go : (o : Option S) → map_ok (Begun head) (map_ok Ready (or_refused kind (option_map held o))) ≡ or_refused other (option_map state (option_map (Begun head) (option_map (λ t. Ready t) o)))
         go None = ap (λ k. Err k) same
         go (Some t) = refl
 
-    said_line : (head : HeadData) (s : S) (line : List ℕ) (said : SheetLine Pending) → sheet_line line ≡ said → take_said mode head (held s) line said ≡ or_refused (kind_of (file_machine m) (Begun head (Ready s)) line) (option_map state (option_map (Begun head) (reading.take_line m.step (admits m) s said)))
+    said_line : (head : HeadData) (s : S) (line : List ℕ) (said : SheetLine Pending) → sheet_line line ≡ said → map_ok (Begun head) (take_said mode (held s) line said) ≡ or_refused (kind_of (file_machine m) (Begun head (Ready s)) line) (option_map state (option_map (Begun head) (reading.take_line m.step (admits m) s said)))
     unfolding admits_by
     said_line head s line Blank e = refl
     said_line head s line (Complete row) e = row_taken head s row (refused_kind mode (held s) line OutOfRange) (kind_of (file_machine m) (Begun head (Ready s)) line) (refused head s line OutOfRange (no_fault line (λ f. absurd (let g = sym e ∙ f in cc))))
     said_line head s line (Begins p) e = rw (sym ((expects s).shape p)) (go (admits m s p))
       where
-        go : (b : Bool) → cond b (Ok (Begun head (Amid (held s) p))) (Err (refused_kind mode (held s) line OutOfRange)) ≡ or_refused (kind_of (file_machine m) (Begun head (Ready s)) line) (option_map state (option_map (Begun head) (cond b (Some (Amid s p)) None)))
+        go : (b : Bool) → map_ok (Begun head) (cond b (Ok (Amid (held s) p)) (Err (refused_kind mode (held s) line OutOfRange))) ≡ or_refused (kind_of (file_machine m) (Begun head (Ready s)) line) (option_map state (option_map (Begun head) (cond b (Some (Amid s p)) None)))
         go true = refl
         go false = ap (λ k. Err k) (refused head s line OutOfRange (no_fault line (λ f. absurd (let g = sym e ∙ f in cc))))
     said_line head s line Faulty e = ap (λ k. Err k) (refused head s line (kind_or OutOfRange (own_kind line)) (own_faulty line))
 
-    amid_line : (head : HeadData) (s : S) (p : Pending) (line : List ℕ) → IsSome (m.step s (Drawn (so_far p))) → take_amid mode head (held s) p line ≡ machine_line (Begun head (Amid s p)) line
+    amid_line : (head : HeadData) (s : S) (p : Pending) (line : List ℕ) → IsSome (m.step s (Drawn (so_far p))) → map_ok (Begun head) (take_amid mode (held s) p line) ≡ machine_line (Begun head (Amid s p)) line
     unfolding take_amid take_row
     amid_line head s p line stands = go (is_utf8 line) refl
       where
-        whole : (shape : Shape) → letter_of_shape (so_far p) ≡ letter_of_shape shape → (o : Option S) → m.step s (Drawn shape) ≡ o → map_ok (between head) (or_refused NotUtf8 (option_map held o)) ≡ or_refused (kind_of (file_machine m) (Begun head (Amid s p)) line) (option_map state (option_map (Begun head) (option_map (λ t. Ready t) o)))
+        whole : (shape : Shape) → letter_of_shape (so_far p) ≡ letter_of_shape shape → (o : Option S) → m.step s (Drawn shape) ≡ o → map_ok (Begun head) (map_ok Ready (or_refused NotUtf8 (option_map held o))) ≡ or_refused (kind_of (file_machine m) (Begun head (Amid s p)) line) (option_map state (option_map (Begun head) (option_map (λ t. Ready t) o)))
         whole shape same None e = absurd (let some = as_letter s (so_far p) shape same stands in let f = sym (ap is_some e) ∙ some in cc)
         whole shape same (Some t) e = refl
 
-        added : (g : Progress Pending) → LetterOf p g → take_more mode head (held s) (Some g) ≡ or_refused (kind_of (file_machine m) (Begun head (Amid s p)) line) (option_map state (option_map (Begun head) (reading.take_progress m.step s (Some g))))
+        added : (g : Progress Pending) → LetterOf p g → map_ok (Begun head) (take_more mode (held s) (Some g)) ≡ or_refused (kind_of (file_machine m) (Begun head (Amid s p)) line) (option_map state (option_map (Begun head) (reading.take_progress m.step s (Some g))))
         added (Still q) same = refl
         added (Whole shape) same = rw (step_is s (Drawn shape)) (whole shape same (m.step s (Drawn shape)) refl)
 
-        go : (b : Bool) → is_utf8 line ≡ b → take_more mode head (held s) (cond b (Some (add p line)) None) ≡ or_refused (kind_of (file_machine m) (Begun head (Amid s p)) line) (option_map state (option_map (Begun head) (reading.take_progress m.step s (cond b (Some (add p line)) None))))
+        go : (b : Bool) → is_utf8 line ≡ b → map_ok (Begun head) (take_more mode (held s) (cond b (Some (add p line)) None)) ≡ or_refused (kind_of (file_machine m) (Begun head (Amid s p)) line) (option_map state (option_map (Begun head) (reading.take_progress m.step s (cond b (Some (add p line)) None))))
         go true e = added (add p line) (keeps_letter p line)
         go false e = ap (λ k. Err k) (sym (kind_amid m head s p line e))
 

@@ -29,7 +29,7 @@ use Rattle.geda_read.specs.steps.Expecting.{rows_expect}
 use Rattle.geda_read.specs.steps.Files.{Answers, end_object, end_sheet, end_symbol, read_bytes, read_lines}
 use Rattle.geda_read.specs.steps.Rows.{objects_in, one_object, parts_in}
 use Rattle.geda_read.proofs.Machines.{from_start}
-use Rattle.geda_read.proofs.Places.{Expects, object_ends, object_takes, parts_take, place_takes, settled, settled_step}
+use Rattle.geda_read.proofs.Places.{Expects, object_takes, parts_take, place_takes}
 
 -- each kind of file, by its lines
 sheet_takes : (s : Place) → Expects sheet_rows s (rows_expect files.Sheet (rows.Sheet s))
@@ -47,7 +47,7 @@ symbol_lines : (lines : List (List ℕ)) → read_symbol lines ≡ read_lines fi
 symbol_lines = from_start (Level PartData Shape) (List PartData) SymbolData symbol_rows make_symbol files.Symbol (λ s. rows.Symbol s) refl (λ s row. refl) symbol_takes refl symbol_letter parts_in (λ s. refl) Unbegun tt refl
 
 object_lines : (lines : List (List ℕ)) → read_object lines ≡ read_lines files.Object end_object lines
-object_lines = from_start Place ObjectData ObjectData object_rows grammar.make_object files.Object settled refl settled_step object_takes refl (sheet_letter 1) one_object object_ends (Begun (record { date = 0; format = 1 }) (Ready (Objects [] Settled))) tt refl
+object_lines = from_start Place ObjectData ObjectData object_rows grammar.make_object files.Object (λ s. rows.Sheet s) refl (λ s row. refl) object_takes refl (sheet_letter 1) one_object (λ s. refl) (Begun (record { date = 0; format = 1 }) (Ready (Objects [] Settled))) tt refl
 
 -- and by its bytes
 same_bytes : {V : Type 0} (few many : List (List ℕ) → Result V (ReadKind × ℕ)) → ((lines : List (List ℕ)) → few lines ≡ many lines) → (bytes : List ℕ) → within_limit few bytes ≡ cond (ltb most_file_bytes (length bytes)) (Err (TooLarge, 1)) (many (lines_of bytes))

@@ -1,3 +1,4 @@
+pub mod Embeddings
 pub mod Expecting
 pub mod Files
 pub mod Levels

@@ -1,13 +1,14 @@
 // A file that is being read, line by line.
-ghost use Rattle.std.specs.Prelude.{◌≡◌, IfOk};
+ghost use Rattle.std.specs.Prelude.{◌≡◌, IfOk, option_map};
 ghost use Rattle.geda_text.specs.Lines.{IsCutLine};
-ghost use Rattle.sheet_lines.specs.SheetLines.{RowIsInRange, as_line, LineIsInRange};
+ghost use Rattle.sheet_lines.specs.SheetLines.{RowIsInRange, LineIsInRange};
 ghost use Rattle.sheet_lines.specs.Pending.{pending_of};
 ghost use Rattle.sheet_lines.specs.steps.Results.{Gives};
 ghost use Rattle.geda_grammar.specs.declared.kind.ReadKind.TheVariants.{OutOfRange};
 ghost use Rattle.geda_read.specs.steps.Expecting.{rows_expect};
+ghost use Rattle.geda_grammar.specs.steps.Reading.{Amid};
 ghost use Rattle.geda_read.specs.steps.Rows.{is_symbol_file};
-ghost use Rattle.geda_read.specs.steps.Files.{IsReadBy, between, end_rows, map_ok, refused_kind, start_of, state_of, take_amid, take_between, take_line, take_row, take_said, take_shape, take_version};
+ghost use Rattle.geda_read.specs.steps.Files.{IsReadBy, end_rows, go_on, reader_of, refused_kind, start_of, state_of, take_amid, take_between, take_line, take_row, take_shape, take_version};
 
 use crate::kinds::{Expected, version_kind};
 use crate::refusal::Refusal;
@@ -20,24 +21,13 @@ use std::alloc::Global;
 
 /// Where a file stands between two lines.
 #[derive(Drop)]
-pub enum Stage {
-    /// The version line comes next.
-    Unbegun,
-    /// A row comes next.
-    Between(Head, OpenRows),
-    /// Lines of a shape are to come.
-    Amid(Head, OpenRows, Pending),
-}
-
-/// Takes the version line.
-#[tactic(auto, unfolding(crate::specs::steps::Files::take_version))]
-fn take_version(alloc: Global, mode: FileMode, line: &[u8]) -> Result<Stage, LineFault>
-    ensures { Gives state_of result (take_version mode line.now) }
-{
-    match version(line) {
-        Some(head) => Ok(Stage::Between(head, OpenRows::new(alloc, mode))),
-        None => Err(LineFault::Refused(version_kind(line))),
-    }
+pub struct Stage {
+    /// What the version line says. Before that line there is nothing else.
+    head: Option<Head>,
+    /// The rows that were read.
+    rows: OpenRows,
+    /// The shape whose lines are to come, where one is begun.
+    pending: Option<Pending>,
 }
 
 /// Takes a row, or refuses its line for this.
@@ -45,15 +35,15 @@ fn take_version(alloc: Global, mode: FileMode, line: &[u8]) -> Result<Stage, Lin
 fn take_row(
     alloc: Global,
     mode: FileMode,
-    rows: OpenRows,
+    rows: &mut OpenRows,
     row: Row,
     kind: ReadKind,
-) -> Result<OpenRows, LineFault>
+) -> Result<(), LineFault>
     requires { RowIsInRange row }
-    ensures { Gives (λ r. r) result (take_row mode rows row kind) }
+    ensures { Gives (λ _. rows.new) result (take_row mode rows.old row kind) }
 {
     match rows.take(alloc, mode, row) {
-        Ok(rows) => Ok(rows),
+        Ok(()) => Ok(()),
         Err(Refusal::NoMemory) => Err(LineFault::NoMemory),
         Err(Refusal::Stray) => Err(LineFault::Refused(kind)),
     }
@@ -78,23 +68,22 @@ fn read_line(
     }
 }
 
-/// Takes the row of a line behind a head.
+/// Takes the row of a line.
 #[tactic(auto, unfolding(crate::specs::steps::Files::take_row))]
 fn take_complete(
     alloc: Global,
     mode: FileMode,
-    head: Head,
-    rows: OpenRows,
+    rows: &mut OpenRows,
     row: Row,
     line: &[u8],
-) -> Result<Stage, LineFault>
+) -> Result<(), LineFault>
     requires { RowIsInRange row }
-    ensures { Gives state_of result (map_ok (between head)
-        (take_row mode rows row (refused_kind mode rows line.now OutOfRange))) }
+    ensures { Gives (λ _. rows.new) result
+        (take_row mode rows.old row (refused_kind mode rows.old line.now OutOfRange)) }
 {
-    let expected = Expected::behind(&rows, mode);
+    let expected = Expected::behind(rows, mode);
     match rows.take(alloc, mode, row) {
-        Ok(rows) => Ok(Stage::Between(head, rows)),
+        Ok(()) => Ok(()),
         Err(Refusal::NoMemory) => Err(LineFault::NoMemory),
         Err(Refusal::Stray) => {
             let kind = expected.line_kind(mode, line, ReadKind::OutOfRange);
@@ -103,78 +92,65 @@ fn take_complete(
     }
 }
 
-/// Begins a shape whose lines are to come.
+/// A shape whose lines are to come, where it may stand.
 fn take_begun(
     mode: FileMode,
-    head: Head,
-    rows: OpenRows,
+    rows: &OpenRows,
     pending: Pending,
     line: &[u8],
-) -> Result<Stage, LineFault>
-    ensures { Gives state_of result
-        (take_shape (rows_expect mode rows) head rows (pending_of pending)
-        (refused_kind mode rows line.now OutOfRange)) }
+) -> Result<Pending, LineFault>
+    ensures { Gives (λ p. Amid rows.now (pending_of p)) result
+        (take_shape (rows_expect mode rows.now) rows.now (pending_of pending)
+        (refused_kind mode rows.now line.now OutOfRange)) }
 {
-    let expected = Expected::behind(&rows, mode);
+    let expected = Expected::behind(rows, mode);
     if !expected.admits(&pending) {
         let kind = expected.line_kind(mode, line, ReadKind::OutOfRange);
         return Err(LineFault::Refused(kind));
     }
-    Ok(Stage::Amid(head, rows, pending))
+    Ok(pending)
 }
 
-/// Takes what a line says where a row comes next.
-fn take_said(
-    alloc: Global,
-    mode: FileMode,
-    head: Head,
-    rows: OpenRows,
-    said: SheetLine,
-    line: &[u8],
-) -> Result<Stage, LineFault>
-    requires { LineIsInRange said }
-    ensures { Gives state_of result (take_said mode head rows line.now (as_line said)) }
-{
-    match said {
-        SheetLine::Blank => Ok(Stage::Between(head, rows)),
-        SheetLine::Complete(row) => { take_complete(alloc, mode, head, rows, row, line) }
-        SheetLine::Begins(pending) => take_begun(mode, head, rows, pending, line),
-    }
-}
-
-/// Takes a line where a row comes next.
+/// Takes a line where a row comes next. Answers the shape whose lines are to come, if it begins
+/// one.
 #[tactic(auto, unfolding(crate::specs::steps::Files::take_between))]
 fn take_between(
     alloc: Global,
     mode: FileMode,
-    head: Head,
-    rows: OpenRows,
+    rows: &mut OpenRows,
     line: &[u8],
-) -> Result<Stage, LineFault>
-    ensures { Gives state_of result (take_between mode head rows line.now) }
+) -> Result<Option<Pending>, LineFault>
+    ensures { Gives (reader_of rows.new) result (take_between mode rows.old line.now) }
 {
-    let said = read_line(alloc, mode, &rows, line)?;
-    take_said(alloc, mode, head, rows, said, line)
+    match read_line(alloc, mode, rows, line)? {
+        SheetLine::Blank => Ok(None),
+        SheetLine::Complete(row) => {
+            take_complete(alloc, mode, rows, row, line)?;
+            Ok(None)
+        }
+        SheetLine::Begins(pending) => Ok(Some(take_begun(mode, rows, pending, line)?)),
+    }
 }
 
-/// Takes a line of a shape. A shape that was begun may stand there.
+/// Takes a line of a shape. Answers the shape while other lines are to come. A shape that was begun
+/// may stand there.
 #[tactic(auto, unfolding(crate::specs::steps::Files::take_amid))]
 fn take_amid(
     alloc: Global,
     mode: FileMode,
-    head: Head,
-    rows: OpenRows,
+    rows: &mut OpenRows,
     pending: Pending,
     line: &[u8],
-) -> Result<Stage, LineFault>
+) -> Result<Option<Pending>, LineFault>
     requires { IsCutLine line.now }
-    ensures { Gives state_of result (take_amid mode head rows (pending_of pending) line.now) }
+    ensures { Gives (reader_of rows.new) result
+        (take_amid mode rows.old (pending_of pending) line.now) }
 {
     match pending.with(alloc, line)? {
-        Progress::Still(pending) => Ok(Stage::Amid(head, rows, pending)),
+        Progress::Still(pending) => Ok(Some(pending)),
         Progress::Whole(shape) => {
-            let rows = take_row(alloc, mode, rows, Row::Drawn(shape), ReadKind::NotUtf8)?;
-            Ok(Stage::Between(head, rows))
+            take_row(alloc, mode, rows, Row::Drawn(shape), ReadKind::NotUtf8)?;
+            Ok(None)
         }
     }
 }
@@ -184,37 +160,73 @@ impl Stage {
     pub fn new(alloc: Global, mode: FileMode) -> Stage
         ensures { state_of result ≡ start_of mode }
     {
-        match mode {
-            FileMode::Object => {
-                let head = Head { date: 0, format: 1 };
-                Stage::Between(head, OpenRows::new(alloc, mode))
-            }
-            _ => Stage::Unbegun,
+        let head = match mode {
+            FileMode::Object => Some(Head { date: 0, format: 1 }),
+            _ => None,
+        };
+        Stage {
+            head,
+            rows: OpenRows::new(alloc, mode),
+            pending: None,
         }
     }
 
-    /// Takes the next line, or says why it is refused.
-    pub fn take(self, alloc: Global, mode: FileMode, line: &[u8]) -> Result<Stage, LineFault>
-        requires { IsCutLine line.now }
-        ensures { Gives state_of result (take_line mode (state_of self) line.now) }
+    /// Takes the version line.
+    #[tactic(auto, unfolding(crate::specs::steps::Files::take_version))]
+    fn take_version(&mut self, alloc: Global, mode: FileMode, line: &[u8]) -> Result<(), LineFault>
+        ensures { Gives (λ _. state_of self.new) result (take_version mode line.now) }
     {
-        match self {
-            Stage::Unbegun => take_version(alloc, mode, line),
-            Stage::Between(head, rows) => take_between(alloc, mode, head, rows, line),
-            Stage::Amid(head, rows, pending) => {
-                take_amid(alloc, mode, head, rows, pending, line)
-            }
+        let Some(head) = version(line) else {
+            return Err(LineFault::Refused(version_kind(line)));
+        };
+        *self = Stage {
+            head: Some(head),
+            rows: OpenRows::new(alloc, mode),
+            pending: None,
+        };
+        Ok(())
+    }
+
+    /// Takes a line of the shape whose lines are to come. Where there is none, nothing changes.
+    fn go_on(&mut self, alloc: Global, mode: FileMode, line: &[u8]) -> Result<(), LineFault>
+        requires { IsCutLine line.now }
+        ensures head { self.new.head ≡ self.old.head }
+        ensures more { Gives (λ _. reader_of self.new.rows self.new.pending) result
+            (go_on mode self.old.rows (option_map pending_of self.old.pending) line.now) }
+    {
+        let Some(pending) = self.pending.take() else {
+            return Ok(());
+        };
+        self.pending = take_amid(alloc, mode, &mut self.rows, pending, line)?;
+        Ok(())
+    }
+
+    /// Takes the next line, or says why it is refused.
+    pub fn take(&mut self, alloc: Global, mode: FileMode, line: &[u8]) -> Result<(), LineFault>
+        requires { IsCutLine line.now }
+        ensures { Gives (λ _. state_of self.new) result
+            (take_line mode (state_of self.old) line.now) }
+    {
+        if self.head.is_none() {
+            return self.take_version(alloc, mode, line);
         }
+        if self.pending.is_some() {
+            return self.go_on(alloc, mode, line);
+        }
+        if let Some(pending) = take_between(alloc, mode, &mut self.rows, line)? {
+            self.pending = Some(pending);
+        }
+        Ok(())
     }
 
     /// What is there behind the last line, or why one is missing. It takes no memory.
     pub fn end(self) -> Result<(Head, OpenRows), LineFault>
         ensures { Gives (λ p. p) result (end_rows (state_of self)) }
     {
-        match self {
-            Stage::Unbegun => Err(LineFault::Refused(ReadKind::NoVersion)),
-            Stage::Between(head, rows) => Ok((head, rows)),
-            Stage::Amid(_, _, _) => Err(LineFault::Refused(ReadKind::CutShort)),
+        match (self.head, self.pending) {
+            (None, _) => Err(LineFault::Refused(ReadKind::NoVersion)),
+            (Some(head), None) => Ok((head, self.rows)),
+            (Some(_), Some(_)) => Err(LineFault::Refused(ReadKind::CutShort)),
         }
     }
 }

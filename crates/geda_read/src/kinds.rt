@@ -9,10 +9,11 @@ ghost use Rattle.sheet_lines.specs.Pending.{pending_of};
 ghost use Rattle.geda_read.specs.steps.Rows.{is_symbol_file};
 ghost use Rattle.geda_read.specs.steps.Expecting.{has_room, is_stray_by, level_expects, line_kind, place_expects, place_kind, rows_expect, version_kind};
 
+use crate::objects::OpenObjects;
 use crate::parts::OpenParts;
 use crate::place::OpenSheet;
 use crate::rows::{FileMode, OpenRows};
-use geda_grammar::{Letter, Mode, Place, ReadKind};
+use geda_grammar::{Letter, Mode, ReadKind};
 use geda_model::MOST_OBJECTS;
 use geda_text::{fields, text_of};
 use sheet_lines::Pending;
@@ -60,14 +61,30 @@ fn level_expects<B: Drop>(mode: &Mode<B>, room: bool) -> Expected
     }
 }
 
-fn place_expects(sheet: &OpenSheet, most: usize) -> Expected
+fn objects_expect(objects: &OpenObjects, most: usize) -> Expected
+    ensures { result ≡ level_expects objects.now.mode
+        (has_room most objects.now.kept objects.now.mode) }
+{
+    let room = objects.kept.as_slice().len() + count(&objects.mode) < most;
+    level_expects(&objects.mode, room)
+}
+
+fn parts_expect(parts: &OpenParts) -> Expected
+    ensures { result ≡ level_expects parts.now.mode
+        (has_room most_objects parts.now.kept parts.now.mode) }
+{
+    let room = parts.kept.as_slice().len() + count(&parts.mode) < MOST_OBJECTS;
+    level_expects(&parts.mode, room)
+}
+
+fn sheet_expects(sheet: &OpenSheet, most: usize) -> Expected
     ensures { result ≡ place_expects most sheet.now }
 {
-    match &sheet.place {
-        Place::Objects(kept, mode) => {
-            level_expects(mode, kept.as_slice().len() + count(mode) < most)
-        }
-        Place::Waiting(_, _) => Expected {
+    let Some(symbol) = &sheet.symbol else {
+        return objects_expect(&sheet.objects, most);
+    };
+    match &symbol.parts {
+        None => Expected {
             full: false,
             shape: false,
             text: false,
@@ -76,22 +93,14 @@ fn place_expects(sheet: &OpenSheet, most: usize) -> Expected
             open_symbol: true,
             close_symbol: false,
         },
-        Place::Inside(_, _, kept, mode) => {
-            let room = kept.as_slice().len() + count(mode) < MOST_OBJECTS;
-            let expected = level_expects(mode, room);
+        Some(parts) => {
+            let expected = parts_expect(parts);
             Expected {
                 close_symbol: !expected.close_block,
                 ..expected
             }
         }
     }
-}
-
-fn parts_expect(parts: &OpenParts) -> Expected
-    ensures { result ≡ level_expects parts.now.mode (has_room most_objects parts.now.kept parts.now.mode) }
-{
-    let room = parts.kept.as_slice().len() + count(&parts.mode) < MOST_OBJECTS;
-    level_expects(&parts.mode, room)
 }
 
 fn is_object(letter: Option<Letter>) -> bool
@@ -150,17 +159,8 @@ impl Expected {
         ensures { result ≡ rows_expect mode rows.now }
     {
         match rows {
-            OpenRows::Sheet(sheet) => place_expects(sheet, mode.most()),
+            OpenRows::Sheet(sheet) => sheet_expects(sheet, mode.most()),
             OpenRows::Symbol(parts) => parts_expect(parts),
-            OpenRows::Object(_) => Expected {
-                full: true,
-                shape: false,
-                text: false,
-                open_block: false,
-                close_block: false,
-                open_symbol: false,
-                close_symbol: false,
-            },
         }
     }
 

@@ -1,9 +1,11 @@
-// The objects of a sheet that is being read.
-ghost use Rattle.std.specs.Prelude.{◌≡◌, ◌<◌, ◌≤◌, IfOk, Some, None, length};
+// The objects of a sheet that is being read. What moves a whole object is inlined, since LLVM then
+// moves it once.
+ghost use Rattle.std.specs.Prelude.{◌≡◌, ◌<◌, ◌≤◌, [], OnOk, length};
 ghost use Rattle.geda_model.specs.Limits.{most_objects};
 ghost use Rattle.geda_model.specs.Shapes.{ShapeIsInRange};
 ghost use Rattle.geda_model.specs.Sheets.{BodyIsInRange};
 ghost use Rattle.geda_model.specs.declared.object.Body.TheVariants as bodies;
+ghost use Rattle.geda_grammar.specs.declared.mode.Mode.TheVariants as modes;
 ghost use Rattle.geda_grammar.specs.steps.Levels as levels;
 ghost use Rattle.geda_grammar.specs.steps.Sheets.{make_object};
 ghost use Rattle.sheet_lines.specs.SheetLines.{RowIsInRange};
@@ -14,6 +16,7 @@ use geda_grammar::{Mode, Row};
 use geda_model::{Body, Object, Objects, Shape, Texts};
 use std::alloc::Global;
 use std::marker::Model;
+use std::mem;
 
 /// The objects before the last one, and the last one where a block may come for it.
 #[derive(Drop)]
@@ -36,93 +39,108 @@ impl Model for OpenObjects {
 }
 
 impl OpenObjects {
-    /// All objects, where there are fewer than so many and no block is open.
-    pub fn room(self, alloc: Global, most: usize) -> Result<Objects, Refusal>
-        requires { most ≤ most_objects }
-        ensures taken { Takes (λ v. v) result (levels.room make_object most self.kept self.mode) }
-        ensures few { IfOk result (λ v. length v < most_objects) }
+    /// No object. It takes no memory.
+    pub fn new(alloc: Global) -> OpenObjects
+        ensures { result ≡ record { kept = []; mode = modes.Settled } }
     {
-        let OpenObjects { mut kept, mode } = self;
-        match mode {
+        OpenObjects {
+            kept: Objects::new(alloc),
+            mode: Mode::Settled,
+        }
+    }
+
+    /// Puts the last object behind the others, where one more has room and no block is open.
+    #[inline(always)]
+    pub fn settle(&mut self, alloc: Global, most: usize) -> Result<(), Refusal>
+        requires { most ≤ most_objects }
+        ensures taken { Takes (λ _. self.new.kept) result
+            (levels.room make_object most self.old.kept self.old.mode) }
+        ensures few { OnOk result (length self.new.kept < most_objects) }
+    {
+        match mem::replace(&mut self.mode, Mode::Settled) {
             Mode::Settled => {}
             Mode::Last(body) => {
                 let attrs = Texts::new(alloc);
-                kept.push(Object { body, attrs })?;
+                self.kept.push(Object { body, attrs })?;
             }
             Mode::Block(_, _) => return Err(Refusal::Stray),
         }
-        if kept.as_slice().len() >= most {
+        if self.kept.as_slice().len() >= most {
             return Err(Refusal::Stray);
         }
-        Ok(kept)
+        Ok(())
     }
 
-    /// One object more, for which a block may come.
-    pub fn push(self, alloc: Global, most: usize, body: Body) -> Result<OpenObjects, Refusal>
+    /// Begins the last object, for which a block may come, behind those that are kept.
+    #[inline(always)]
+    pub fn begin(&mut self, body: Body)
+        requires few { length self.old.kept < most_objects }
+        requires range { BodyIsInRange body }
+        ensures { self.new ≡ levels.begun body self.old.kept }
+    {
+        self.mode = Mode::Last(body);
+    }
+
+    /// Takes one object more, for which a block may come.
+    #[inline(always)]
+    pub fn push(&mut self, alloc: Global, most: usize, body: Body) -> Result<(), Refusal>
         requires most { most ≤ most_objects }
         requires range { BodyIsInRange body }
-        ensures { Takes (λ l. l) result (levels.push make_object most body self.kept self.mode) }
+        ensures { Takes (λ _. self.new) result
+            (levels.push make_object most body self.old.kept self.old.mode) }
     {
-        let kept = self.room(alloc, most)?;
-        Ok(OpenObjects {
-            kept,
-            mode: Mode::Last(body),
-        })
+        self.settle(alloc, most)?;
+        self.begin(body);
+        Ok(())
     }
 
-    fn put(self, alloc: Global, most: usize, shape: Shape) -> Result<OpenObjects, Refusal>
+    fn put(&mut self, alloc: Global, most: usize, shape: Shape) -> Result<(), Refusal>
         requires most { most ≤ most_objects }
         requires range { ShapeIsInRange shape }
-        ensures { Takes (λ l. l) result
-            (levels.put make_object bodies.Shape most shape self.kept self.mode) }
+        ensures { Takes (λ _. self.new) result
+            (levels.put make_object bodies.Shape most shape self.old.kept self.old.mode) }
     {
-        let OpenObjects { kept, mode } = self;
-        match (mode, shape) {
-            (Mode::Block(last, mut texts), Shape::Text(text)) => {
-                texts.push(text)?;
-                let mode = Mode::Block(last, texts);
-                Ok(OpenObjects { kept, mode })
-            }
-            (Mode::Block(_, _), _) => Err(Refusal::Stray),
-            (mode, shape) => OpenObjects { kept, mode }.push(alloc, most, Body::Shape(shape)),
+        if let Mode::Block(_, texts) = &mut self.mode {
+            let Shape::Text(text) = shape else {
+                return Err(Refusal::Stray);
+            };
+            texts.push(text)?;
+            return Ok(());
         }
+        self.push(alloc, most, Body::Shape(shape))
     }
 
-    fn open_block(self, alloc: Global) -> Result<OpenObjects, Refusal>
-        ensures { Takes (λ l. l) result (levels.open_block self.kept self.mode) }
+    fn open_block(&mut self, alloc: Global) -> Result<(), Refusal>
+        ensures { Takes (λ _. self.new) result (levels.open_block self.old.kept self.old.mode) }
     {
-        let OpenObjects { kept, mode } = self;
-        match mode {
-            Mode::Last(body) => Ok(OpenObjects {
-                kept,
-                mode: Mode::Block(body, Texts::new(alloc)),
-            }),
+        match mem::replace(&mut self.mode, Mode::Settled) {
+            Mode::Last(body) => {
+                self.mode = Mode::Block(body, Texts::new(alloc));
+                Ok(())
+            }
             _ => Err(Refusal::Stray),
         }
     }
 
-    fn close_block(self) -> Result<OpenObjects, Refusal>
-        ensures { Takes (λ l. l) result (levels.close_block make_object self.kept self.mode) }
+    fn close_block(&mut self) -> Result<(), Refusal>
+        ensures { Takes (λ _. self.new) result
+            (levels.close_block make_object self.old.kept self.old.mode) }
     {
-        let OpenObjects { mut kept, mode } = self;
-        match mode {
+        match mem::replace(&mut self.mode, Mode::Settled) {
             Mode::Block(body, attrs) => {
-                kept.push(Object { body, attrs })?;
-                Ok(OpenObjects {
-                    kept,
-                    mode: Mode::Settled,
-                })
+                self.kept.push(Object { body, attrs })?;
+                Ok(())
             }
             _ => Err(Refusal::Stray),
         }
     }
 
     /// Takes a row that is no component's.
-    pub fn take(self, alloc: Global, most: usize, row: Row) -> Result<OpenObjects, Refusal>
+    pub fn take(&mut self, alloc: Global, most: usize, row: Row) -> Result<(), Refusal>
         requires most { most ≤ most_objects }
         requires range { RowIsInRange row }
-        ensures { Takes (λ l. l) result
-            (levels.level_step make_object bodies.Shape most self.kept self.mode row) }
+        ensures { Takes (λ _. self.new) result
+            (levels.level_step make_object bodies.Shape most self.old.kept self.old.mode row) }
     {
         match row {
             Row::Drawn(shape) => self.put(alloc, most, shape),

@@ -1,7 +1,9 @@
-// The parts of a symbol that is being read.
-ghost use Rattle.std.specs.Prelude.{◌≡◌, ◌<◌, ◌+◌, IfOk, length};
+// The parts of a symbol that is being read. What moves a whole part is inlined, since LLVM then
+// moves it once.
+ghost use Rattle.std.specs.Prelude.{◌≡◌, ◌<◌, [], OnOk, length};
 ghost use Rattle.geda_model.specs.Limits.{most_objects};
 ghost use Rattle.geda_model.specs.Shapes.{ShapeIsInRange};
+ghost use Rattle.geda_grammar.specs.declared.mode.Mode.TheVariants as modes;
 ghost use Rattle.geda_grammar.specs.steps.Levels as levels;
 ghost use Rattle.geda_grammar.specs.steps.Sheets.{make_part, part_step};
 ghost use Rattle.geda_read.specs.steps.Levels.{PartsStand, Takes};
@@ -12,6 +14,7 @@ use geda_grammar::{Mode, Row};
 use geda_model::{MOST_OBJECTS, Part, Parts, Shape, Texts};
 use std::alloc::Global;
 use std::marker::Model;
+use std::mem;
 
 /// The parts before the last one, and the last one where a block may come for it.
 #[derive(Drop)]
@@ -34,89 +37,92 @@ impl Model for OpenParts {
 }
 
 impl OpenParts {
-    /// All parts, where there is room for one more and no block is open.
-    fn room(self, alloc: Global) -> Result<Parts, Refusal>
-        ensures taken { Takes (λ v. v) result
-            (levels.room make_part most_objects self.kept self.mode) }
-        ensures few { IfOk result (λ v. length v < most_objects) }
+    /// No part. It takes no memory.
+    pub fn new(alloc: Global) -> OpenParts
+        ensures { result ≡ record { kept = []; mode = modes.Settled } }
     {
-        let OpenParts { mut kept, mode } = self;
-        match mode {
+        OpenParts {
+            kept: Parts::new(alloc),
+            mode: Mode::Settled,
+        }
+    }
+
+    /// Puts the last part behind the others, where one more has room and no block is open.
+    #[inline(always)]
+    fn settle(&mut self, alloc: Global) -> Result<(), Refusal>
+        ensures taken { Takes (λ _. self.new.kept) result
+            (levels.room make_part most_objects self.old.kept self.old.mode) }
+        ensures few { OnOk result (length self.new.kept < most_objects) }
+    {
+        match mem::replace(&mut self.mode, Mode::Settled) {
             Mode::Settled => {}
             Mode::Last(shape) => {
                 let attrs = Texts::new(alloc);
-                kept.push(Part { shape, attrs })?;
+                self.kept.push(Part { shape, attrs })?;
             }
             Mode::Block(_, _) => return Err(Refusal::Stray),
         }
-        if kept.as_slice().len() >= MOST_OBJECTS {
+        if self.kept.as_slice().len() >= MOST_OBJECTS {
             return Err(Refusal::Stray);
         }
-        Ok(kept)
+        Ok(())
     }
 
-    fn push(self, alloc: Global, shape: Shape) -> Result<OpenParts, Refusal>
+    #[inline(always)]
+    fn push(&mut self, alloc: Global, shape: Shape) -> Result<(), Refusal>
         requires { ShapeIsInRange shape }
-        ensures { Takes (λ l. l) result
-            (levels.push make_part most_objects shape self.kept self.mode) }
+        ensures { Takes (λ _. self.new) result
+            (levels.push make_part most_objects shape self.old.kept self.old.mode) }
     {
-        let kept = self.room(alloc)?;
-        Ok(OpenParts {
-            kept,
-            mode: Mode::Last(shape),
-        })
+        self.settle(alloc)?;
+        self.mode = Mode::Last(shape);
+        Ok(())
     }
 
-    fn put(self, alloc: Global, shape: Shape) -> Result<OpenParts, Refusal>
+    fn put(&mut self, alloc: Global, shape: Shape) -> Result<(), Refusal>
         requires { ShapeIsInRange shape }
-        ensures { Takes (λ l. l) result
-            (levels.put make_part (λ s. s) most_objects shape self.kept self.mode) }
+        ensures { Takes (λ _. self.new) result
+            (levels.put make_part (λ s. s) most_objects shape self.old.kept self.old.mode) }
     {
-        let OpenParts { kept, mode } = self;
-        match (mode, shape) {
-            (Mode::Block(last, mut texts), Shape::Text(text)) => {
-                texts.push(text)?;
-                let mode = Mode::Block(last, texts);
-                Ok(OpenParts { kept, mode })
-            }
-            (Mode::Block(_, _), _) => Err(Refusal::Stray),
-            (mode, shape) => OpenParts { kept, mode }.push(alloc, shape),
+        if let Mode::Block(_, texts) = &mut self.mode {
+            let Shape::Text(text) = shape else {
+                return Err(Refusal::Stray);
+            };
+            texts.push(text)?;
+            return Ok(());
         }
+        self.push(alloc, shape)
     }
 
-    fn open_block(self, alloc: Global) -> Result<OpenParts, Refusal>
-        ensures { Takes (λ l. l) result (levels.open_block self.kept self.mode) }
+    fn open_block(&mut self, alloc: Global) -> Result<(), Refusal>
+        ensures { Takes (λ _. self.new) result (levels.open_block self.old.kept self.old.mode) }
     {
-        let OpenParts { kept, mode } = self;
-        match mode {
-            Mode::Last(shape) => Ok(OpenParts {
-                kept,
-                mode: Mode::Block(shape, Texts::new(alloc)),
-            }),
+        match mem::replace(&mut self.mode, Mode::Settled) {
+            Mode::Last(shape) => {
+                self.mode = Mode::Block(shape, Texts::new(alloc));
+                Ok(())
+            }
             _ => Err(Refusal::Stray),
         }
     }
 
-    fn close_block(self) -> Result<OpenParts, Refusal>
-        ensures { Takes (λ l. l) result (levels.close_block make_part self.kept self.mode) }
+    fn close_block(&mut self) -> Result<(), Refusal>
+        ensures { Takes (λ _. self.new) result
+            (levels.close_block make_part self.old.kept self.old.mode) }
     {
-        let OpenParts { mut kept, mode } = self;
-        match mode {
+        match mem::replace(&mut self.mode, Mode::Settled) {
             Mode::Block(shape, attrs) => {
-                kept.push(Part { shape, attrs })?;
-                Ok(OpenParts {
-                    kept,
-                    mode: Mode::Settled,
-                })
+                self.kept.push(Part { shape, attrs })?;
+                Ok(())
             }
             _ => Err(Refusal::Stray),
         }
     }
 
     /// Takes a row of a symbol.
-    pub fn take(self, alloc: Global, row: Row) -> Result<OpenParts, Refusal>
+    pub fn take(&mut self, alloc: Global, row: Row) -> Result<(), Refusal>
         requires { RowIsInRange row }
-        ensures { Takes (λ l. l) result (part_step self.kept self.mode row) }
+        ensures { Takes (λ _. self.new) result (part_step self.old.kept self.old.mode row) }
     {
         match row {
             Row::Drawn(shape) => self.put(alloc, shape),

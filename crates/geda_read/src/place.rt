@@ -1,37 +1,49 @@
 // The objects of a sheet, and the embedded symbol that is open among them.
-ghost use Rattle.std.specs.Prelude.{◌≡◌, ◌<◌, ◌≤◌, [], Option, length};
+ghost use Rattle.std.specs.Prelude.{◌≡◌, ◌≢◌, ◌≤◌, []};
 ghost use Rattle.geda_model.specs.Limits.{most_objects};
 ghost use Rattle.geda_grammar.specs.declared.mode.Mode.TheVariants as modes;
 ghost use Rattle.geda_grammar.specs.declared.place.Place.TheVariants as places;
-ghost use Rattle.geda_grammar.specs.steps.Sheets.{component_of, inside_step, object_step, sheet_end, sheet_step};
-ghost use Rattle.geda_read.specs.declared.rows.OpenRows.TheVariants as rows;
+ghost use Rattle.geda_grammar.specs.declared.row.Row.TheVariants as grammar_rows;
+ghost use Rattle.geda_grammar.specs.steps.Sheets.{component_of, object_step, sheet_end, sheet_step};
 ghost use Rattle.sheet_lines.specs.SheetLines.{RowIsInRange};
 ghost use Rattle.geda_read.specs.steps.Levels.{Takes};
-ghost use Rattle.geda_read.specs.steps.Rows.{one_object};
+ghost use Rattle.geda_read.specs.steps.Embeddings.{awaiting, close_step, embedding_step};
 
 use crate::objects::OpenObjects;
 use crate::parts::OpenParts;
 use crate::refusal::Refusal;
-use geda_grammar::{ComponentLine, Mode, Place, Row};
-use geda_model::{Body, Component, Object, Objects, Parts, Texts};
+use geda_grammar::{ComponentLine, Row};
+use geda_model::{Body, Component, Objects, Parts};
 use std::alloc::Global;
 use std::marker::Model;
+
+/// A component whose embedded symbol is to come, or is open.
+#[derive(Drop)]
+pub struct OpenSymbol {
+    /// The component's line.
+    pub line: ComponentLine,
+    /// What is there of the symbol, where it is open.
+    pub parts: Option<OpenParts>,
+}
 
 /// What is there of a sheet.
 #[derive(Drop)]
 pub struct OpenSheet {
-    pub place: Place,
+    /// Its objects.
+    pub objects: OpenObjects,
+    /// The symbol that comes behind them, if one is to come or open.
+    pub symbol: Option<OpenSymbol>,
 }
 
 impl Model for OpenSheet {
     ghost use Rattle.geda_grammar.specs.declared.place.Place.{Place};
-    ghost use Rattle.geda_read.specs.steps.Levels.{PlaceStands};
+    ghost use Rattle.geda_read.specs.steps.Embeddings.{HasRoomFor, place_of};
 
     ghost Value = { Place };
 
-    ghost view = { λ s. s.place };
+    ghost view = { λ s. place_of s.objects s.symbol };
 
-    ghost invariant = { λ s. PlaceStands s.place };
+    ghost invariant = { λ s. HasRoomFor s.objects s.symbol };
 }
 
 /// The component of a line, by its symbol.
@@ -57,65 +69,50 @@ fn component(line: ComponentLine, embedded: Option<Parts>) -> Component
     }
 }
 
-/// Takes a row where an object may stand.
+/// Takes a row where an object may stand. Answers the line of a component whose symbol is to come.
 fn take_among(
-    objects: OpenObjects,
+    objects: &mut OpenObjects,
     alloc: Global,
     most: usize,
     row: Row,
-) -> Result<OpenSheet, Refusal>
+) -> Result<Option<ComponentLine>, Refusal>
     requires most { most ≤ most_objects }
     requires range { RowIsInRange row }
-    ensures { Takes (λ s. s) result (object_step most objects.kept objects.mode row) }
+    ensures { Takes (awaiting objects.new) result
+        (object_step most objects.old.kept objects.old.mode row) }
 {
     match row {
         Row::Library(line) => {
             let body = Body::Component(component(line, None));
-            let OpenObjects { kept, mode } = objects.push(alloc, most, body)?;
-            Ok(OpenSheet {
-                place: Place::Objects(kept, mode),
-            })
+            objects.push(alloc, most, body)?;
+            Ok(None)
         }
         Row::Embedding(line) => {
-            let kept = objects.room(alloc, most)?;
-            Ok(OpenSheet {
-                place: Place::Waiting(kept, line),
-            })
+            objects.settle(alloc, most)?;
+            Ok(Some(line))
         }
         row => {
-            let OpenObjects { kept, mode } = objects.take(alloc, most, row)?;
-            Ok(OpenSheet {
-                place: Place::Objects(kept, mode),
-            })
+            objects.take(alloc, most, row)?;
+            Ok(None)
         }
     }
 }
 
-/// Takes a row of an embedded symbol.
-fn take_inside(
-    objects: Objects,
-    line: ComponentLine,
-    parts: OpenParts,
-    alloc: Global,
-    row: Row,
-) -> Result<OpenSheet, Refusal>
-    requires few { length objects < most_objects }
-    requires range { RowIsInRange row }
-    ensures { Takes (λ s. s) result (inside_step objects line parts.kept parts.mode row) }
-{
-    match row {
-        Row::CloseSymbol => {
-            let parts = parts.close(alloc)?;
-            let body = Body::Component(component(line, Some(parts)));
-            Ok(OpenSheet {
-                place: Place::Objects(objects, Mode::Last(body)),
-            })
+impl OpenSymbol {
+    /// Takes a row that does not close the symbol.
+    fn take(&mut self, alloc: Global, row: Row) -> Result<(), Refusal>
+        requires { RowIsInRange row }
+        ensures { Takes (λ _. self.new) result (embedding_step self.old row) }
+    {
+        if let Some(parts) = &mut self.parts {
+            return parts.take(alloc, row);
         }
-        row => {
-            let OpenParts { kept, mode } = parts.take(alloc, row)?;
-            Ok(OpenSheet {
-                place: Place::Inside(objects, line, kept, mode),
-            })
+        match row {
+            Row::OpenSymbol => {
+                self.parts = Some(OpenParts::new(alloc));
+                Ok(())
+            }
+            _ => Err(Refusal::Stray),
         }
     }
 }
@@ -126,29 +123,52 @@ impl OpenSheet {
         ensures { result ≡ places.Objects [] modes.Settled }
     {
         OpenSheet {
-            place: Place::Objects(Objects::new(alloc), Mode::Settled),
+            objects: OpenObjects::new(alloc),
+            symbol: None,
         }
     }
 
-    /// Takes a row of a sheet, which has room for so many objects.
-    pub fn take(self, alloc: Global, most: usize, row: Row) -> Result<OpenSheet, Refusal>
+    /// Takes the `]` of the symbol that is open.
+    fn close_symbol(&mut self, alloc: Global) -> Result<(), Refusal>
+        ensures { Takes (λ _. self.new) result (close_step self.old) }
+    {
+        let Some(OpenSymbol { line, parts }) = self.symbol.take() else {
+            return Err(Refusal::Stray);
+        };
+        let Some(parts) = parts else {
+            return Err(Refusal::Stray);
+        };
+        let parts = parts.close(alloc)?;
+        self.objects
+            .begin(Body::Component(component(line, Some(parts))));
+        Ok(())
+    }
+
+    /// Takes a row that is no `]`.
+    fn take_other(&mut self, alloc: Global, most: usize, row: Row) -> Result<(), Refusal>
         requires most { most ≤ most_objects }
         requires range { RowIsInRange row }
-        ensures { Takes (λ s. s) result (sheet_step most self row) }
+        requires other { row ≢ grammar_rows.CloseSymbol }
+        ensures { Takes (λ _. self.new) result (sheet_step most self.old row) }
     {
-        match self.place {
-            Place::Objects(kept, mode) => {
-                take_among(OpenObjects { kept, mode }, alloc, most, row)
-            }
-            Place::Waiting(objects, line) => match row {
-                Row::OpenSymbol => Ok(OpenSheet {
-                    place: Place::Inside(objects, line, Parts::new(alloc), Mode::Settled),
-                }),
-                _ => Err(Refusal::Stray),
-            },
-            Place::Inside(objects, line, kept, mode) => {
-                take_inside(objects, line, OpenParts { kept, mode }, alloc, row)
-            }
+        if let Some(symbol) = &mut self.symbol {
+            return symbol.take(alloc, row);
+        }
+        if let Some(line) = take_among(&mut self.objects, alloc, most, row)? {
+            self.symbol = Some(OpenSymbol { line, parts: None });
+        }
+        Ok(())
+    }
+
+    /// Takes a row of a sheet, which has room for so many objects.
+    pub fn take(&mut self, alloc: Global, most: usize, row: Row) -> Result<(), Refusal>
+        requires most { most ≤ most_objects }
+        requires range { RowIsInRange row }
+        ensures { Takes (λ _. self.new) result (sheet_step most self.old row) }
+    {
+        match row {
+            Row::CloseSymbol => self.close_symbol(alloc),
+            row => self.take_other(alloc, most, row),
         }
     }
 
@@ -156,28 +176,9 @@ impl OpenSheet {
     pub fn close(self, alloc: Global) -> Result<Objects, Refusal>
         ensures { Takes (λ v. v) result (sheet_end self) }
     {
-        match self.place {
-            Place::Objects(kept, mode) => OpenObjects { kept, mode }.close(alloc),
-            _ => Err(Refusal::Stray),
-        }
-    }
-
-    /// The last object, where no other stands before it, and no block was opened for it.
-    pub fn only_last(self, alloc: Global) -> Result<Object, Refusal>
-        ensures { Takes (λ v. v) result (one_object (rows.Sheet self)) }
-    {
-        match self.place {
-            Place::Objects(kept, mode) => match mode {
-                Mode::Last(body) => {
-                    if kept.as_slice().len() != 0 {
-                        return Err(Refusal::Stray);
-                    }
-                    let attrs = Texts::new(alloc);
-                    Ok(Object { body, attrs })
-                }
-                _ => Err(Refusal::Stray),
-            },
-            _ => Err(Refusal::Stray),
+        match self.symbol {
+            None => self.objects.close(alloc),
+            Some(_) => Err(Refusal::Stray),
         }
     }
 }

@@ -35,9 +35,8 @@ fn take_lines(alloc: Global, mode: FileMode, cutter: &mut Cutter) -> Result<Stag
 {
     let mut stage = Stage::new(alloc, mode);
     while let Some(line) = cutter.next() {
-        match stage.take(alloc, mode, line) {
-            Ok(next) => stage = next,
-            Err(fault) => return Err(fault_at(fault, cutter.line())),
+        if let Err(fault) = stage.take(alloc, mode, line) {
+            return Err(fault_at(fault, cutter.line()));
         }
     }
     Ok(stage)

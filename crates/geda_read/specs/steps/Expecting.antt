@@ -17,7 +17,7 @@ use Rattle.geda_grammar.specs.declared.place.Place.TheVariants.{Objects, Waiting
 use Rattle.geda_read.specs.declared.kinds.Expected.{Expected}
 use Rattle.geda_read.specs.declared.rows.FileMode.{FileMode}
 use Rattle.geda_read.specs.declared.rows.OpenRows.{OpenRows}
-use Rattle.geda_read.specs.declared.rows.OpenRows.TheVariants.{Sheet, Symbol, Object}
+use Rattle.geda_read.specs.declared.rows.OpenRows.TheVariants.{Sheet, Symbol}
 use Rattle.geda_read.specs.steps.Levels.{count_of}
 use Rattle.geda_read.specs.steps.Rows.{most_of}
 
@@ -86,24 +86,11 @@ place_expects most (Waiting os line) = expects_symbol
 place_expects most (Inside os line kept mode) =
     or_close (level_expects mode (has_room most_objects kept mode))
 
--- nothing, since one more would be one too many
-abbrev pub expects_nothing : Expected
-expects_nothing = record {
-  full = true;
-  shape = false;
-  text = false;
-  open_block = false;
-  close_block = false;
-  open_symbol = false;
-  close_symbol = false;
-}
-
 -- in each kind of file
 unfoldable pub rows_expect : FileMode → OpenRows → Expected
 rows_expect mode (Sheet place) = place_expects (most_of mode) place
 rows_expect mode (Symbol level) =
     level_expects level.mode (has_room most_objects level.kept level.mode)
-rows_expect mode (Object object) = expects_nothing
 
 -- a bracket that may not come
 abbrev pub is_stray_by : Expected → Option Letter → Bool

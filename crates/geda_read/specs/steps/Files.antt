@@ -10,12 +10,11 @@ use Rattle.geda_grammar.specs.declared.kind.ReadKind.TheVariants.{CutShort, NotU
 use Rattle.geda_grammar.specs.declared.row.Row.{Row}
 use Rattle.geda_grammar.specs.declared.row.Row.TheVariants.{Drawn}
 use Rattle.geda_grammar.specs.steps.Following.{Pending, TextLines, more}
-use Rattle.geda_grammar.specs.steps.Reading.{SheetLine, Blank, Complete, Begins, Faulty, Progress, Still, Whole, Ready, Amid}
+use Rattle.geda_grammar.specs.steps.Reading.{ReaderState, SheetLine, Blank, Complete, Begins, Faulty, Progress, Still, Whole, Ready, Amid}
 use Rattle.geda_grammar.specs.steps.SheetLines.{sheet_line}
 use Rattle.geda_grammar.specs.steps.Tests.{kind_or}
 use Rattle.geda_grammar.specs.steps.Files.{FileState, Unbegun, Begun, file_start, make_object, make_sheet, make_symbol, version_of}
 use Rattle.geda_read.specs.declared.file.Stage.{Stage}
-use Rattle.geda_read.specs.declared.file.Stage.TheVariants as stages
 use Rattle.geda_read.specs.declared.kinds.Expected.{Expected}
 use Rattle.geda_read.specs.declared.rows.FileMode.{FileMode}
 use Rattle.geda_read.specs.declared.rows.FileMode.TheVariants as files
@@ -29,18 +28,21 @@ use Rattle.geda_read.specs.declared.fault.ReadFault.{ReadFault}
 use Rattle.geda_read.specs.declared.fault.ReadFault.TheVariants as reads
 use Rattle.sheet_lines.specs.declared.fault.LineFault.{LineFault}
 use Rattle.sheet_lines.specs.declared.fault.LineFault.TheVariants as faults
-use Rattle.sheet_lines.specs.declared.line.SheetLine as code
+use Rattle.sheet_lines.specs.declared.line.SheetLine as lines
+use Rattle.sheet_lines.specs.declared.pending.Pending as code
+
+-- between rows, or amid the shape whose lines are to come
+abbrev pub reader_of : OpenRows → Option code.Pending → ReaderState OpenRows Pending
+reader_of rows None = Ready rows
+reader_of rows (Some pending) = Amid rows (pending_of pending)
 
 -- where it stands
 abbrev pub state_of : Stage → FileState OpenRows
-state_of stages.Unbegun = Unbegun
-state_of (stages.Between head rows) = Begun head (Ready rows)
-state_of (stages.Amid head rows pending) = Begun head (Amid rows (pending_of pending))
-
--- a file's mode, and where it stands
-pub record OpenFileData : Type 0 where
-  pub mode : FileMode
-  pub state : FileState OpenRows
+state_of stage = of_head stage.head
+  where
+    of_head : Option HeadData → FileState OpenRows
+    of_head None = Unbegun
+    of_head (Some head) = Begun head (reader_of stage.rows stage.pending)
 
 -- where a file starts
 abbrev pub is_versioned : FileMode → Bool
@@ -55,12 +57,9 @@ abbrev pub or_refused : {A : Type 0} → ReadKind → Option A → Result A Read
 or_refused kind None = Err kind
 or_refused kind (Some a) = Ok a
 
--- behind a head, between rows
-abbrev pub between : HeadData → OpenRows → FileState OpenRows
-between head rows = Begun head (Ready rows)
-
+-- behind a head, where nothing is there
 abbrev pub begun : FileMode → HeadData → FileState OpenRows
-begun mode head = between head (rows_start mode)
+begun mode head = Begun head (Ready (rows_start mode))
 
 -- the version line
 unfoldable pub take_version : FileMode → List ℕ → Result (FileState OpenRows) ReadKind
@@ -88,28 +87,28 @@ map_ok f (Ok a) = Ok (f a)
 map_ok f (Err kind) = Err kind
 
 -- a shape whose lines are to come, or else this kind
-abbrev pub take_shape : Expected → HeadData → OpenRows → Pending → ReadKind →
-    Result (FileState OpenRows) ReadKind
-take_shape expected head rows pending kind =
-    if admits_by expected pending then Ok (Begun head (Amid rows pending)) else Err kind
+abbrev pub take_shape : Expected → OpenRows → Pending → ReadKind →
+    Result (ReaderState OpenRows Pending) ReadKind
+take_shape expected rows pending kind =
+    if admits_by expected pending then Ok (Amid rows pending) else Err kind
 
 -- what a line says, where a row comes next
-abbrev pub take_said : FileMode → HeadData → OpenRows → List ℕ → SheetLine Pending →
-    Result (FileState OpenRows) ReadKind
-take_said mode head rows line Blank = Ok (between head rows)
-take_said mode head rows line (Complete row) =
-    map_ok (between head) (take_row mode rows row (refused_kind mode rows line OutOfRange))
-take_said mode head rows line (Begins pending) =
-    take_shape (rows_expect mode rows) head rows pending (refused_kind mode rows line OutOfRange)
-take_said mode head rows line Faulty =
+abbrev pub take_said : FileMode → OpenRows → List ℕ → SheetLine Pending →
+    Result (ReaderState OpenRows Pending) ReadKind
+take_said mode rows line Blank = Ok (Ready rows)
+take_said mode rows line (Complete row) =
+    map_ok Ready (take_row mode rows row (refused_kind mode rows line OutOfRange))
+take_said mode rows line (Begins pending) =
+    take_shape (rows_expect mode rows) rows pending (refused_kind mode rows line OutOfRange)
+take_said mode rows line Faulty =
     Err (refused_kind mode rows line (kind_or OutOfRange (own_kind line)))
 
-unfoldable pub take_between : FileMode → HeadData → OpenRows → List ℕ →
-    Result (FileState OpenRows) ReadKind
-take_between mode head rows line = take_said mode head rows line (sheet_line line)
+unfoldable pub take_between : FileMode → OpenRows → List ℕ →
+    Result (ReaderState OpenRows Pending) ReadKind
+take_between mode rows line = take_said mode rows line (sheet_line line)
 
 -- a line is read as what it says, or refused for its kind where this may come
-abbrev pub IsReadBy : Bool → Expected → List ℕ → Result code.SheetLine LineFault → Type 0
+abbrev pub IsReadBy : Bool → Expected → List ℕ → Result lines.SheetLine LineFault → Type 0
 IsReadBy is_symbol expected line (Ok said) = sheet_line line ≡ as_line said
 IsReadBy is_symbol expected line (Err faults.NoMemory) = Unit {0}
 IsReadBy is_symbol expected line (Err (faults.Refused kind)) =
@@ -117,23 +116,30 @@ IsReadBy is_symbol expected line (Err (faults.Refused kind)) =
     (kind ≡ line_kind is_symbol expected line (kind_or OutOfRange (own_kind line)))
 
 -- a line of a shape
-abbrev pub take_more : FileMode → HeadData → OpenRows → Option (Progress Pending) →
-    Result (FileState OpenRows) ReadKind
-take_more mode head rows None = Err NotUtf8
-take_more mode head rows (Some (Still pending)) = Ok (Begun head (Amid rows pending))
-take_more mode head rows (Some (Whole shape)) =
-    map_ok (between head) (take_row mode rows (Drawn shape) NotUtf8)
+abbrev pub take_more : FileMode → OpenRows → Option (Progress Pending) →
+    Result (ReaderState OpenRows Pending) ReadKind
+take_more mode rows None = Err NotUtf8
+take_more mode rows (Some (Still pending)) = Ok (Amid rows pending)
+take_more mode rows (Some (Whole shape)) =
+    map_ok Ready (take_row mode rows (Drawn shape) NotUtf8)
 
-unfoldable pub take_amid : FileMode → HeadData → OpenRows → Pending → List ℕ →
-    Result (FileState OpenRows) ReadKind
-take_amid mode head rows pending line = take_more mode head rows (more pending line)
+unfoldable pub take_amid : FileMode → OpenRows → Pending → List ℕ →
+    Result (ReaderState OpenRows Pending) ReadKind
+take_amid mode rows pending line = take_more mode rows (more pending line)
+
+-- the same where a shape may wait for lines
+abbrev pub go_on : FileMode → OpenRows → Option Pending → List ℕ →
+    Result (ReaderState OpenRows Pending) ReadKind
+go_on mode rows None line = Ok (Ready rows)
+go_on mode rows (Some pending) line = take_amid mode rows pending line
 
 -- one line more
 abbrev pub take_line : FileMode → FileState OpenRows → List ℕ →
     Result (FileState OpenRows) ReadKind
 take_line mode Unbegun line = take_version mode line
-take_line mode (Begun head (Ready rows)) line = take_between mode head rows line
-take_line mode (Begun head (Amid rows pending)) line = take_amid mode head rows pending line
+take_line mode (Begun head (Ready rows)) line = map_ok (Begun head) (take_between mode rows line)
+take_line mode (Begun head (Amid rows pending)) line =
+    map_ok (Begun head) (take_amid mode rows pending line)
 
 -- all lines, or the kind and the number of the first that is refused; so many came before
 abbrev pub or_later : {A B : Type 0} → ℕ → Result A ReadKind → (A → Result B (ReadKind × ℕ)) →

@@ -1,6 +1,6 @@
 -- Steps of the code; no public clause cites them.
 -- What is taken of a row, and what a list that is being read keeps.
-use Rattle.std.specs.Prelude.{◌≡◌, ◌≤◌, ◌<◌, ◌+◌, ℕ, List, length, Option, Some, None, Result, Ok, Err}
+use Rattle.std.specs.Prelude.{◌≡◌, ◌≤◌, ◌+◌, ℕ, List, length, Option, Some, None, Result, Ok, Err}
 use Rattle.geda_model.specs.Limits.{most_objects}
 use Rattle.geda_model.specs.Shapes.{PartData, ShapeIsInRange}
 use Rattle.geda_model.specs.Sheets.{ObjectData, BodyIsInRange}
@@ -8,8 +8,6 @@ use Rattle.geda_model.specs.declared.shape.Shape.{Shape}
 use Rattle.geda_model.specs.declared.object.Body.{Body}
 use Rattle.geda_grammar.specs.declared.mode.Mode.{Mode}
 use Rattle.geda_grammar.specs.declared.mode.Mode.TheVariants.{Settled, Last, Block}
-use Rattle.geda_grammar.specs.declared.place.Place.{Place}
-use Rattle.geda_grammar.specs.declared.place.Place.TheVariants.{Objects, Waiting, Inside}
 use Rattle.geda_read.specs.declared.refusal.Refusal.{Refusal}
 use Rattle.geda_read.specs.declared.refusal.Refusal.TheVariants as refusals
 
@@ -47,9 +45,3 @@ PartsStand kept mode = LevelStands ShapeIsInRange kept mode
 -- the objects of a sheet
 abbrev pub ObjectsStand : List ObjectData → Mode Body → Type 0
 ObjectsStand kept mode = LevelStands BodyIsInRange kept mode
-
--- a sheet
-abbrev pub PlaceStands : Place → Type 0
-PlaceStands (Objects kept mode) = ObjectsStand kept mode
-PlaceStands (Waiting os line) = length os < most_objects
-PlaceStands (Inside os line kept mode) = (length os < most_objects) × PartsStand kept mode

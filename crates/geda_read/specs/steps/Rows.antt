@@ -1,21 +1,19 @@
 -- Steps of the code; no public clause cites them.
 -- What is read of each kind of file, row by row: one machine for all three.
-use Rattle.std.specs.Prelude.{ℕ, Bool, true, false, ◌==◌, if◌then◌else◌, List, [], length, Option, Some, None}
+use Rattle.std.specs.Prelude.{ℕ, Bool, true, false, List, [], Option, Some, None}
 use Rattle.std.specs.Option.{option_map}
 use Rattle.geda_model.specs.Limits.{most_objects}
 use Rattle.geda_model.specs.Shapes.{PartData}
 use Rattle.geda_model.specs.Sheets.{ObjectData}
-use Rattle.geda_grammar.specs.declared.mode.Mode.TheVariants.{Settled, Last, Block}
+use Rattle.geda_grammar.specs.declared.mode.Mode.TheVariants.{Settled}
 use Rattle.geda_grammar.specs.declared.row.Row.{Row}
-use Rattle.geda_grammar.specs.declared.row.Row.TheVariants.{CloseBlock}
-use Rattle.geda_grammar.specs.declared.place.Place.{Place}
 use Rattle.geda_grammar.specs.declared.place.Place.TheVariants as places
-use Rattle.geda_grammar.specs.steps.Sheets.{make_object, sheet_end, sheet_step, symbol_end, symbol_step}
-use Rattle.geda_grammar.specs.steps.Files.{RowMachine, sheet_has_no_room, symbol_has_no_room}
+use Rattle.geda_grammar.specs.steps.Sheets.{sheet_end, sheet_step, symbol_end, symbol_step}
+use Rattle.geda_grammar.specs.steps.Files.{RowMachine, only_one, sheet_has_no_room, symbol_has_no_room}
 use Rattle.geda_read.specs.declared.rows.FileMode.{FileMode}
 use Rattle.geda_read.specs.declared.rows.FileMode.TheVariants as files
 use Rattle.geda_read.specs.declared.rows.OpenRows.{OpenRows}
-use Rattle.geda_read.specs.declared.rows.OpenRows.TheVariants.{Sheet, Symbol, Object}
+use Rattle.geda_read.specs.declared.rows.OpenRows.TheVariants.{Sheet, Symbol}
 
 -- how many objects there may be
 abbrev pub most_of : FileMode → ℕ
@@ -32,29 +30,15 @@ abbrev pub rows_start : FileMode → OpenRows
 rows_start files.Symbol = Symbol (record { kept = []; mode = Settled })
 rows_start mode = Sheet (places.Objects [] Settled)
 
--- the `}` of the one object that is asked for
-abbrev pub close_object : Place → Option OpenRows
-close_object (places.Objects kept (Block body texts)) =
-    if length kept == 0 then Some (Object (make_object body texts))
-    else option_map Sheet (sheet_step 1 (places.Objects kept (Block body texts)) CloseBlock)
-close_object place = option_map Sheet (sheet_step 1 place CloseBlock)
-
--- one row more on a sheet
-abbrev pub place_step : FileMode → Place → Row → Option OpenRows
-place_step files.Object place CloseBlock = close_object place
-place_step mode place row = option_map Sheet (sheet_step (most_of mode) place row)
-
 -- one row more
 abbrev pub rows_step : FileMode → OpenRows → Row → Option OpenRows
-rows_step mode (Sheet place) row = place_step mode place row
+rows_step mode (Sheet place) row = option_map Sheet (sheet_step (most_of mode) place row)
 rows_step mode (Symbol level) row = option_map Symbol (symbol_step level row)
-rows_step mode (Object object) row = None
 
 -- one more object would be one too many
 abbrev pub rows_full : FileMode → OpenRows → Bool
 rows_full mode (Sheet place) = sheet_has_no_room (most_of mode) place
 rows_full mode (Symbol level) = symbol_has_no_room level
-rows_full mode (Object object) = true
 
 abbrev pub rows_machine : FileMode → RowMachine OpenRows OpenRows
 rows_machine mode = record {
@@ -68,15 +52,12 @@ rows_machine mode = record {
 -- the objects of a sheet, and the parts of a symbol, at the end
 abbrev pub objects_in : OpenRows → Option (List ObjectData)
 objects_in (Sheet place) = sheet_end place
-objects_in rows = None
+objects_in (Symbol level) = None
 
 abbrev pub parts_in : OpenRows → Option (List PartData)
+parts_in (Sheet place) = None
 parts_in (Symbol level) = symbol_end level
-parts_in rows = None
 
 -- the one object that is there
 abbrev pub one_object : OpenRows → Option ObjectData
-one_object (Object object) = Some object
-one_object (Sheet (places.Objects kept (Last body))) =
-    if length kept == 0 then Some (make_object body []) else None
-one_object rows = None
+one_object rows = only_one (objects_in rows)
