@@ -2,7 +2,7 @@
 ghost use Rattle.std.specs.Prelude.{◌≡◌, ◌==◌, ◌≤◌, ◌++◌, IfOk, OnOk, length, option_copied};
 ghost use Rattle.std.specs.List.{filter_map, slice_get, starts_with};
 ghost use Rattle.attr_rules.specs.Attributes.{value_named, values_named, free_text, parts_of, attr, attrs};
-ghost use Rattle.attr_rules.specs.steps.PartValues.{value_in_part};
+ghost use Rattle.attr_rules.specs.steps.PartValues.{has_equals_at, value_in_part};
 
 use crate::splits::split_attr;
 use geda_model::{Block, Body, Items, Object, Part, Shape, Symbol, Text};
@@ -15,12 +15,22 @@ pub fn begins_with(text: &str, beginning: &str) -> bool
     text.as_bytes().starts_with(beginning.as_bytes())
 }
 
-/// The value of a text that is an attribute of a name. Most texts begin in another way, and are
-/// passed over.
+/// Whether an `=` stands behind so many bytes of a text.
+fn has_equals_at(text: &str, count: usize) -> bool
+    ensures { result ≡ has_equals_at count text.now }
+{
+    matches!(text.as_bytes().get(count), Some(b'='))
+}
+
+/// The value of a text that is an attribute of a name. Most texts have no `=` behind so many bytes
+/// or begin in another way, and are passed over.
 fn value_named<'a>(text: &'a Text, name: &str) -> Option<&'a str>
     ensures { option_copied result ≡ value_named name.now text.now }
 {
     let content = text.content.as_str();
+    if !has_equals_at(content, name.len()) {
+        return None;
+    }
     if !begins_with(content, name) {
         return None;
     }
