@@ -1,10 +1,8 @@
 // What a project comes to by its net list.
-ghost use Rattle.std.specs.Prelude.{◌≡◌, IfOk};
-ghost use Rattle.hierarchy.specs.Instances.{instances_of, lost_of};
 ghost use Rattle.sheet_groups.specs.Conductors.{sheet_conductors};
 ghost use Rattle.sheet_groups.specs.Groups.{AreGroups};
 ghost use Rattle.backends.specs.Forms.{net_text};
-ghost use Rattle.reports.specs.NetLists.{Elaborates, HasNetList, OfNetList, checked, seen};
+ghost use Rattle.reports.specs.NetLists.{Elaborates, OfNetList, checked, seen};
 
 use crate::check_report::{Check, reported};
 use backends::{Form, net_text};
