@@ -8,19 +8,19 @@ use Rattle.std.specs.Cmp.Lexicographic.{slice_cmp}
 use Rattle.std.specs.Ordering.{nat_cmp}
 use Rattle.std.proofs.lemmas.List.{drop_more, length-map}
 use Rattle.std.proofs.lemmas.Slice.Eq.{bytes_eq-Decides}
-use Rattle.geda_model.specs.declared.change.Placed.{Placed}
-use Rattle.geda_model.specs.declared.change.Thing.{Thing}
-use Rattle.geda_model.specs.declared.change.Thing.TheVariants as things
-use Rattle.geda_model.specs.declared.change.Value.{Value}
-use Rattle.geda_model.specs.declared.change.Value.TheVariants as values
+use Rattle.project_model.specs.declared.change.Placed.{Placed}
+use Rattle.project_model.specs.declared.change.Thing.{Thing}
+use Rattle.project_model.specs.declared.change.Thing.TheVariants as things
+use Rattle.project_model.specs.declared.change.Value.{Value}
+use Rattle.project_model.specs.declared.change.Value.TheVariants as values
 use Rattle.geda_model.specs.declared.object.Body.{Body}
 use Rattle.geda_model.specs.declared.object.Body.TheVariants as bodies
-use Rattle.geda_model.specs.Changes.{put, put_one}
-use Rattle.geda_model.specs.Items.{Item}
+use Rattle.project_model.specs.Changes.{put, put_one}
+use Rattle.project_model.specs.Items.{Item}
 use Rattle.geda_model.specs.Names.{is_name}
-use Rattle.geda_model.specs.Projects.{ProjectData}
+use Rattle.project_model.specs.Projects.{ProjectData}
 use Rattle.geda_model.specs.Sheets.{ObjectData, SymbolData}
-use Rattle.geda_model.specs.Tables.{row_now}
+use Rattle.project_model.specs.Tables.{row_now}
 use Rattle.attr_rules.specs.Libraries.{library_of}
 use Rattle.pin_place.specs.Pins.{conductors_of}
 use Rattle.sheet_groups.specs.Conductors.{conductors_at, sheet_conductor}

@@ -3,8 +3,8 @@ use Rattle.std.proofs.Common.{◌≡◌, ◌==◌, ℕ, ◌+◌, ◌-◌, ◌^�
 use Rattle.std.specs.List.{AllZip, count_by, remove}
 use Rattle.std.proofs.lemmas.List.{append-nil, length_push}
 use Rattle.geda_geom.specs.declared.conductor.Key.{Key}
-use Rattle.geda_model.specs.Items.{Item}
-use Rattle.geda_model.specs.Projects.{ProjectData}
+use Rattle.project_model.specs.Items.{Item}
+use Rattle.project_model.specs.Projects.{ProjectData}
 use Rattle.sheet_groups.specs.declared.drawn.DrawnConductor.{DrawnConductor}
 use Rattle.sheet_groups.specs.Conductors.{SheetConductor, sheet_conductors}
 use Rattle.sheet_groups.specs.Numbered.{AreNumbered, AreTouchLabels, IsNumbered, Numbers}

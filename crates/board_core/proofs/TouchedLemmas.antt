@@ -11,17 +11,17 @@ use Rattle.std.proofs.lemmas.Map.Entries.{lookup_from_place}
 use Rattle.std.proofs.lemmas.Map.Keys.{IsDistinct-from_sorted}
 use Rattle.std.proofs.lemmas.Map.Lookups.{exact_unsigned}
 use Rattle.geda_geom.specs.declared.conductor.Conductor.{Conductor}
-use Rattle.geda_model.specs.declared.change.Placed.{Placed}
-use Rattle.geda_model.specs.declared.change.Thing.{Thing}
-use Rattle.geda_model.specs.declared.change.Thing.TheVariants as things
+use Rattle.project_model.specs.declared.change.Placed.{Placed}
+use Rattle.project_model.specs.declared.change.Thing.{Thing}
+use Rattle.project_model.specs.declared.change.Thing.TheVariants as things
 use Rattle.geda_model.specs.declared.object.Body.{Body}
 use Rattle.geda_model.specs.declared.object.Body.TheVariants as bodies
-use Rattle.geda_model.specs.Items.{Item}
-use Rattle.geda_model.specs.Projects.{ProjectData}
+use Rattle.project_model.specs.Items.{Item}
+use Rattle.project_model.specs.Projects.{ProjectData}
 use Rattle.geda_model.specs.Shapes.{PartData}
 use Rattle.geda_model.specs.Sheets.{ObjectData}
-use Rattle.geda_model.proofs.OrderedRows.{keys_sorted}
-use Rattle.geda_model.proofs.Rows.{IsKey, find_row}
+use Rattle.project_model.proofs.OrderedRows.{keys_sorted}
+use Rattle.project_model.proofs.Rows.{IsKey, find_row}
 use Rattle.attr_rules.specs.Libraries.{library_of}
 use Rattle.pin_place.specs.Pins.{conductors_of}
 use Rattle.sheet_groups.specs.Conductors.{SheetConductor, conductors_at, sheet_conductor, sheet_conductors}

@@ -1,7 +1,7 @@
 -- A board: a project, and what is known of the groups that it keeps (own).
 use Rattle.std.specs.Prelude.{◌≤◌, ◌+◌, ◌⊎◌, ℕ, List, Contains}
-use Rattle.geda_model.specs.Items.{Item}
-use Rattle.geda_model.specs.Projects.{ProjectData}
+use Rattle.project_model.specs.Items.{Item}
+use Rattle.project_model.specs.Projects.{ProjectData}
 use Rattle.board_core.specs.Bounds.{IsBound}
 use Rattle.board_core.specs.Changed.{TouchesSheet}
 

@@ -3,12 +3,12 @@
 use Rattle.std.specs.Prelude.{◌≡◌, ◌+◌, ◌-◌, ◌^◌, ◌&&◌, ℕ, Bool, true, false, not, List, [], ◌∷◌, ◌++◌, Some, min, length, map, filter}
 use Rattle.std.specs.FinMap.{entries}
 use Rattle.std.specs.List.{flat_map, sum_by}
-use Rattle.geda_model.specs.declared.change.Placed.{Placed}
-use Rattle.geda_model.specs.declared.change.Thing.TheVariants as things
-use Rattle.geda_model.specs.declared.change.Value.TheVariants as values
-use Rattle.geda_model.specs.Items.{Item}
-use Rattle.geda_model.specs.Projects.{ProjectData}
-use Rattle.geda_model.specs.Changes.{put}
+use Rattle.project_model.specs.declared.change.Placed.{Placed}
+use Rattle.project_model.specs.declared.change.Thing.TheVariants as things
+use Rattle.project_model.specs.declared.change.Value.TheVariants as values
+use Rattle.project_model.specs.Items.{Item}
+use Rattle.project_model.specs.Projects.{ProjectData}
+use Rattle.project_model.specs.Changes.{put}
 use Rattle.sheet_groups.specs.Conductors.{SheetConductor, conductors_at}
 use Rattle.board_core.specs.GroupSizes.{IsGroupSize}
 use Rattle.board_core.specs.Changed.{has_symbol_of, has_thing, is_changed, is_object}

@@ -3,16 +3,16 @@ use Rattle.std.specs.Prelude.{◌≡◌, ◌⊎◌, ◌==◌, ◌||◌, ℕ, Boo
 use Rattle.std.specs.FinMap.{get}
 use Rattle.std.specs.List.{list_any}
 use Rattle.std.specs.Str.{bytes_eq}
-use Rattle.geda_model.specs.declared.change.Placed.{Placed}
-use Rattle.geda_model.specs.declared.change.Thing.{Thing}
-use Rattle.geda_model.specs.declared.change.Thing.TheVariants as things
+use Rattle.project_model.specs.declared.change.Placed.{Placed}
+use Rattle.project_model.specs.declared.change.Thing.{Thing}
+use Rattle.project_model.specs.declared.change.Thing.TheVariants as things
 use Rattle.geda_model.specs.declared.object.Body.{Body}
 use Rattle.geda_model.specs.declared.object.Body.TheVariants as bodies
-use Rattle.geda_model.specs.Items.{Item}
+use Rattle.project_model.specs.Items.{Item}
 use Rattle.geda_model.specs.Shapes.{PartData}
 use Rattle.geda_model.specs.Sheets.{ObjectData}
-use Rattle.geda_model.specs.Projects.{ProjectData}
-use Rattle.geda_model.specs.Changes.{put}
+use Rattle.project_model.specs.Projects.{ProjectData}
+use Rattle.project_model.specs.Changes.{put}
 
 -- the thing is the object of this id, the sheet of this name, the symbol of this name
 abbrev pub is_object : ℕ → Thing → Bool

@@ -1,8 +1,8 @@
 // A project, and the groups of its sheets.
 ghost use Rattle.std.specs.Prelude.{◌≡◌, ◌≤◌, ◌↔◌, [], IfOk, IfErr, OnOk, OnErr, IsTrue, length, option_copied};
 ghost use Rattle.std.specs.FinMap.{get};
-ghost use Rattle.geda_model.specs.Projects.{no_parts};
-ghost use Rattle.geda_model.specs.Changes.{CanApply, put};
+ghost use Rattle.project_model.specs.Projects.{empty_project};
+ghost use Rattle.project_model.specs.Changes.{CanApply, put};
 ghost use Rattle.sheet_groups.specs.Conductors.{sheet_conductors};
 ghost use Rattle.sheet_groups.specs.Groups.{AreGroups};
 ghost use Rattle.board_core.specs.Bounds.{IsBound};
@@ -11,7 +11,8 @@ ghost use Rattle.board_core.specs.Boards.{MayGiveUp, RenewsGroups, StaysInBound}
 use crate::bound::bound_of;
 use crate::put_in::put_in;
 use geda_geom::Key;
-use geda_model::{Change, Head, Name, Project};
+use geda_model::{Head, Name};
+use project_model::{Change, Project};
 use sheet_groups::local_groups;
 use std::alloc::{AllocError, Global};
 use std::collections::BTreeMap;
@@ -36,13 +37,13 @@ impl Model for Board {
 
     ghost coded = { Prim.hlevel (codes, map.code) };
 
-    ghost view = { λ b. record { project = b.project.parts; invalidated = []; asked = 0 } };
+    ghost view = { λ b. record { project = b.project.contents; invalidated = []; asked = 0 } };
 }
 
 impl Board {
     /// The empty project. It takes no memory.
     pub fn new(alloc: Global) -> Board
-        ensures project { result.project ≡ no_parts }
+        ensures project { result.project ≡ empty_project }
         ensures fresh { result.invalidated ≡ [] }
         ensures asked { result.asked ≡ 0 }
     {
@@ -54,10 +55,10 @@ impl Board {
     /// A board of an equal project, with the groups of all sheets. It makes at most one step for
     /// each conductor.
     pub fn of(alloc: Global, project: &Project) -> Result<Board, AllocError>
-        ensures project { IfOk result (λ board. board.project ≡ project.now.parts) }
+        ensures project { IfOk result (λ board. board.project ≡ project.now.contents) }
         ensures fresh { IfOk result (λ board. board.invalidated ≡ []) }
         ensures few { IfOk result
-            (λ board. board.asked ≤ length (sheet_conductors project.now.parts)) }
+            (λ board. board.asked ≤ length (sheet_conductors project.now.contents)) }
     {
         Ok(Board {
             project: project.copy(alloc)?,
@@ -66,7 +67,7 @@ impl Board {
 
     /// The project. It takes no memory.
     pub fn project(&self) -> &Project
-        ensures { result.now.parts ≡ self.now.project }
+        ensures { result.now.contents ≡ self.now.project }
     {
         &self.project
     }

@@ -1,18 +1,18 @@
 // How many steps a change may cost groups that are kept.
 ghost use Rattle.std.specs.Prelude.{IfOk};
-ghost use Rattle.geda_model.specs.Changes.{CanApply};
+ghost use Rattle.project_model.specs.Changes.{CanApply};
 ghost use Rattle.board_core.specs.Bounds.{IsBound};
 
 use crate::changed::Things;
 use crate::coming::coming_of;
 use crate::sizes::sizes_of;
-use geda_model::{Change, Project};
+use project_model::{Change, Project};
 use std::alloc::{AllocError, Global};
 
 /// The bound of a change; at most 2^64 - 1.
 pub(crate) fn bound_of(alloc: Global, project: &Project, change: &Change) -> Result<u64, AllocError>
     requires { CanApply change.now.items }
-    ensures { IfOk result (IsBound project.now.parts change.now.items) }
+    ensures { IfOk result (IsBound project.now.contents change.now.items) }
 {
     let things = Things::of(alloc, change.items.as_slice())?;
     let sizes = sizes_of(alloc, project, &things)?;

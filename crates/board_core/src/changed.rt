@@ -2,14 +2,15 @@
 ghost use Rattle.std.specs.Prelude.{◌≡◌, false, IfOk, OnOk};
 ghost use Rattle.std.specs.HashSet.{contains_text};
 ghost use Rattle.std.specs.List.{list_any};
-ghost use Rattle.geda_model.specs.Items.{Item};
+ghost use Rattle.project_model.specs.Items.{Item};
 ghost use Rattle.board_core.specs.Changed.{has_symbol, has_symbol_of, has_thing};
 ghost use Rattle.board_core.specs.Changed.{is_changed, is_object};
 ghost use Rattle.board_core.specs.Bounds.{is_renewed};
 ghost use Rattle.board_core.specs.steps.ChangedThings.{AddsId, AddsSymbol, HasNoSymbol};
 ghost use Rattle.board_core.specs.steps.ChangedThings.{has_id, may_touch};
 
-use geda_model::{Body, Component, Object, Placed, Project, Thing, Value};
+use geda_model::{Body, Component, Object};
+use project_model::{Placed, Project, Thing, Value};
 use std::alloc::{AllocError, Global};
 use std::collections::HashSet;
 use std::marker::Model;
@@ -25,7 +26,7 @@ pub(crate) struct Things<'a> {
 impl<'a> Model for Things<'a> {
     ghost use Rattle.std.specs.Prelude.{List};
     ghost use Rattle.std.specs.HashSet.{contains_text};
-    ghost use Rattle.geda_model.specs.Items.{Item};
+    ghost use Rattle.project_model.specs.Items.{Item};
     ghost use Rattle.board_core.specs.steps.ChangedThings.{HasThings, has_id};
 
     ghost Value = { List Item };
@@ -132,7 +133,7 @@ impl<'a> Things<'a> {
 }
 
 fn may_touch(project: &Project, thing: &Thing) -> bool
-    ensures { result ≡ may_touch project.now.parts thing.now }
+    ensures { result ≡ may_touch project.now.contents thing.now }
 {
     match thing {
         Thing::Object(id) => project.object(*id).is_some(),
@@ -145,7 +146,7 @@ fn may_touch(project: &Project, thing: &Thing) -> bool
 /// stands there. It takes no memory.
 pub(crate) fn may_take(project: &Project, items: &[(Thing, Option<Value>)]) -> bool
     ensures { result ≡
-        list_any (λ (item : Item). may_touch project.now.parts item.0) items.now }
+        list_any (λ (item : Item). may_touch project.now.contents item.0) items.now }
 {
     items.iter().any(|item| may_touch(project, &item.0))
 }

@@ -1,21 +1,22 @@
 // How many conductors come with a change.
 ghost use Rattle.std.specs.Prelude.{◌≡◌, IfOk, map};
 ghost use Rattle.std.specs.FinMap.{entries};
-ghost use Rattle.geda_model.specs.Tables.{row_now};
-ghost use Rattle.geda_model.specs.Changes.{CanApply, put};
+ghost use Rattle.project_model.specs.Tables.{row_now};
+ghost use Rattle.project_model.specs.Changes.{CanApply, put};
 ghost use Rattle.board_core.specs.Bounds.{coming_count, given_count};
 ghost use Rattle.board_core.specs.steps.Coming.{capped, drawn_count};
 ghost use Rattle.board_core.specs.steps.Coming.{given_total, renewed_total};
 
 use crate::changed::Things;
 use crate::put_in::put_in;
-use geda_model::{Change, Object, Placed, Project, Thing, Value};
+use geda_model::Object;
+use project_model::{Change, Placed, Project, Thing, Value};
 use sheet_groups::drawn_of;
 use std::alloc::{AllocError, Global};
 
 /// How many conductors an object has, with the symbols of a project.
 fn drawn_count(alloc: Global, project: &Project, object: &Object) -> Result<u64, AllocError>
-    ensures { IfOk result (λ count. count ≡ drawn_count project.now.parts object.now) }
+    ensures { IfOk result (λ count. count ≡ drawn_count project.now.contents object.now) }
 {
     let drawn = drawn_of(alloc, project, object)?;
     Ok(drawn.len() as u64)
@@ -27,7 +28,7 @@ fn given_count(
     project: &Project,
     item: &(Thing, Option<Value>),
 ) -> Result<u64, AllocError>
-    ensures { IfOk result (λ count. count ≡ given_count project.now.parts item.now) }
+    ensures { IfOk result (λ count. count ≡ given_count project.now.contents item.now) }
 {
     match &item.0 {
         Thing::Object(_) => match &item.1 {
@@ -44,7 +45,7 @@ fn given_total(
     items: &[(Thing, Option<Value>)],
 ) -> Result<u64, AllocError>
     ensures { IfOk result
-        (λ total. total ≡ capped (given_total project.now.parts items.now)) }
+        (λ total. total ≡ capped (given_total project.now.contents items.now)) }
 {
     let mut total: u64 = 0;
     for item in items {
@@ -60,7 +61,7 @@ fn renewed_in_rows(
     rows: &[(u32, &Placed)],
 ) -> Result<u64, AllocError>
     ensures { IfOk result (λ total. total
-        ≡ capped (renewed_total after.now.parts things.now (map row_now rows.now))) }
+        ≡ capped (renewed_total after.now.contents things.now (map row_now rows.now))) }
 {
     let mut total: u64 = 0;
     for row in rows {
@@ -80,7 +81,7 @@ fn renewed_total(
     things: &Things<'_>,
 ) -> Result<u64, AllocError>
     ensures { IfOk result (λ total. total ≡ capped
-        (renewed_total after.now.parts things.now (entries project.now.parts.objects))) }
+        (renewed_total after.now.contents things.now (entries project.now.contents.objects))) }
 {
     let rows = project.objects_by_id(alloc)?;
     renewed_in_rows(alloc, after, things, &rows)
@@ -89,7 +90,7 @@ fn renewed_total(
 /// An equal project, with a change put in.
 fn after_change(alloc: Global, project: &Project, change: &Change) -> Result<Project, AllocError>
     requires { CanApply change.now.items }
-    ensures { IfOk result (λ after. after.parts ≡ put project.now.parts change.now.items) }
+    ensures { IfOk result (λ after. after.contents ≡ put project.now.contents change.now.items) }
 {
     let mut after = project.copy(alloc)?;
     put_in(alloc, &mut after, change)?;
@@ -108,7 +109,7 @@ pub(crate) fn coming_of(
     requires can_apply { CanApply change.now.items }
     requires same { things.now ≡ change.now.items }
     ensures { IfOk result
-        (λ total. total ≡ capped (coming_count project.now.parts change.now.items)) }
+        (λ total. total ≡ capped (coming_count project.now.contents change.now.items)) }
 {
     if !things.has_symbols() {
         return given_total(alloc, project, things.items());

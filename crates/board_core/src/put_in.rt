@@ -1,8 +1,8 @@
 // A change is put into a project.
 ghost use Rattle.std.specs.Prelude.{◌≡◌, OnErr, OnOk};
-ghost use Rattle.geda_model.specs.Changes.{CanApply, put};
+ghost use Rattle.project_model.specs.Changes.{CanApply, put};
 
-use geda_model::{Change, Project};
+use project_model::{Change, Project};
 use std::alloc::{AllocError, Global};
 
 /// Puts a change in. On AllocError the project is as before.
@@ -12,8 +12,8 @@ pub(crate) fn put_in(
     change: &Change,
 ) -> Result<(), AllocError>
     requires { CanApply change.now.items }
-    ensures ok { OnOk result (project.new.parts ≡ put project.old.parts change.now.items) }
-    ensures err { OnErr result (project.new.parts ≡ project.old.parts) }
+    ensures ok { OnOk result (project.new.contents ≡ put project.old.contents change.now.items) }
+    ensures err { OnErr result (project.new.contents ≡ project.old.contents) }
 {
     let copy = change.copy(alloc)?;
     project.reserve(alloc, &copy)?;

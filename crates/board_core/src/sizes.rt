@@ -5,7 +5,7 @@ ghost use Rattle.board_core.specs.steps.Sizes.{AreSizes, IsSizeAt, leaves_by};
 
 use crate::changed::{Things, may_take};
 use geda_geom::Key;
-use geda_model::Project;
+use project_model::Project;
 use sheet_groups::{DrawnConductor, drawn_conductors, touch_labels};
 use std::alloc::{AllocError, Global};
 
@@ -26,7 +26,7 @@ fn group_size(alloc: Global, drawn: &[DrawnConductor], place: usize) -> Result<u
 
 /// Whether a conductor with a key leaves.
 fn leaves(project: &Project, things: &Things<'_>, key: Key) -> bool
-    ensures { result ≡ leaves_by project.now.parts things.now key.id }
+    ensures { result ≡ leaves_by project.now.contents things.now key.id }
 {
     match project.object(key.id) {
         None => false,
@@ -37,7 +37,7 @@ fn leaves(project: &Project, things: &Things<'_>, key: Key) -> bool
 /// The sizes of the groups of the conductors that leave, summed up: all conductors are walked along
 /// in order, and those that leave are taken out one by one.
 fn sizes_on_way(alloc: Global, project: &Project, things: &Things<'_>) -> Result<u64, AllocError>
-    ensures { IfOk result (AreSizes project.now.parts things.now) }
+    ensures { IfOk result (AreSizes project.now.contents things.now) }
 {
     let mut drawn = drawn_conductors(alloc, project)?;
     let mut place = 0;
@@ -62,7 +62,7 @@ pub(crate) fn sizes_of(
     project: &Project,
     things: &Things<'_>,
 ) -> Result<u64, AllocError>
-    ensures { IfOk result (AreSizes project.now.parts things.now) }
+    ensures { IfOk result (AreSizes project.now.contents things.now) }
 {
     if !may_take(project, things.items()) {
         return Ok(0);

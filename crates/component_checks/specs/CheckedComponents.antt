@@ -5,7 +5,7 @@ use Rattle.geda_model.specs.declared.object.Body.{Body}
 use Rattle.geda_model.specs.declared.object.Body.TheVariants as bodies
 use Rattle.geda_model.specs.Shapes.{ComponentData}
 use Rattle.geda_model.specs.Sheets.{ObjectData, SymbolData}
-use Rattle.geda_model.specs.Projects.{ProjectData}
+use Rattle.project_model.specs.Projects.{ProjectData}
 use Rattle.attr_rules.specs.Attributes.{attr, attrs}
 use Rattle.attr_rules.specs.Components.{has_sources, is_graphical, refdes_of}
 use Rattle.attr_rules.specs.Libraries.{library_of}

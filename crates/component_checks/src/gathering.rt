@@ -10,8 +10,9 @@ use crate::attributes::{copy_of, drawn_pins, has_bad_net, printed_refdes, slot_c
 use crate::checked::CheckedComponent;
 use attr_rules::{attr_of, has_sources, is_graphical, library_of, refdes_of};
 use flat_sheets::{LabelSets, is_port};
-use geda_model::{Body, Component, Object, Project, Symbol};
+use geda_model::{Body, Component, Object, Symbol};
 use hierarchy::Instance;
+use project_model::Project;
 use std::alloc::{AllocError, Global};
 
 fn has_symbol(component: &Component, library: Option<&Symbol>) -> bool
@@ -27,10 +28,10 @@ fn is_port_if(
     instance: &Instance,
     refdes: Option<&str>,
 ) -> Result<bool, AllocError>
-    requires known { AreLabelSets project.now.parts known.old }
+    requires known { AreLabelSets project.now.contents known.old }
     ensures found { IfOk result (λ found. found ≡
-        is_port_if project.now.parts instance.now (option_copied refdes.entry)) }
-    ensures known { OnOk result (AreLabelSets project.now.parts known.new) }
+        is_port_if project.now.contents instance.now (option_copied refdes.entry)) }
+    ensures known { OnOk result (AreLabelSets project.now.contents known.new) }
 {
     match refdes {
         None => Ok(false),
@@ -48,10 +49,10 @@ fn checked_with(
     component: &Component,
     library: Option<&Symbol>,
 ) -> Result<CheckedComponent, AllocError>
-    requires known { AreLabelSets project.now.parts known.old }
-    ensures made { IfOk result (λ made. made ≡ checked_with project.now.parts instance.now id
+    requires known { AreLabelSets project.now.contents known.old }
+    ensures made { IfOk result (λ made. made ≡ checked_with project.now.contents instance.now id
         object.now component.now (option_copied library.entry)) }
-    ensures known { OnOk result (AreLabelSets project.now.parts known.new) }
+    ensures known { OnOk result (AreLabelSets project.now.contents known.new) }
 {
     let refdes = refdes_of(object, library);
     let slot = attr_of(object, library, "slot");
@@ -82,11 +83,11 @@ fn checked_component(
     object: &Object,
     component: &Component,
 ) -> Result<Option<CheckedComponent>, AllocError>
-    requires known { AreLabelSets project.now.parts known.old }
+    requires known { AreLabelSets project.now.contents known.old }
     ensures made { (place : ℕ) → IfOk result (λ made. made ≡ checked_component
-        project.now.parts (flat place instance.now id object.now) component.now
-        (library_of project.now.parts object.now)) }
-    ensures known { OnOk result (AreLabelSets project.now.parts known.new) }
+        project.now.contents (flat place instance.now id object.now) component.now
+        (library_of project.now.contents object.now)) }
+    ensures known { OnOk result (AreLabelSets project.now.contents known.new) }
 {
     let library = library_of(alloc, project, object)?;
     if is_graphical(object, library) {
@@ -108,10 +109,10 @@ pub fn checked_object(
     id: u32,
     object: &Object,
 ) -> Result<Option<CheckedComponent>, AllocError>
-    requires known { AreLabelSets project.now.parts known.old }
+    requires known { AreLabelSets project.now.contents known.old }
     ensures made { (place : ℕ) → IfOk result (λ made. made ≡
-        checked_object project.now.parts (flat place instance.now id object.now)) }
-    ensures known { OnOk result (AreLabelSets project.now.parts known.new) }
+        checked_object project.now.contents (flat place instance.now id object.now)) }
+    ensures known { OnOk result (AreLabelSets project.now.contents known.new) }
 {
     match &object.body {
         Body::Shape(_) => Ok(None),

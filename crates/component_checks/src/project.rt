@@ -10,8 +10,8 @@ use crate::checked::CheckedComponent;
 use crate::gathering::checked_object;
 use crate::lists::push_if;
 use flat_sheets::{LabelSets, Occurrence, occurrences};
-use geda_model::Project;
 use hierarchy::Instance;
+use project_model::Project;
 use std::alloc::{AllocError, Global};
 use std::collections::HashMap;
 
@@ -30,10 +30,10 @@ fn checked_in(
     place: usize,
     id: u32,
 ) -> Result<Option<CheckedComponent>, AllocError>
-    requires known { AreLabelSets project.now.parts known.old }
-    ensures made { IfOk result (λ made. made ≡ checked_if project.now.parts
-        (object_in project.now.parts instances.now place id)) }
-    ensures known { OnOk result (AreLabelSets project.now.parts known.new) }
+    requires known { AreLabelSets project.now.contents known.old }
+    ensures made { IfOk result (λ made. made ≡ checked_if project.now.contents
+        (object_in project.now.contents instances.now place id)) }
+    ensures known { OnOk result (AreLabelSets project.now.contents known.new) }
 {
     let Some(instance) = instance_at(instances, place) else {
         return Ok(None);
@@ -51,9 +51,9 @@ fn components_among(
     instances: &[Instance],
     occurrences: &[Occurrence],
 ) -> Result<Vec<CheckedComponent>, AllocError>
-    requires { instances.now ≡ instances_of project.now.parts }
+    requires { instances.now ≡ instances_of project.now.contents }
     ensures { IfOk result (λ components. components.items ≡
-        filter_map (checked_at project.now.parts) occurrences.now) }
+        filter_map (checked_at project.now.contents) occurrences.now) }
 {
     let mut components = Vec::new(alloc);
     let mut known: LabelSets = HashMap::new(alloc);
@@ -71,9 +71,9 @@ pub fn checked_components(
     project: &Project,
     instances: &[Instance],
 ) -> Result<Vec<CheckedComponent>, AllocError>
-    requires { instances.now ≡ instances_of project.now.parts }
+    requires { instances.now ≡ instances_of project.now.contents }
     ensures { IfOk result
-        (λ components. components.items ≡ checked_components project.now.parts) }
+        (λ components. components.items ≡ checked_components project.now.contents) }
 {
     let occurrences = occurrences(alloc, project, instances)?;
     components_among(alloc, project, instances, &occurrences)

@@ -1,7 +1,7 @@
 -- The findings of a project: those on its components, its packages and its nets, and on what its
 -- hierarchy leaves out, in order, equal ones once (own).
 use Rattle.std.specs.Prelude.{List, ◌++◌, map}
-use Rattle.geda_model.specs.Projects.{ProjectData}
+use Rattle.project_model.specs.Projects.{ProjectData}
 use Rattle.hierarchy.specs.Instances.{lost_of}
 use Rattle.hierarchy.specs.declared.lost.Lost.{Lost}
 use Rattle.hierarchy.specs.declared.lost.Lost.TheVariants as losts

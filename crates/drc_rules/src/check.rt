@@ -7,12 +7,12 @@ ghost use Rattle.drc_rules.specs.Findings.{findings, lost_finding};
 
 use component_checks::{add_on_components, add_on_packages, checked_components};
 use drc_findings::{Finding, add_error, add_warning, listed};
-use geda_model::Project;
 use hierarchy::{Hierarchy, Lost};
 use net_checks::add_on_nets;
 use net_names::Nets;
 use pin_matrix::Matrix;
 use printed_texts::{name_words, pair_words};
+use project_model::Project;
 use std::alloc::{AllocError, Global};
 use std::collections::BTreeSet;
 
@@ -56,10 +56,10 @@ pub fn findings(
     nets: &Nets,
     matrix: &Matrix,
 ) -> Result<Vec<Finding>, AllocError>
-    requires instances { hierarchy.now.instances ≡ instances_of project.now.parts }
-    requires lost { hierarchy.now.lost ≡ lost_of project.now.parts }
+    requires instances { hierarchy.now.instances ≡ instances_of project.now.contents }
+    requires lost { hierarchy.now.lost ≡ lost_of project.now.contents }
     ensures findings { IfOk result
-        (λ list. list.items ≡ findings project.now.parts nets.now matrix.now) }
+        (λ list. list.items ≡ findings project.now.contents nets.now matrix.now) }
     ensures rising { IfOk result (λ list. IsStrictlySortedBy by_finding list.items) }
 {
     let components = checked_components(alloc, project, hierarchy.instances.as_slice())?;

@@ -8,8 +8,8 @@ use Rattle.std.specs.Str.{bytes_eq}
 use Rattle.std.proofs.lemmas.List.{append-nil}
 use Rattle.std.proofs.lemmas.Map.Text.{is_eq-slice_cmp}
 use Rattle.std.proofs.lemmas.Slice.Eq.{bytes_eq-Decides}
-use Rattle.geda_model.specs.declared.change.Placed.{Placed}
-use Rattle.geda_model.specs.Projects.{is_on}
+use Rattle.project_model.specs.declared.change.Placed.{Placed}
+use Rattle.project_model.specs.Projects.{is_on}
 use Rattle.flat_sheets.specs.Order.{by_bytes}
 use Rattle.flat_sheets.specs.SheetIds.{IdsBySheet, ids_at}
 use Rattle.flat_sheets.specs.steps.SheetIds.{AddsId, id_on, ids_in}

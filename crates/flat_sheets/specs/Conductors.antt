@@ -5,7 +5,7 @@ use Rattle.geda_model.specs.declared.shape.Shape.TheVariants as shapes
 use Rattle.geda_model.specs.declared.object.Body.{Body}
 use Rattle.geda_model.specs.declared.object.Body.TheVariants as bodies
 use Rattle.geda_model.specs.Sheets.{SymbolData}
-use Rattle.geda_model.specs.Projects.{ProjectData}
+use Rattle.project_model.specs.Projects.{ProjectData}
 use Rattle.attr_rules.specs.Attributes.{attached}
 use Rattle.attr_rules.specs.Components.{has_sources, refdes_of}
 use Rattle.attr_rules.specs.Libraries.{library_of}

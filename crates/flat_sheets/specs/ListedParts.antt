@@ -4,7 +4,7 @@ use Rattle.std.specs.List.{filter_map}
 use Rattle.geda_model.specs.declared.object.Body.{Body}
 use Rattle.geda_model.specs.declared.object.Body.TheVariants as bodies
 use Rattle.geda_model.specs.Sheets.{ObjectData, SymbolData}
-use Rattle.geda_model.specs.Projects.{ProjectData}
+use Rattle.project_model.specs.Projects.{ProjectData}
 use Rattle.attr_rules.specs.Attributes.{attr}
 use Rattle.attr_rules.specs.Libraries.{library_of}
 use Rattle.attr_rules.specs.Components.{has_sources, is_graphical, refdes_of}

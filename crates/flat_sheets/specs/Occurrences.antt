@@ -5,9 +5,9 @@ use Rattle.std.specs.Cmp.Lexicographic.{slice_cmp}
 use Rattle.std.specs.FinMap.{get}
 use Rattle.std.specs.List.{filter_map, slice_get}
 use Rattle.std.specs.Ordering.{nat_cmp, on, then_cmp}
-use Rattle.geda_model.specs.declared.change.Placed.{Placed}
+use Rattle.project_model.specs.declared.change.Placed.{Placed}
 use Rattle.geda_model.specs.Sheets.{ObjectData}
-use Rattle.geda_model.specs.Projects.{ProjectData, ids_on}
+use Rattle.project_model.specs.Projects.{ProjectData, ids_on}
 use Rattle.hierarchy.specs.declared.instances.Instance.{Instance}
 use Rattle.hierarchy.specs.Instances.{instances_of}
 use Rattle.flat_sheets.specs.Order.{once_in_order}

@@ -3,8 +3,8 @@ use Rattle.std.specs.Prelude.{ℕ, ◌-◌, if◌then◌else◌, Bool, List, [],
 use Rattle.std.specs.FinMap.{get}
 use Rattle.std.specs.List.{filter_map, list_any, slice_get}
 use Rattle.std.specs.Str.{bytes_eq}
-use Rattle.geda_model.specs.declared.change.Placed.{Placed}
-use Rattle.geda_model.specs.Projects.{ProjectData}
+use Rattle.project_model.specs.declared.change.Placed.{Placed}
+use Rattle.project_model.specs.Projects.{ProjectData}
 use Rattle.attr_rules.specs.Libraries.{library_of}
 use Rattle.hierarchy.specs.declared.instances.Instance.{Instance}
 use Rattle.link_classes.specs.declared.conductors.PortPins.{PortPins}

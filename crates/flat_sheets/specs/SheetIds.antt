@@ -2,7 +2,7 @@
 use Rattle.std.specs.Prelude.{◌≡◌, ℕ, List, []}
 use Rattle.std.specs.BTreeMap.{BTreeMap, get}
 use Rattle.std.specs.Option.{unwrap_or}
-use Rattle.geda_model.specs.Projects.{ProjectData, ids_on}
+use Rattle.project_model.specs.Projects.{ProjectData, ids_on}
 use Rattle.flat_sheets.specs.Order.{by_bytes}
 
 -- ids by sheet

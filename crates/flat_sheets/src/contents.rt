@@ -16,9 +16,10 @@ use crate::package::{Package, package_under};
 use crate::ports::LabelSets;
 use crate::roles::{Role, role_of};
 use attr_rules::library_of;
-use geda_model::{Body, Object, Project};
+use geda_model::{Body, Object};
 use hierarchy::Instance;
 use pin_place::pins_of;
+use project_model::Project;
 use std::alloc::{AllocError, Global};
 use std::collections::HashMap;
 
@@ -49,16 +50,16 @@ impl ProjectContents {
         id: u32,
         object: &Object,
     ) -> Result<(), AllocError>
-        requires labels { AreLabelSets project.now.parts self.old.labels }
+        requires labels { AreLabelSets project.now.contents self.old.labels }
         ensures drawn { OnOk result (self.new.conductors.drawn.items ≡
             self.old.conductors.drawn.items
-            ++ drawn_of_component project.now.parts place instance.now id object.now) }
+            ++ drawn_of_component project.now.contents place instance.now id object.now) }
         ensures hidden { OnOk result (self.new.conductors.hidden.items ≡
             self.old.conductors.hidden.items
-            ++ hidden_of_component project.now.parts place instance.now id object.now) }
+            ++ hidden_of_component project.now.contents place instance.now id object.now) }
         ensures parts { OnOk result (self.new.parts.items ≡ self.old.parts.items
-            ++ option_to_list (part_of_component project.now.parts instance.now object.now)) }
-        ensures labels { OnOk result (AreLabelSets project.now.parts self.new.labels) }
+            ++ option_to_list (part_of_component project.now.contents instance.now object.now)) }
+        ensures labels { OnOk result (AreLabelSets project.now.contents self.new.labels) }
     {
         let library = library_of(alloc, project, object)?;
         let role = role_of(alloc, project, &mut self.labels, instance, object, library)?;
@@ -81,16 +82,16 @@ impl ProjectContents {
         id: u32,
         object: &Object,
     ) -> Result<(), AllocError>
-        requires labels { AreLabelSets project.now.parts self.old.labels }
+        requires labels { AreLabelSets project.now.contents self.old.labels }
         ensures drawn { OnOk result (self.new.conductors.drawn.items ≡
             self.old.conductors.drawn.items
-            ++ drawn_of project.now.parts (flat place instance.now id object.now)) }
+            ++ drawn_of project.now.contents (flat place instance.now id object.now)) }
         ensures hidden { OnOk result (self.new.conductors.hidden.items ≡
             self.old.conductors.hidden.items
-            ++ hidden_of project.now.parts (flat place instance.now id object.now)) }
+            ++ hidden_of project.now.contents (flat place instance.now id object.now)) }
         ensures parts { OnOk result (self.new.parts.items ≡ self.old.parts.items ++ option_to_list
-            (listed_part project.now.parts (flat place instance.now id object.now))) }
-        ensures labels { OnOk result (AreLabelSets project.now.parts self.new.labels) }
+            (listed_part project.now.contents (flat place instance.now id object.now))) }
+        ensures labels { OnOk result (AreLabelSets project.now.contents self.new.labels) }
     {
         match &object.body {
             Body::Shape(shape) => {
@@ -111,16 +112,16 @@ impl ProjectContents {
         place: usize,
         id: u32,
     ) -> Result<(), AllocError>
-        requires labels { AreLabelSets project.now.parts self.old.labels }
+        requires labels { AreLabelSets project.now.contents self.old.labels }
         ensures drawn { OnOk result (self.new.conductors.drawn.items ≡
-            self.old.conductors.drawn.items ++ drawn_if project.now.parts
-            (object_in project.now.parts instances.now place id)) }
+            self.old.conductors.drawn.items ++ drawn_if project.now.contents
+            (object_in project.now.contents instances.now place id)) }
         ensures hidden { OnOk result (self.new.conductors.hidden.items ≡
-            self.old.conductors.hidden.items ++ hidden_if project.now.parts
-            (object_in project.now.parts instances.now place id)) }
+            self.old.conductors.hidden.items ++ hidden_if project.now.contents
+            (object_in project.now.contents instances.now place id)) }
         ensures parts { OnOk result (self.new.parts.items ≡ self.old.parts.items
-            ++ part_if project.now.parts (object_in project.now.parts instances.now place id)) }
-        ensures labels { OnOk result (AreLabelSets project.now.parts self.new.labels) }
+            ++ part_if project.now.contents (object_in project.now.contents instances.now place id)) }
+        ensures labels { OnOk result (AreLabelSets project.now.contents self.new.labels) }
     {
         let Some(instance) = instance_at(instances, place) else {
             return Ok(());
@@ -139,13 +140,13 @@ pub fn contents_of(
     instances: &[Instance],
     occurrences: &[Occurrence],
 ) -> Result<ProjectContents, AllocError>
-    requires { instances.now ≡ instances_of project.now.parts }
+    requires { instances.now ≡ instances_of project.now.contents }
     ensures drawn { IfOk result (λ s. s.conductors.drawn.items ≡
-        drawn_in project.now.parts occurrences.now) }
+        drawn_in project.now.contents occurrences.now) }
     ensures hidden { IfOk result (λ s. s.conductors.hidden.items ≡
-        hidden_in project.now.parts occurrences.now) }
+        hidden_in project.now.contents occurrences.now) }
     ensures parts { IfOk result (λ s. s.parts.items ≡
-        parts_in project.now.parts occurrences.now) }
+        parts_in project.now.contents occurrences.now) }
 {
     let mut contents = ProjectContents {
         conductors: FlatConductors {

@@ -7,8 +7,9 @@ ghost use Rattle.flat_sheets.specs.steps.SheetIds.{occurrence};
 use crate::occurrence::Occurrence;
 use crate::once::once_in_order;
 use crate::sheet_ids::{ids_at, ids_by_sheet};
-use geda_model::{Items, Project};
+use geda_model::Items;
 use hierarchy::Instance;
+use project_model::Project;
 use std::alloc::{AllocError, Global};
 
 fn occurrence(
@@ -51,7 +52,7 @@ fn listed_by_instance(
     instances: &[Instance],
 ) -> Result<Vec<Occurrence>, AllocError>
     ensures { IfOk result
-        (λ listed. listed.items ≡ occurrences_from project.now.parts 0 instances.now) }
+        (λ listed. listed.items ≡ occurrences_from project.now.contents 0 instances.now) }
 {
     let table = ids_by_sheet(alloc, project)?;
     let mut listed = Vec::new(alloc);
@@ -69,8 +70,8 @@ pub fn occurrences(
     project: &Project,
     instances: &[Instance],
 ) -> Result<Vec<Occurrence>, AllocError>
-    requires { instances.now ≡ instances_of project.now.parts }
-    ensures { IfOk result (λ listed. listed.items ≡ occurrences project.now.parts) }
+    requires { instances.now ≡ instances_of project.now.contents }
+    ensures { IfOk result (λ listed. listed.items ≡ occurrences project.now.contents) }
 {
     let listed = listed_by_instance(alloc, project, instances)?;
     once_in_order(listed)

@@ -7,10 +7,11 @@ ghost use Rattle.flat_sheets.specs.LabelSets.{AreLabelSets, HasLabels};
 ghost use Rattle.flat_sheets.specs.steps.PortLabels.{AddsLabel};
 
 use attr_rules::library_of;
-use geda_model::{Block, Project};
+use geda_model::Block;
 use hierarchy::Instance;
 use link_classes::PortPins;
 use pin_place::{PlacedPin, pins_of};
+use project_model::Project;
 use std::alloc::{AllocError, Global};
 use std::collections::{HashMap, HashSet};
 
@@ -43,7 +44,7 @@ fn labels_on(alloc: Global, pins: Vec<PlacedPin>) -> Result<HashSet<String>, All
 }
 
 fn labels_of(alloc: Global, project: &Project, id: u32) -> Result<HashSet<String>, AllocError>
-    ensures { IfOk result (HasLabels (labels_of project.now.parts (Some id))) }
+    ensures { IfOk result (HasLabels (labels_of project.now.contents (Some id))) }
 {
     match project.object(id) {
         None => Ok(HashSet::new(alloc)),
@@ -62,10 +63,10 @@ fn has_label(
     id: u32,
     label: &str,
 ) -> Result<bool, AllocError>
-    requires known { AreLabelSets project.now.parts known.old }
+    requires known { AreLabelSets project.now.contents known.old }
     ensures found { IfOk result (λ found. found ≡
-        list_any (bytes_eq label.now) (labels_of project.now.parts (Some id))) }
-    ensures known { OnOk result (AreLabelSets project.now.parts known.new) }
+        list_any (bytes_eq label.now) (labels_of project.now.contents (Some id))) }
+    ensures known { OnOk result (AreLabelSets project.now.contents known.new) }
 {
     if let Some(labels) = known.get(&id) {
         return Ok(labels.contains(label));
@@ -85,10 +86,10 @@ pub fn is_port(
     instance: &Instance,
     refdes: &str,
 ) -> Result<bool, AllocError>
-    requires known { AreLabelSets project.now.parts known.old }
+    requires known { AreLabelSets project.now.contents known.old }
     ensures found { IfOk result (λ found. found ≡
-        is_port project.now.parts instance.now refdes.now) }
-    ensures known { OnOk result (AreLabelSets project.now.parts known.new) }
+        is_port project.now.contents instance.now refdes.now) }
+    ensures known { OnOk result (AreLabelSets project.now.contents known.new) }
 {
     match component_above(instance) {
         None => Ok(false),

@@ -7,9 +7,9 @@ ghost use Rattle.flat_sheets.specs.ListedParts.{listed_parts};
 use crate::contents::{ProjectContents, contents_of};
 use crate::order::occurrences;
 use crate::package::Package;
-use geda_model::Project;
 use hierarchy::Instance;
 use link_classes::FlatConductor;
+use project_model::Project;
 use std::alloc::{AllocError, Global};
 
 /// What joins in a project, and its listed components.
@@ -28,10 +28,10 @@ pub fn flatten(
     project: &Project,
     instances: &[Instance],
 ) -> Result<FlatProject, AllocError>
-    requires { instances.now ≡ instances_of project.now.parts }
+    requires { instances.now ≡ instances_of project.now.contents }
     ensures conductors { IfOk result
-        (λ flat. flat.conductors.items ≡ conductors_of project.now.parts) }
-    ensures parts { IfOk result (λ flat. flat.parts.items ≡ listed_parts project.now.parts) }
+        (λ flat. flat.conductors.items ≡ conductors_of project.now.contents) }
+    ensures parts { IfOk result (λ flat. flat.parts.items ≡ listed_parts project.now.contents) }
 {
     let occurrences = occurrences(alloc, project, instances)?;
     let contents = contents_of(alloc, project, instances, &occurrences)?;

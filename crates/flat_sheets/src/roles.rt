@@ -10,9 +10,10 @@ ghost use Rattle.flat_sheets.specs.steps.ObjectContents.{role_in};
 use crate::ports::{LabelSets, is_port, pins_above};
 use crate::texts::line_under;
 use attr_rules::{has_sources, is_graphical, refdes_of};
-use geda_model::{Line, Object, Project, Symbol};
+use geda_model::{Line, Object, Symbol};
 use hierarchy::Instance;
 use link_classes::PortPins;
+use project_model::Project;
 use std::alloc::{AllocError, Global};
 use std::marker::Model;
 
@@ -72,10 +73,10 @@ pub fn role_of(
     object: &Object,
     library: Option<&Symbol>,
 ) -> Result<Role, AllocError>
-    requires known { AreLabelSets project.now.parts known.old }
+    requires known { AreLabelSets project.now.contents known.old }
     ensures role { IfOk result (λ role. role ≡
-        role_in project.now.parts instance.now object.now (option_copied library.entry)) }
-    ensures known { OnOk result (AreLabelSets project.now.parts known.new) }
+        role_in project.now.contents instance.now object.now (option_copied library.entry)) }
+    ensures known { OnOk result (AreLabelSets project.now.contents known.new) }
 {
     let leads_down = has_sources(object, library);
     let Some(refdes) = refdes_of(object, library) else {

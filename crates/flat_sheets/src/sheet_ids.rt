@@ -1,10 +1,11 @@
 // The ids of the objects of each sheet.
 ghost use Rattle.std.specs.Prelude.{◌≡◌, ◌++◌, ◌∷◌, [], IfOk, OnOk, map};
-ghost use Rattle.geda_model.specs.Tables.{row_now};
+ghost use Rattle.project_model.specs.Tables.{row_now};
 ghost use Rattle.flat_sheets.specs.SheetIds.{AreIdsBySheet, ids_at};
 ghost use Rattle.flat_sheets.specs.steps.SheetIds.{AddsId, AreIdsOf};
 
-use geda_model::{Items, Name, Placed, Project};
+use geda_model::{Items, Name};
+use project_model::{Placed, Project};
 use std::alloc::{AllocError, Global};
 use std::collections::BTreeMap;
 use std::mem;
@@ -55,7 +56,7 @@ pub fn ids_by_sheet(
     alloc: Global,
     project: &Project,
 ) -> Result<BTreeMap<Name, Items<u32>>, AllocError>
-    ensures { IfOk result (AreIdsBySheet project.now.parts) }
+    ensures { IfOk result (AreIdsBySheet project.now.contents) }
 {
     let rows = project.objects_by_id(alloc)?;
     ids_of_rows(alloc, rows.as_slice())

@@ -1,13 +1,13 @@
 -- The changes of the work can be applied.
 use Rattle.std.proofs.Common.{◌≢◌, [], ◌∷◌, Option, Some, arith}
 use Rattle.std.proofs.lemmas.List.Elements.{All-cons, All-nil}
-use Rattle.geda_model.specs.Items.{Item}
-use Rattle.geda_model.specs.declared.change.Thing.{Thing}
-use Rattle.geda_model.specs.declared.change.Thing.TheVariants as things
-use Rattle.geda_model.specs.declared.change.Value.{Value}
-use Rattle.geda_model.specs.declared.change.Value.TheVariants as values
-use Rattle.geda_model.specs.Changes.{CanApply, IsIdInRange}
-use Rattle.geda_model.proofs.BuiltChanges.{CanApply-push}
+use Rattle.project_model.specs.Items.{Item}
+use Rattle.project_model.specs.declared.change.Thing.{Thing}
+use Rattle.project_model.specs.declared.change.Thing.TheVariants as things
+use Rattle.project_model.specs.declared.change.Value.{Value}
+use Rattle.project_model.specs.declared.change.Value.TheVariants as values
+use Rattle.project_model.specs.Changes.{CanApply, IsIdInRange}
+use Rattle.project_model.proofs.BuiltChanges.{CanApply-push}
 use Rattle.gaf_work.specs.Opening.{opening, head, sheet_name, symbol_name, two_pins}
 
 -- a change of one thing

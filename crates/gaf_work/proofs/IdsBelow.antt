@@ -5,14 +5,14 @@ use Rattle.std.specs.Cmp.{Equal-is}
 use Rattle.std.specs.FinMap.{FinMap, get, get-empty, get-insert, get-remove}
 use Rattle.std.proofs.lemmas.Cmp.{nat_cmp_total}
 use Rattle.std.proofs.lemmas.Map.Lookups.{exact_unsigned}
-use Rattle.geda_model.specs.declared.change.Placed.{Placed}
-use Rattle.geda_model.specs.declared.change.Thing.{Thing}
-use Rattle.geda_model.specs.declared.change.Thing.TheVariants as things
-use Rattle.geda_model.specs.declared.change.Value.{Value}
-use Rattle.geda_model.specs.Items.{Item}
-use Rattle.geda_model.specs.Tables.{set_row}
-use Rattle.geda_model.specs.Projects.{ProjectData, no_parts}
-use Rattle.geda_model.specs.Changes.{put_one, put, as_placed}
+use Rattle.project_model.specs.declared.change.Placed.{Placed}
+use Rattle.project_model.specs.declared.change.Thing.{Thing}
+use Rattle.project_model.specs.declared.change.Thing.TheVariants as things
+use Rattle.project_model.specs.declared.change.Value.{Value}
+use Rattle.project_model.specs.Items.{Item}
+use Rattle.project_model.specs.Tables.{set_row}
+use Rattle.project_model.specs.Projects.{ProjectData, empty_project}
+use Rattle.project_model.specs.Changes.{put_one, put, as_placed}
 use Rattle.gaf_work.specs.DrawnSteps.{IdsAreBelow}
 
 below-set_row : (m : FinMap nat_cmp Placed) (n k : ℕ) (row : Option Placed) → ((id : ℕ) → IsSome (get m id) → id < n) → (id : ℕ) → IsSome (get (set_row m k row) id) → id < max n (k + 1)
@@ -38,8 +38,8 @@ IdsAreBelow-put p [] h = h
 IdsAreBelow-put p (item ∷ items) h = IdsAreBelow-put (put_one p item.0 item.1) items (IdsAreBelow-put_one p item.0 item.1 h)
 
 -- and the empty one has it
-pub IdsAreBelow-no_parts : IdsAreBelow no_parts
-IdsAreBelow-no_parts id has = absurd (let e : IsSome {T = Placed} None = subst IsSome (get-empty nat_cmp id) has in cc)
+pub IdsAreBelow-empty_project : IdsAreBelow empty_project
+IdsAreBelow-empty_project id has = absurd (let e : IsSome {T = Placed} None = subst IsSome (get-empty nat_cmp id) has in cc)
 
 -- what a deletion owes
 pub owed : (p : ProjectData) (id : ℕ) → p.next_id + 1 < 2 ^ 32 → IdsAreBelow p → IsSome (get p.objects id) → id + 1 < 2 ^ 32

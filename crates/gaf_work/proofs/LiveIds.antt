@@ -6,8 +6,8 @@ use Rattle.std.specs.Ordering.{nat_cmp}
 use Rattle.std.proofs.lemmas.List.Elements.{Contains-get_or}
 use Rattle.std.proofs.lemmas.Map.Views.{IsSome-lookup_from_Contains}
 use Rattle.std.proofs.lemmas.Option.{slice_get_within, get_or_from_slice_get}
-use Rattle.geda_model.specs.Tables.{row_now}
-use Rattle.geda_model.proofs.Rows.{find_row, ids, key_equal}
+use Rattle.project_model.specs.Tables.{row_now}
+use Rattle.project_model.proofs.Rows.{find_row, ids, key_equal}
 use Rattle.gaf_work.specs.DrawnSteps.{id_at}
 
 module _ {V : Type 0} where

@@ -3,12 +3,12 @@ use Rattle.std.specs.Prelude.{ℕ, pos, ◌<◌, ◌^◌, IsSome, ◌+◌, ◌*�
 use Rattle.std.specs.FinMap.{get, keys}
 use Rattle.std.specs.Fmt.{decimal}
 use Rattle.std.specs.List.{slice_get}
-use Rattle.geda_model.specs.declared.change.Thing.TheVariants as things
-use Rattle.geda_model.specs.declared.change.Value.TheVariants as values
+use Rattle.project_model.specs.declared.change.Thing.TheVariants as things
+use Rattle.project_model.specs.declared.change.Value.TheVariants as values
 use Rattle.geda_model.specs.declared.object.Body.TheVariants as bodies
 use Rattle.geda_model.specs.declared.shape.Shape.TheVariants as shapes
-use Rattle.geda_model.specs.Items.{Item}
-use Rattle.geda_model.specs.Projects.{ProjectData}
+use Rattle.project_model.specs.Items.{Item}
+use Rattle.project_model.specs.Projects.{ProjectData}
 use Rattle.geda_model.specs.Sheets.{ObjectData}
 use Rattle.gaf_work.specs.Opening.{sheet_name, symbol_name}
 

@@ -1,10 +1,10 @@
 -- The project that the work begins with: a symbol of two pins, and an empty sheet (own).
 use Rattle.std.specs.Prelude.{ℕ, pos, false, List, [], ◌∷◌, Some, codes}
-use Rattle.geda_model.specs.declared.change.Thing.TheVariants as things
-use Rattle.geda_model.specs.declared.change.Value.TheVariants as values
+use Rattle.project_model.specs.declared.change.Thing.TheVariants as things
+use Rattle.project_model.specs.declared.change.Value.TheVariants as values
 use Rattle.geda_model.specs.declared.shape.Shape.TheVariants as shapes
 use Rattle.geda_model.specs.Data.{TextData}
-use Rattle.geda_model.specs.Items.{Item}
+use Rattle.project_model.specs.Items.{Item}
 use Rattle.geda_model.specs.Shapes.{PartData}
 use Rattle.geda_model.specs.Sheets.{HeadData, SymbolData}
 

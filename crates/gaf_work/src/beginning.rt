@@ -1,11 +1,11 @@
 // The project that the work begins with.
 ghost use Rattle.std.specs.Prelude.{◌≡◌, IfOk};
-ghost use Rattle.geda_model.specs.Changes.{CanApply};
+ghost use Rattle.project_model.specs.Changes.{CanApply};
 ghost use Rattle.gaf_work.specs.Opening.{opening};
 
 use crate::names::{sheet_name, symbol_name};
 use crate::symbol::{head, two_pins};
-use geda_model::{Change, Thing, Value};
+use project_model::{Change, Thing, Value};
 use std::alloc::{AllocError, Global};
 
 /// The change that opens the project of the work (docs/RULES.md, "Work"): the symbol `two.sym`, and

@@ -2,12 +2,13 @@
 ghost use Rattle.std.specs.Prelude.{◌≡◌, ◌∷◌, [], ◌<◌, ◌+◌, ◌^◌, ⊤};
 ghost use Rattle.std.specs.Prelude.{IfOk, MatchOption, map, option_map};
 ghost use Rattle.std.specs.FinMap.{keys};
-ghost use Rattle.geda_model.specs.Changes.{CanApply, IsIdInRange};
+ghost use Rattle.project_model.specs.Changes.{CanApply, IsIdInRange};
 ghost use Rattle.gaf_work.specs.DrawnSteps.{HasRoom, coming, id_at, leaving, step};
 
 use crate::names::sheet_name;
 use crate::objects::{part, wire};
-use geda_model::{Change, Object, Placed, Project, Thing, Value};
+use geda_model::Object;
+use project_model::{Change, Placed, Project, Thing, Value};
 use std::alloc::{AllocError, Global};
 
 /// The change of one thing.
@@ -23,8 +24,8 @@ fn change_of(alloc: Global, thing: Thing, value: Option<Value>) -> Result<Change
 
 /// The change that brings an object onto the sheet, under the next id.
 fn coming(alloc: Global, project: &Project, object: Object) -> Result<Change, AllocError>
-    ensures items { IfOk result (λ change. change.items ≡ coming project.now.parts object) }
-    ensures can_apply { HasRoom project.now.parts → IfOk result (λ change. CanApply change.items) }
+    ensures items { IfOk result (λ change. change.items ≡ coming project.now.contents object) }
+    ensures can_apply { HasRoom project.now.contents → IfOk result (λ change. CanApply change.items) }
 {
     let placed = Placed {
         sheet: sheet_name(alloc)?,
@@ -49,7 +50,7 @@ fn id_of(rows: &[(u32, &Placed)], q: u32) -> Option<u32>
 
 /// The id of the live object at a place in order of id, counted round.
 fn id_at(alloc: Global, project: &Project, q: u32) -> Result<Option<u32>, AllocError>
-    ensures { IfOk result (λ id. id ≡ id_at (keys project.now.parts.objects) q) }
+    ensures { IfOk result (λ id. id ≡ id_at (keys project.now.contents.objects) q) }
 {
     let rows = project.objects_by_id(alloc)?;
     Ok(id_of(rows.as_slice(), q))
@@ -58,8 +59,8 @@ fn id_at(alloc: Global, project: &Project, q: u32) -> Result<Option<u32>, AllocE
 /// The change that takes an object away, if there is one.
 fn deletion(alloc: Global, project: &Project, q: u32) -> Result<Option<Change>, AllocError>
     ensures step { IfOk result (λ change. option_map (λ c. c.items) change
-        ≡ option_map leaving (id_at (keys project.now.parts.objects) q)) }
-    ensures can_apply { HasRoom project.now.parts
+        ≡ option_map leaving (id_at (keys project.now.contents.objects) q)) }
+    ensures can_apply { HasRoom project.now.contents
         → IfOk result (λ change. MatchOption change ⊤ (λ c. CanApply c.items)) }
 {
     match id_at(alloc, project, q)? {
@@ -73,8 +74,8 @@ fn deletion(alloc: Global, project: &Project, q: u32) -> Result<Option<Change>, 
 /// `None` exactly where the step takes an object away and the project has none.
 pub fn step(alloc: Global, project: &Project, number: u32) -> Result<Option<Change>, AllocError>
     ensures step { IfOk result
-        (λ change. option_map (λ c. c.items) change ≡ step project.now.parts number) }
-    ensures can_apply { HasRoom project.now.parts
+        (λ change. option_map (λ c. c.items) change ≡ step project.now.contents number) }
+    ensures can_apply { HasRoom project.now.contents
         → IfOk result (λ change. MatchOption change ⊤ (λ c. CanApply c.items)) }
 {
     let q = number / 8;

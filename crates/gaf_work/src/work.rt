@@ -1,11 +1,11 @@
 // The numbers that are drawn, and the changes that they make.
 ghost use Rattle.std.specs.Prelude.{◌≡◌, ◌<◌, ⊤, IfOk, OnOk, OnErr, MatchOption, option_map};
-ghost use Rattle.geda_model.specs.Changes.{CanApply};
+ghost use Rattle.project_model.specs.Changes.{CanApply};
 ghost use Rattle.gaf_work.specs.Draws.{drawn, first_state};
 ghost use Rattle.gaf_work.specs.DrawnSteps.{HasRoom, step};
 
 use crate::steps::step;
-use geda_model::{Change, Project};
+use project_model::{Change, Project};
 use std::alloc::{AllocError, Global};
 use std::marker::Model;
 
@@ -52,10 +52,10 @@ impl Work {
     /// `None` exactly where the step takes an object away and the project has none.
     pub fn next(&mut self, alloc: Global, project: &Project) -> Result<Option<Change>, AllocError>
         ensures step { IfOk result (λ change. option_map (λ c. c.items) change
-            ≡ step project.now.parts (drawn self.old)) }
+            ≡ step project.now.contents (drawn self.old)) }
         ensures drawn { OnOk result (self.new ≡ drawn self.old) }
         ensures kept { OnErr result (self.new ≡ self.old) }
-        ensures can_apply { HasRoom project.now.parts → IfOk result
+        ensures can_apply { HasRoom project.now.contents → IfOk result
             (λ change. MatchOption change ⊤ (λ c. CanApply c.items)) }
     {
         let number = drawn(self.state);

@@ -2,7 +2,7 @@
 use Rattle.std.proofs.Common.{ℕ, List, Option, Some, None, Ok, Err, refl}
 use Rattle.std.specs.declared.option.Option.{Option}
 use Rattle.geda_defs.specs.Contents.{Files}
-use Rattle.geda_model.specs.Projects.{ProjectData}
+use Rattle.project_model.specs.Projects.{ProjectData}
 use Rattle.net_names.specs.declared.nets.Nets.{Nets}
 use Rattle.project_files.specs.declared.fault.FileFault.{FileFault}
 use Rattle.project_files.specs.ProjectFiles.{GathersFrom, OfFiles}

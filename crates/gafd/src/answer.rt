@@ -13,9 +13,10 @@ ghost use Rattle.gafd.specs.steps.Passing.{AnswerOf, ComesOf, Over};
 use crate::fault::RunFault;
 use command_words::Command;
 use drc_rules::{Matrix, MatrixFault};
-use geda_model::{Items, Name, Project};
+use geda_model::{Items, Name};
 use geda_write::{sheet_text, symbol_text};
 use project_files::{Folder, project_of, sheet_in, symbol_in};
+use project_model::Project;
 use reports::{Check, Form, check, net_report};
 use std::alloc::Global;
 use std::marker::Model;
@@ -50,7 +51,7 @@ impl Answer {
 
 /// The text of the net list of a project in a form.
 fn listed(alloc: Global, form: Form, project: &Project) -> Result<Answer, RunFault>
-    ensures { ComesOf (ByNetList (listed form) project.now.parts) result }
+    ensures { ComesOf (ByNetList (listed form) project.now.contents) result }
 {
     Ok(Answer::done(net_report(alloc, form, project)?))
 }
@@ -67,7 +68,7 @@ fn reported(check: Check) -> Answer
 
 /// The report of the check of a project under a matrix.
 fn checked(alloc: Global, matrix: &Matrix, project: &Project) -> Result<Answer, RunFault>
-    ensures { ComesOf (ByNetList (checked matrix.now) project.now.parts) result }
+    ensures { ComesOf (ByNetList (checked matrix.now) project.now.contents) result }
 {
     Ok(reported(check(alloc, matrix, project)?))
 }

@@ -1,6 +1,1 @@
 pub mod WordTests
-pub mod Rows
-pub mod OrderedRows
-pub mod ChangeLemmas
-pub mod BuiltChanges
-pub mod SortedLists

@@ -4,8 +4,3 @@ pub mod Data
 pub mod Ranges
 pub mod Shapes
 pub mod Sheets
-pub mod Tables
-pub mod Projects
-pub mod Items
-pub mod Changes
-pub mod steps

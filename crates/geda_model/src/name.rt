@@ -182,26 +182,26 @@ impl Hash for Name {
     }
 }
 
-/// Memory for one more name.
+/// Memory for one name.
 #[derive(Debug, Drop)]
-pub(crate) struct Room {
+pub struct NameRoom {
     text: String,
     ghost is_empty: { string_bytes text ≡ [] },
     ghost has_room: { most_name_bytes ≤ string_capacity text },
 }
 
-impl Room {
+impl NameRoom {
     /// Takes the memory.
-    pub(crate) fn new(alloc: Global) -> Result<Room, AllocError> {
+    pub fn new(alloc: Global) -> Result<NameRoom, AllocError> {
         let text = String::with_capacity(alloc, MOST_NAME_BYTES)?;
-        Ok(Room { text })
+        Ok(NameRoom { text })
     }
 
     /// A second copy of the name. It takes no memory.
-    pub(crate) fn name(self, name: &Name) -> Name
+    pub fn name(self, name: &Name) -> Name
         ensures { result ≡ name.now }
     {
-        let Room { mut text } = self;
+        let NameRoom { mut text } = self;
         let source = &name.text;
         text.push_str(source.as_str()).unwrap();
         Name { text }

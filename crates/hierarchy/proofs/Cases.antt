@@ -7,11 +7,11 @@ use Rattle.std.specs.FinMap as finite
 use Rattle.std.specs.Ordering.{nat_cmp}
 use Rattle.std.specs.Cmp.Lexicographic.{slice_cmp}
 use lib.Utf8.{encode}
-use Rattle.geda_model.specs.declared.change.Placed.{Placed}
+use Rattle.project_model.specs.declared.change.Placed.{Placed}
 use Rattle.geda_model.specs.declared.object.Body.TheVariants as bodies
 use Rattle.geda_model.specs.Data.{TextData}
 use Rattle.geda_model.specs.Sheets.{HeadData}
-use Rattle.geda_model.specs.Projects.{ProjectData, is_on}
+use Rattle.project_model.specs.Projects.{ProjectData, is_on}
 use Rattle.attr_rules.specs.Splits.{split_of}
 use Rattle.attr_rules.specs.Attributes.{attr, attrs}
 use Rattle.attr_rules.specs.Components.{has_sources}

@@ -5,8 +5,8 @@ use Rattle.std.specs.FinMap.{entries, keys}
 use Rattle.std.proofs.lemmas.Bool.{cases_lt}
 use Rattle.std.proofs.lemmas.List.{get_or-map, get_or_default, length-map}
 use Rattle.std.proofs.lemmas.List.Elements.{All-contains, All-contains_itself, All-filter, All-head, All-tail, All-weaker, filter_passes}
-use Rattle.geda_model.specs.declared.change.Placed.{Placed}
-use Rattle.geda_model.specs.Projects.{ProjectData, ids_on, is_on}
+use Rattle.project_model.specs.declared.change.Placed.{Placed}
+use Rattle.project_model.specs.Projects.{ProjectData, ids_on, is_on}
 use Rattle.hierarchy.specs.declared.way.Step.{Step}
 use Rattle.hierarchy.specs.declared.instances.Instance.{Instance}
 use Rattle.hierarchy.specs.SheetTable.{HierarchicalData, TableSheetData, hierarchical, no_sheet, sheet_at, sheet_of, sheet_table}

@@ -19,8 +19,8 @@ use Rattle.std.proofs.lemmas.Map.Keys.{Less-from_sorted}
 use Rattle.std.proofs.lemmas.Map.Lookups.{exact_bytes}
 use Rattle.std.proofs.lemmas.Map.Text.{is_eq-slice_cmp}
 use Rattle.std.proofs.lemmas.Slice.Eq.{bytes_eq-Decides}
-use Rattle.geda_model.specs.Projects.{ProjectData}
-use Rattle.geda_model.proofs.OrderedRows.{keys_sorted}
+use Rattle.project_model.specs.Projects.{ProjectData}
+use Rattle.project_model.proofs.OrderedRows.{keys_sorted}
 
 pub lt_true : (i n : ℕ) → i < n → nat_lt i n ≡ true
 lt_true i n lt = grind (arith, nat_tests)

@@ -12,9 +12,9 @@ use Rattle.std.proofs.lemmas.List.Kept.{AllPairs-filter}
 use Rattle.std.proofs.lemmas.List.Quantifiers.{all_pairs_push, position-Some}
 use Rattle.std.proofs.lemmas.Map.Keys.{below_from_sorted}
 use Rattle.geda_defs.specs.Lists.{each_once, with_new}
-use Rattle.geda_model.specs.declared.change.Placed.{Placed}
-use Rattle.geda_model.specs.Projects.{ProjectData, is_on}
-use Rattle.geda_model.proofs.OrderedRows.{keys_sorted}
+use Rattle.project_model.specs.declared.change.Placed.{Placed}
+use Rattle.project_model.specs.Projects.{ProjectData, is_on}
+use Rattle.project_model.proofs.OrderedRows.{keys_sorted}
 use Rattle.attr_rules.specs.Attributes.{attrs}
 use Rattle.attr_rules.specs.Libraries.{library_of}
 use Rattle.hierarchy.specs.SheetTable.{HierarchicalData, hierarchical, no_sheet, place_of, sheet_of, sheet_table, source_of, source_values}

@@ -9,9 +9,9 @@ use Rattle.std.proofs.lemmas.List.{append-nil, length-map}
 use Rattle.std.proofs.lemmas.List.Elements.{filter-append, filter_map-append}
 use Rattle.std.proofs.lemmas.List.Quantifiers.{position-Some}
 use Rattle.std.proofs.lemmas.List.Sums.{list_all-from_AllPass, sum_by_push}
-use Rattle.geda_model.specs.declared.change.Placed.{Placed}
+use Rattle.project_model.specs.declared.change.Placed.{Placed}
 use Rattle.geda_model.specs.Sheets.{ObjectData}
-use Rattle.geda_model.specs.Projects.{ProjectData, is_on}
+use Rattle.project_model.specs.Projects.{ProjectData, is_on}
 use Rattle.attr_rules.specs.Components.{has_sources}
 use Rattle.attr_rules.specs.Libraries.{library_of}
 use Rattle.hierarchy.specs.SheetTable.{HierarchicalData, TableSheetData, component_with, hierarchical, object_weight, place_of, sheet_of, sheet_table, source_of, source_values}

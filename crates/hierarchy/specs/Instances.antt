@@ -2,7 +2,7 @@
 use Rattle.std.specs.Prelude.{◌≡◌, ℕ, ◌==◌, ◌&&◌, ◌-◌, Bool, true, false, if◌then◌else◌, List, [], ◌∷◌, Option, None, length, map, take}
 use Rattle.std.specs.List.{position}
 use Rattle.std.specs.Str.{bytes_eq}
-use Rattle.geda_model.specs.Projects.{ProjectData}
+use Rattle.project_model.specs.Projects.{ProjectData}
 use Rattle.hierarchy.specs.declared.way.Step.{Step}
 use Rattle.hierarchy.specs.declared.instances.Instance.{Instance}
 use Rattle.hierarchy.specs.declared.lost.Lost.{Lost}

@@ -6,9 +6,9 @@ use Rattle.std.specs.List.{filter, filter_map, list_any, position, range_with_le
 use Rattle.std.specs.Str.{bytes_eq}
 use Rattle.std.specs.FinMap.{entries, keys}
 use Rattle.geda_defs.specs.Lists.{each_once}
-use Rattle.geda_model.specs.declared.change.Placed.{Placed}
+use Rattle.project_model.specs.declared.change.Placed.{Placed}
 use Rattle.geda_model.specs.Sheets.{ObjectData, SymbolData}
-use Rattle.geda_model.specs.Projects.{ProjectData, is_on}
+use Rattle.project_model.specs.Projects.{ProjectData, is_on}
 use Rattle.attr_rules.specs.Attributes.{attrs, parts_of}
 use Rattle.attr_rules.specs.Components.{has_sources, refdes_of}
 use Rattle.attr_rules.specs.Libraries.{library_of}

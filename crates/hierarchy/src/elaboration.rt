@@ -1,6 +1,6 @@
 // The hierarchy of a project.
 ghost use Rattle.std.specs.Prelude.{◌≡◌, ◌≢◌, ◌<◌, ◌≤◌, ◌↔◌, All, AllPairs, Contains, IfOk, IsErrOf, List, OnOk, length};
-ghost use Rattle.geda_model.specs.Projects.{ProjectData};
+ghost use Rattle.project_model.specs.Projects.{ProjectData};
 ghost use Rattle.hierarchy.specs.declared.fault.ElabFault.TheVariants as faults;
 ghost use Rattle.hierarchy.specs.SheetTable.{sheet_table};
 ghost use Rattle.hierarchy.specs.Ways.{IsWay, WayData, last_sheet, ways};
@@ -17,7 +17,8 @@ use crate::lost::{Lost, lost_by};
 use crate::table::TableSheet;
 use crate::way::Way;
 use crate::widening::{root_ways, widened};
-use geda_model::{Items, Project};
+use geda_model::Items;
+use project_model::Project;
 use std::alloc::Global;
 
 /// The instances of a project's sheets, and what is left out of them.
@@ -76,10 +77,10 @@ fn hierarchy_of(alloc: Global, sheets: &[TableSheet]) -> Result<Hierarchy, ElabF
 /// a sum over instances of weights of over 4,000,000 ("Limits of a hierarchy").
 pub fn elaborate(alloc: Global, project: &Project) -> Result<Hierarchy, ElabFault>
     ensures instances { IfOk result
-        (λ hierarchy. hierarchy.instances ≡ instances_of project.now.parts) }
-    ensures lost { IfOk result (λ hierarchy. hierarchy.lost ≡ lost_of project.now.parts) }
-    ensures accepted { OnOk result (¬ IsCrowded project.now.parts) }
-    ensures refused { IsErrOf result faults.TooManyInstances → IsCrowded project.now.parts }
+        (λ hierarchy. hierarchy.instances ≡ instances_of project.now.contents) }
+    ensures lost { IfOk result (λ hierarchy. hierarchy.lost ≡ lost_of project.now.contents) }
+    ensures accepted { OnOk result (¬ IsCrowded project.now.contents) }
+    ensures refused { IsErrOf result faults.TooManyInstances → IsCrowded project.now.contents }
 {
     let sheets = sheet_table(alloc, project)?;
     hierarchy_of(alloc, sheets.as_slice())

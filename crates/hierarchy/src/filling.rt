@@ -4,8 +4,8 @@ ghost use Rattle.std.specs.FinMap.{keys};
 ghost use Rattle.std.specs.List.Sorted.{IsStrictlySortedBy};
 ghost use Rattle.std.specs.Ordering.{nat_cmp};
 ghost use Rattle.std.specs.Cmp.Lexicographic.{slice_cmp};
-ghost use Rattle.geda_model.specs.declared.change.Placed.{Placed};
-ghost use Rattle.geda_model.specs.Tables.{row_now};
+ghost use Rattle.project_model.specs.declared.change.Placed.{Placed};
+ghost use Rattle.project_model.specs.Tables.{row_now};
 ghost use Rattle.hierarchy.specs.SheetTable.{sheet_table};
 ghost use Rattle.hierarchy.specs.steps.SheetRows.{AreLight, IsTableOf, bare_sheet, with_object};
 
@@ -13,7 +13,8 @@ use crate::components::component_of;
 use crate::places::place_of;
 use crate::table::TableSheet;
 use attr_rules::{has_sources, library_of, parts_of};
-use geda_model::{Name, Object, Placed, Project};
+use geda_model::{Name, Object};
+use project_model::{Placed, Project};
 use std::alloc::{AllocError, Global};
 
 impl TableSheet {
@@ -25,11 +26,11 @@ impl TableSheet {
         id: u32,
         object: &Object,
     ) -> Result<(), AllocError>
-        requires names { names.now ≡ keys project.now.parts.sheets }
+        requires names { names.now ≡ keys project.now.contents.sheets }
         requires rising { IsStrictlySortedBy (slice_cmp nat_cmp) names.now }
         requires light { self.old.weight ≤ 79228162514264337593543950336 }
         ensures added { OnOk result
-            (self.new ≡ with_object project.now.parts id object.now self.old) }
+            (self.new ≡ with_object project.now.contents id object.now self.old) }
         ensures light { OnOk result (self.new.weight ≤ self.old.weight + 4294967296) }
     {
         let library = library_of(alloc, project, object)?;
@@ -50,13 +51,13 @@ fn add_object(
     id: u32,
     placed: &Placed,
 ) -> Result<(), AllocError>
-    requires names { names.now ≡ keys project.now.parts.sheets }
+    requires names { names.now ≡ keys project.now.contents.sheets }
     requires rising { IsStrictlySortedBy (slice_cmp nat_cmp) names.now }
     requires named { map (λ sheet. sheet.name) table.old.items ≡ names.now }
     requires light { AreLight 18446744073709551616 table.old.items }
     ensures table { OnOk result ((rows : List (ℕ × Placed))
-        → IsTableOf project.now.parts rows table.old.items
-        → IsTableOf project.now.parts (rows ++ (id, placed.now) ∷ []) table.new.items) }
+        → IsTableOf project.now.contents rows table.old.items
+        → IsTableOf project.now.contents (rows ++ (id, placed.now) ∷ []) table.new.items) }
     ensures light { OnOk result ((count : ℕ)
         → AreLight count table.old.items → AreLight (count + 1) table.new.items) }
 {
@@ -77,10 +78,10 @@ fn add_objects(
     table: &mut Vec<TableSheet>,
     rows: &[(u32, &Placed)],
 ) -> Result<(), AllocError>
-    requires names { names.now ≡ keys project.now.parts.sheets }
+    requires names { names.now ≡ keys project.now.contents.sheets }
     requires rising { IsStrictlySortedBy (slice_cmp nat_cmp) names.now }
     requires empty { table.old.items ≡ map bare_sheet names.now }
-    ensures { OnOk result (IsTableOf project.now.parts (map row_now rows.now) table.new.items) }
+    ensures { OnOk result (IsTableOf project.now.contents (map row_now rows.now) table.new.items) }
 {
     for row in rows {
         add_object(alloc, project, names, table, row.0, row.1)?;
@@ -104,7 +105,7 @@ fn bare_sheets(alloc: Global, names: &[Name]) -> Result<Vec<TableSheet>, AllocEr
 
 /// The sheets of a project in order of name, each with its hierarchical components and its weight.
 pub fn sheet_table(alloc: Global, project: &Project) -> Result<Vec<TableSheet>, AllocError>
-    ensures { IfOk result (λ table. table.items ≡ sheet_table project.now.parts) }
+    ensures { IfOk result (λ table. table.items ≡ sheet_table project.now.contents) }
 {
     let names = project.sheet_names(alloc)?;
     let rows = project.objects_by_id(alloc)?;

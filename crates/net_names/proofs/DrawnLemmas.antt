@@ -5,12 +5,12 @@ use Rattle.std.specs.FinMap.{entries}
 use Rattle.std.specs.List.{filter_map, flat_map, slice_get}
 use Rattle.std.proofs.lemmas.List.Elements.{All-append, All-contains, All-contains_itself, All-weaker, Contains-append_left, filter_passes}
 use Rattle.std.proofs.lemmas.Option.{none-some}
-use Rattle.geda_model.specs.declared.change.Placed.{Placed}
+use Rattle.project_model.specs.declared.change.Placed.{Placed}
 use Rattle.geda_model.specs.declared.object.Body.{Body}
 use Rattle.geda_model.specs.declared.object.Body.TheVariants as bodies
 use Rattle.geda_model.specs.declared.shape.Shape.TheVariants as shapes
 use Rattle.geda_model.specs.Sheets.{ObjectData}
-use Rattle.geda_model.specs.Projects.{ProjectData}
+use Rattle.project_model.specs.Projects.{ProjectData}
 use Rattle.attr_rules.specs.Libraries.{library_of}
 use Rattle.geda_geom.specs.declared.conductor.Point.{Point}
 use Rattle.geda_geom.specs.declared.conductor.Conductor.{Conductor}

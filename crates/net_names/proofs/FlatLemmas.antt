@@ -15,10 +15,10 @@ use Rattle.std.proofs.lemmas.Map.Keys.{IsDistinct-from_sorted}
 use Rattle.std.proofs.lemmas.Map.Lookups.{exact_bytes, exact_pairs, exact_unsigned}
 use Rattle.std.proofs.lemmas.Cmp.{eq_by_cmp_equiv}
 use Rattle.std.proofs.lemmas.Option.{get_or_from_slice_get, none-some, same_Some, slice_get_within}
-use Rattle.geda_model.specs.declared.change.Placed.{Placed}
-use Rattle.geda_model.specs.Projects.{ProjectData, ids_on, is_on}
-use Rattle.geda_model.proofs.OrderedRows.{keys_sorted}
-use Rattle.geda_model.proofs.Rows.{IsKey, find_row}
+use Rattle.project_model.specs.declared.change.Placed.{Placed}
+use Rattle.project_model.specs.Projects.{ProjectData, ids_on, is_on}
+use Rattle.project_model.proofs.OrderedRows.{keys_sorted}
+use Rattle.project_model.proofs.Rows.{IsKey, find_row}
 use Rattle.hierarchy.specs.declared.instances.Instance.{Instance}
 use Rattle.hierarchy.specs.Instances.{instances_of}
 use Rattle.hierarchy.proofs.KnownLemmas.{known_by_object}

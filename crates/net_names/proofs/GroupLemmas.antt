@@ -16,7 +16,7 @@ use Rattle.geda_geom.specs.declared.conductor.Key.{Key}
 use Rattle.geda_geom.specs.Keys.{by_key}
 use Rattle.geda_geom.proofs.KeyLemmas.{by_key_total}
 use Rattle.geda_geom.proofs.TouchLemmas.{touch_turn}
-use Rattle.geda_model.specs.Projects.{ProjectData}
+use Rattle.project_model.specs.Projects.{ProjectData}
 use Rattle.sheet_groups.specs.Conductors.{SheetConductor, sheet_conductors}
 use Rattle.sheet_groups.specs.Groups.{AreGroups, AreTouching, DoTouch, TouchAt, group_rows}
 use Rattle.sheet_groups.proofs.OrderLemmas.{conductor_keys_rise, keys_at}

@@ -10,7 +10,7 @@ use Rattle.geda_geom.specs.declared.conductor.Conductor.TheVariants.{Segment, En
 use Rattle.geda_geom.specs.declared.conductor.Key.{Key}
 use Rattle.geda_geom.specs.Keys.{by_key}
 use Rattle.geda_geom.specs.Touch.{Touch}
-use Rattle.geda_model.specs.Projects.{ProjectData}
+use Rattle.project_model.specs.Projects.{ProjectData}
 use Rattle.hierarchy.specs.declared.instances.Instance.{Instance}
 use Rattle.hierarchy.specs.Instances.{instances_of}
 use Rattle.sheet_groups.specs.Conductors.{SheetConductor, sheet_conductors}

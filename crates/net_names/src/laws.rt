@@ -1,6 +1,6 @@
 // Laws of net lists.
 ghost use Rattle.std.specs.Prelude.{◌≡◌, ℕ, List};
-ghost use Rattle.geda_model.specs.Projects.{ProjectData};
+ghost use Rattle.project_model.specs.Projects.{ProjectData};
 ghost use Rattle.net_names.specs.declared.nets.Nets.{Nets};
 ghost use Rattle.net_names.specs.NetClasses.{ClassPinData, NetClassData, by_member};
 ghost use Rattle.net_names.specs.NetLists.{IsNetListOf, by_least_pin, by_name};

@@ -10,9 +10,9 @@ use crate::nets::Nets;
 use crate::packages::packages_of;
 use flat_sheets::{FlatProject, flatten};
 use geda_geom::Key;
-use geda_model::Project;
 use hierarchy::Hierarchy;
 use link_classes::class_labels;
+use project_model::Project;
 use std::alloc::{AllocError, Global};
 use std::collections::BTreeMap;
 
@@ -24,9 +24,9 @@ pub fn join(
     hierarchy: &Hierarchy,
     groups: &BTreeMap<Key, Key>,
 ) -> Result<Nets, AllocError>
-    requires hierarchy { hierarchy.now.instances ≡ instances_of project.now.parts }
-    requires groups { AreGroups (sheet_conductors project.now.parts) groups.now.entries }
-    ensures { IfOk result (IsNetListOf project.now.parts) }
+    requires hierarchy { hierarchy.now.instances ≡ instances_of project.now.contents }
+    requires groups { AreGroups (sheet_conductors project.now.contents) groups.now.entries }
+    ensures { IfOk result (IsNetListOf project.now.contents) }
 {
     let FlatProject { conductors, parts } = flatten(
         alloc,

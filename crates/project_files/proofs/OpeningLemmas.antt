@@ -6,11 +6,11 @@ use Rattle.std.proofs.lemmas.List.{length-append}
 use Rattle.std.proofs.lemmas.List.Kept.{AllPairs-cons}
 use Rattle.std.proofs.lemmas.List.Elements.{All-append, All-cons, All-nil}
 use Rattle.geda_model.specs.Sheets.{ObjectData, SheetData, SymbolData}
-use Rattle.geda_model.specs.declared.change.Thing.{Thing}
-use Rattle.geda_model.specs.declared.change.Thing.TheVariants as things
-use Rattle.geda_model.specs.declared.change.Value.TheVariants as values
-use Rattle.geda_model.specs.Items.{Item}
-use Rattle.geda_model.specs.Changes.{CanApply, IsIdInRange}
+use Rattle.project_model.specs.declared.change.Thing.{Thing}
+use Rattle.project_model.specs.declared.change.Thing.TheVariants as things
+use Rattle.project_model.specs.declared.change.Value.TheVariants as values
+use Rattle.project_model.specs.Items.{Item}
+use Rattle.project_model.specs.Changes.{CanApply, IsIdInRange}
 use Rattle.project_files.specs.Gathering.{AskedSymbol, Gathered}
 use Rattle.project_files.specs.Opening.{Library, all_objects, found_symbol, library_of, object_items, opening, sheet_items, sheets_items, symbol_items}
 use Rattle.project_files.specs.steps.Standing.{IsWhole}

@@ -4,14 +4,14 @@ use Rattle.std.specs.declared.option.Option.{Option}
 use Rattle.std.specs.List.{filter_map, flat_map, sum_by}
 use Rattle.geda_model.specs.Limits.{most_objects, most_project_text, most_sheets, most_symbols}
 use Rattle.geda_model.specs.Sheets.{ObjectData, SheetData, SymbolData}
-use Rattle.geda_model.specs.Items.{Item}
-use Rattle.geda_model.specs.Projects.{ProjectData, no_parts}
-use Rattle.geda_model.specs.Changes.{put}
+use Rattle.project_model.specs.Items.{Item}
+use Rattle.project_model.specs.Projects.{ProjectData, empty_project}
+use Rattle.project_model.specs.Changes.{put}
 use Rattle.geda_grammar.specs.Canonical.{object_text, symbol_text}
 use Rattle.project_files.specs.declared.fault.FileFault.{FileFault}
 use Rattle.project_files.specs.Gathering.{AskedSymbol, Gathered}
-use Rattle.geda_model.specs.declared.change.Thing.TheVariants as things
-use Rattle.geda_model.specs.declared.change.Value.TheVariants as values
+use Rattle.project_model.specs.declared.change.Thing.TheVariants as things
+use Rattle.project_model.specs.declared.change.Value.TheVariants as values
 use Rattle.project_files.specs.declared.fault.FileFault.TheVariants as faults
 
 -- symbols under their names
@@ -85,4 +85,4 @@ abbrev pub opened : Gathered → Result ProjectData FileFault
 opened g =
     if has_too_many_objects g then Err faults.TooManyObjects
     else if is_over_full g then Err faults.ProjectFull
-    else Ok (put no_parts (opening g))
+    else Ok (put empty_project (opening g))

@@ -1,8 +1,8 @@
 // The change that opens a project, and the project that it opens.
 ghost use Rattle.std.specs.Prelude.{◌≡◌, ◌+◌, ◌++◌, ◌≤◌, IfOk, OnOk, length};
 ghost use Rattle.std.specs.List.{filter_map, flat_map};
-ghost use Rattle.geda_model.specs.Changes.{CanApply, put};
-ghost use Rattle.geda_model.specs.Projects.{no_parts};
+ghost use Rattle.project_model.specs.Changes.{CanApply, put};
+ghost use Rattle.project_model.specs.Projects.{empty_project};
 ghost use Rattle.project_files.specs.Opening.{all_objects, found_symbol, object_items, opened};
 ghost use Rattle.project_files.specs.Opening.{opening, sheet_items, sheets_items, symbol_items};
 ghost use Rattle.project_files.specs.steps.Standing.{IsWhole};
@@ -11,7 +11,8 @@ ghost use Rattle.project_files.specs.ProjectFiles.{IsAnswer, with_view};
 use crate::fault::FileFault;
 use crate::gathered::GatheredFiles;
 use crate::project_text::{has_too_many_objects, is_over_full};
-use geda_model::{Change, Name, Objects, Placed, Project, Sheet, Symbol, Thing, Value};
+use geda_model::{Name, Objects, Sheet, Symbol};
+use project_model::{Change, Placed, Project, Thing, Value};
 use std::alloc::{AllocError, Global};
 
 /// Puts in the objects of a sheet, the first under an id and the others behind it. The next id.
@@ -97,7 +98,7 @@ fn opening(alloc: Global, gathered: GatheredFiles) -> Result<Change, AllocError>
 /// The project that a change makes of the empty one.
 fn opened_by(alloc: Global, change: Change) -> Result<Project, AllocError>
     requires { CanApply change.items }
-    ensures { IfOk result (λ project. project.parts ≡ put no_parts change.items) }
+    ensures { IfOk result (λ project. project.contents ≡ put empty_project change.items) }
 {
     let mut project = Project::new(alloc);
     project.reserve(alloc, &change)?;
@@ -112,7 +113,7 @@ fn opened_by(alloc: Global, change: Change) -> Result<Project, AllocError>
 /// exactly where else there are more sheets or symbols, or more text (docs/FORMATS.md, "Limits").
 pub fn opened(alloc: Global, gathered: GatheredFiles) -> Result<Project, FileFault>
     requires { IsWhole gathered }
-    ensures { IsAnswer (λ end. end ≡ opened gathered) (with_view (λ p. p.parts) result) }
+    ensures { IsAnswer (λ end. end ≡ opened gathered) (with_view (λ p. p.contents) result) }
 {
     if has_too_many_objects(&gathered) {
         return Err(FileFault::TooManyObjects);

@@ -9,7 +9,8 @@ use crate::fault::FileFault;
 use crate::folder::Folder;
 use crate::gathering::gather;
 use crate::opening::opened;
-use geda_model::{Name, Project};
+use geda_model::Name;
+use project_model::Project;
 use std::alloc::Global;
 
 /// The project of the sheets of these names, which differ: these sheets, those below them, and the
@@ -26,7 +27,7 @@ pub fn project_of<F: Folder>(
 ) -> Result<Project, FileFault>
     requires { AllPairs ◌≢◌ names.now }
     ensures project { IsFolderAnswer (counts (F.faults folder.old) (F.faults folder.new))
-        (GathersFrom (F.files folder.old) names.now) (with_view (λ p. p.parts) result) }
+        (GathersFrom (F.files folder.old) names.now) (with_view (λ p. p.contents) result) }
     ensures files { KeepsFiles (F.files folder.old) (F.files folder.new) }
 {
     let gathered = gather(alloc, names, folder)?;

@@ -1,7 +1,7 @@
 -- Reports by the net list of a project.
 use Rattle.std.proofs.Common.{ℕ, List, Vec, Result, Ok, Err, Global}
 use Rattle.std.specs.Result.{IsErrAnd}
-use Rattle.geda_model.specs.Projects.{ProjectData}
+use Rattle.project_model.specs.Projects.{ProjectData}
 use Rattle.hierarchy.specs.declared.fault.ElabFault.{ElabFault}
 use Rattle.hierarchy.specs.declared.fault.ElabFault.TheVariants as elaboration
 use Rattle.backends.specs.declared.form.Form.{Form}

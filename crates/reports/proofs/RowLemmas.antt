@@ -3,7 +3,7 @@ use Rattle.std.proofs.Common.{◌≡◌, ℕ, List, [], ◌∷◌, ◌++◌, ref
 use Rattle.std.proofs.lemmas.Grind.{flat_map-append}
 use Rattle.std.specs.List.{flat_map}
 use Rattle.geda_defs.specs.Lines.{ended}
-use Rattle.geda_model.specs.declared.change.Placed.{Placed}
+use Rattle.project_model.specs.declared.change.Placed.{Placed}
 use Rattle.geda_grammar.specs.declared.row.Row.{Row}
 use Rattle.geda_grammar.specs.Canonical.{object_rows, row_lines, rows_text}
 use Rattle.reports.specs.steps.Rows.{row_text}

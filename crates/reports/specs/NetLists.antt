@@ -3,7 +3,7 @@ use Rattle.std.specs.Prelude.{◌≡◌, ◌⊎◌, ⊤, ℕ, Bool, List, Result
 use Rattle.std.specs.Result.{result_map_both}
 use Rattle.std.specs.declared.alloc.Global.{Global}
 use Rattle.std.specs.List.{list_any}
-use Rattle.geda_model.specs.Projects.{ProjectData}
+use Rattle.project_model.specs.Projects.{ProjectData}
 use Rattle.hierarchy.specs.Instances.{IsCrowded}
 use Rattle.hierarchy.specs.declared.fault.ElabFault.{ElabFault}
 use Rattle.hierarchy.specs.declared.fault.ElabFault.TheVariants as faults

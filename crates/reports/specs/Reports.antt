@@ -1,7 +1,7 @@
 -- What each report on a project comes to (own).
 use Rattle.std.specs.Prelude.{◌≡◌, ⊤, ℕ, List, Option, Some, None, Result, Ok, Err}
 use Rattle.std.specs.FinMap.{get}
-use Rattle.geda_model.specs.Projects.{ProjectData}
+use Rattle.project_model.specs.Projects.{ProjectData}
 use Rattle.geda_grammar.specs.Canonical.{sheet_text, symbol_text}
 use Rattle.backends.specs.Forms.{net_text}
 use Rattle.pin_matrix.specs.declared.level.Level.{Level}

@@ -4,10 +4,10 @@ use Rattle.std.specs.FinMap.{entries, keys}
 use Rattle.std.specs.Fmt.{decimal}
 use Rattle.std.specs.List.{flat_map}
 use Rattle.geda_defs.specs.Lines.{ended}
-use Rattle.geda_model.specs.declared.change.Placed.{Placed}
+use Rattle.project_model.specs.declared.change.Placed.{Placed}
 use Rattle.geda_model.specs.declared.object.Body.{Body}
 use Rattle.geda_model.specs.declared.object.Body.TheVariants as bodies
-use Rattle.geda_model.specs.Projects.{ProjectData, ids_on, is_on}
+use Rattle.project_model.specs.Projects.{ProjectData, ids_on, is_on}
 use Rattle.geda_model.specs.Sheets.{HeadData, SheetData}
 use Rattle.geda_grammar.specs.Letters.{byte_of}
 use Rattle.geda_grammar.specs.Rows.{letter_of_shape}

@@ -13,15 +13,16 @@ use crate::sheet_texts::{objects_text, sheet_text, sheets_text};
 use crate::what::What;
 use board_core::Board;
 use drc_rules::Matrix;
-use geda_model::{Name, Project};
+use geda_model::Name;
 use geda_write::symbol_text;
+use project_model::Project;
 use std::alloc::{AllocError, Global};
 
 /// The canonical text of the sheet of a name.
 fn sheet_report(alloc: Global, project: &Project, name: &Name) -> Result<Vec<u8>, ReportFault>
     ensures { Told (text_or ReportFault.NoSheet
-        (λ head. canonical (sheet_of project.now.parts name.now head))
-        (get project.now.parts.sheets name.now)) (seen result) }
+        (λ head. canonical (sheet_of project.now.contents name.now head))
+        (get project.now.contents.sheets name.now)) (seen result) }
 {
     let head = project.head(name).ok_or(ReportFault::NoSheet)?;
     Ok(sheet_text(alloc, project, name, head)?)
@@ -30,7 +31,7 @@ fn sheet_report(alloc: Global, project: &Project, name: &Name) -> Result<Vec<u8>
 /// The canonical text of the symbol of a name.
 fn symbol_report(alloc: Global, project: &Project, name: &Name) -> Result<Vec<u8>, ReportFault>
     ensures { Told (text_or ReportFault.NoSymbol symbol_text
-        (get project.now.parts.symbols name.now)) (seen result) }
+        (get project.now.contents.symbols name.now)) (seen result) }
 {
     let symbol = project.symbol(name).ok_or(ReportFault::NoSymbol)?;
     Ok(symbol_text(alloc, symbol)?)
@@ -38,8 +39,8 @@ fn symbol_report(alloc: Global, project: &Project, name: &Name) -> Result<Vec<u8
 
 /// The lines of the objects of the sheet of a name.
 fn objects_report(alloc: Global, project: &Project, name: &Name) -> Result<Vec<u8>, ReportFault>
-    ensures { Told (text_or ReportFault.NoSheet (λ head. objects_text project.now.parts name.now)
-        (get project.now.parts.sheets name.now)) (seen result) }
+    ensures { Told (text_or ReportFault.NoSheet (λ head. objects_text project.now.contents name.now)
+        (get project.now.contents.sheets name.now)) (seen result) }
 {
     if project.head(name).is_none() {
         return Err(ReportFault::NoSheet);

@@ -9,9 +9,9 @@ use backends::{Form, net_text};
 use board_core::Board;
 use drc_rules::{Matrix, findings};
 use geda_geom::Key;
-use geda_model::Project;
 use hierarchy::{ElabFault, elaborate};
 use net_names::{Nets, join};
+use project_model::Project;
 use sheet_groups::local_groups;
 use std::alloc::{AllocError, Global};
 use std::collections::BTreeMap;
@@ -21,7 +21,7 @@ use std::collections::BTreeMap;
 /// `TooManyInstances` exactly where the limits of a hierarchy are exceeded.
 pub fn net_list(alloc: Global, project: &Project) -> Result<Nets, ElabFault>
     ensures { Elaborates
-        (OfNetList ElabFault.TooManyInstances (λ nets. nets) project.now.parts) result }
+        (OfNetList ElabFault.TooManyInstances (λ nets. nets) project.now.contents) result }
 {
     let hierarchy = elaborate(alloc, project)?;
     let groups = local_groups(alloc, project)?;
@@ -35,9 +35,9 @@ fn net_report_by(
     project: &Project,
     groups: &BTreeMap<Key, Key>,
 ) -> Result<Vec<u8>, ElabFault>
-    requires { AreGroups (sheet_conductors project.now.parts) groups.now.entries }
+    requires { AreGroups (sheet_conductors project.now.contents) groups.now.entries }
     ensures { Elaborates
-        (OfNetList ElabFault.TooManyInstances (net_text form) project.now.parts)
+        (OfNetList ElabFault.TooManyInstances (net_text form) project.now.contents)
         (seen result) }
 {
     let hierarchy = elaborate(alloc, project)?;
@@ -50,7 +50,7 @@ fn net_report_by(
 /// `TooManyInstances` exactly where the limits of a hierarchy are exceeded.
 pub fn net_report(alloc: Global, form: Form, project: &Project) -> Result<Vec<u8>, ElabFault>
     ensures { Elaborates
-        (OfNetList ElabFault.TooManyInstances (net_text form) project.now.parts)
+        (OfNetList ElabFault.TooManyInstances (net_text form) project.now.contents)
         (seen result) }
 {
     let groups = local_groups(alloc, project)?;
@@ -74,10 +74,10 @@ fn check_by(
     project: &Project,
     groups: &BTreeMap<Key, Key>,
 ) -> Result<Check, ElabFault>
-    requires { AreGroups (sheet_conductors project.now.parts) groups.now.entries }
+    requires { AreGroups (sheet_conductors project.now.contents) groups.now.entries }
     ensures { Elaborates
-        (OfNetList ElabFault.TooManyInstances (checked project.now.parts matrix.now)
-        project.now.parts) result }
+        (OfNetList ElabFault.TooManyInstances (checked project.now.contents matrix.now)
+        project.now.contents) result }
 {
     let hierarchy = elaborate(alloc, project)?;
     let nets = join(alloc, project, &hierarchy, groups)?;
@@ -90,8 +90,8 @@ fn check_by(
 /// `TooManyInstances` exactly where the limits of a hierarchy are exceeded.
 pub fn check(alloc: Global, matrix: &Matrix, project: &Project) -> Result<Check, ElabFault>
     ensures { Elaborates
-        (OfNetList ElabFault.TooManyInstances (checked project.now.parts matrix.now)
-        project.now.parts) result }
+        (OfNetList ElabFault.TooManyInstances (checked project.now.contents matrix.now)
+        project.now.contents) result }
 {
     let groups = local_groups(alloc, project)?;
     check_by(alloc, matrix, project, &groups)

@@ -3,8 +3,8 @@ ghost use Rattle.std.specs.Prelude.{◌≡◌, ◌++◌, ◌∷◌, [], IfOk, On
 ghost use Rattle.std.specs.List.{flat_map};
 ghost use Rattle.std.specs.Fmt.{decimal};
 ghost use Rattle.geda_defs.specs.Lines.{ended};
-ghost use Rattle.geda_model.specs.Tables.{row_now};
-ghost use Rattle.geda_model.specs.Projects.{ProjectData, is_on};
+ghost use Rattle.project_model.specs.Tables.{row_now};
+ghost use Rattle.project_model.specs.Projects.{ProjectData, is_on};
 ghost use Rattle.geda_model.specs.declared.object.Body.TheVariants as bodies;
 ghost use Rattle.geda_grammar.specs.Canonical.{sheet_text};
 ghost use Rattle.printed_texts.specs.PrintedTexts.{word};
@@ -14,9 +14,10 @@ ghost use Rattle.reports.specs.SheetTexts.{sheet_line, sheet_of, sheets_text};
 ghost use Rattle.reports.specs.steps.Rows.{row_text};
 
 use flat_sheets::{ids_at, ids_by_sheet};
-use geda_model::{Body, Head, Items, Name, Object, Placed, Project, Shape};
+use geda_model::{Body, Head, Items, Name, Object, Shape};
 use geda_write::{head_text, object_text};
 use printed_texts::put_word;
+use project_model::{Placed, Project};
 use std::alloc::{AllocError, Global};
 use std::collections::BTreeMap;
 
@@ -45,7 +46,7 @@ fn objects_on<'a>(
     name: &Name,
 ) -> Result<Vec<(u32, &'a Placed)>, AllocError>
     ensures { IfOk result
-        (λ rows. map row_now rows.items ≡ objects_on project.now.parts name.now) }
+        (λ rows. map row_now rows.items ≡ objects_on project.now.contents name.now) }
 {
     let rows = project.objects_by_id(alloc)?;
     rows_on(alloc, &rows, name)
@@ -71,7 +72,7 @@ pub fn sheet_text(
     head: &Head,
 ) -> Result<Vec<u8>, AllocError>
     ensures { IfOk result
-        (λ text. text.items ≡ sheet_text (sheet_of project.now.parts name.now head.now)) }
+        (λ text. text.items ≡ sheet_text (sheet_of project.now.contents name.now head.now)) }
 {
     let rows = objects_on(alloc, project, name)?;
     let mut text = head_text(alloc, head)?;
@@ -139,7 +140,7 @@ fn put_object_lines(
 
 /// A line for each object of a sheet.
 pub fn objects_text(alloc: Global, project: &Project, name: &Name) -> Result<Vec<u8>, AllocError>
-    ensures { IfOk result (λ text. text.items ≡ objects_text project.now.parts name.now) }
+    ensures { IfOk result (λ text. text.items ≡ objects_text project.now.contents name.now) }
 {
     let rows = objects_on(alloc, project, name)?;
     let mut text = Vec::new(alloc);
@@ -181,7 +182,7 @@ fn sheet_lines(
 
 /// A line for each sheet of a project, by name.
 pub fn sheets_text(alloc: Global, project: &Project) -> Result<Vec<u8>, AllocError>
-    ensures { IfOk result (λ text. text.items ≡ sheets_text project.now.parts) }
+    ensures { IfOk result (λ text. text.items ≡ sheets_text project.now.contents) }
 {
     let names = project.sheet_names(alloc)?;
     let table = ids_by_sheet(alloc, project)?;

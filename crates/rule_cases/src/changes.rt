@@ -1,8 +1,8 @@
 // One change of one thing.
 ghost use Rattle.std.specs.Prelude.{◌≡◌, ◌∷◌, [], IfOk};
-ghost use Rattle.geda_model.specs.Changes.{CanApply, IsIdInRange};
+ghost use Rattle.project_model.specs.Changes.{CanApply, IsIdInRange};
 
-use geda_model::{Change, Thing, Value};
+use project_model::{Change, Thing, Value};
 use std::alloc::{AllocError, Global};
 
 /// The change that gives one thing a value, or takes it out.

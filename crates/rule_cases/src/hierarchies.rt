@@ -1,7 +1,7 @@
 // Sheets below sheets (docs/RULES.md, "Instances" and "Sources that are left out").
 use crate::projects::{put_object, put_sheet};
-use geda_model::Project;
 use hierarchy::{Hierarchy, Lost, elaborate};
+use project_model::Project;
 use std::alloc::{AllocError, Global};
 use std::test::Fail;
 

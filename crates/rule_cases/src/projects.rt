@@ -1,11 +1,12 @@
 // Projects and their changes (docs/RULES.md, "Projects").
-ghost use Rattle.geda_model.specs.Changes.{IsIdInRange};
-ghost use Rattle.geda_model.specs.declared.change.Thing.TheVariants as things;
+ghost use Rattle.project_model.specs.Changes.{IsIdInRange};
+ghost use Rattle.project_model.specs.declared.change.Thing.TheVariants as things;
 
 use crate::changes::change_of;
 use attr_rules::library_of;
-use geda_model::{Change, Name, Placed, Project, Thing, Value};
+use geda_model::Name;
 use geda_read::{read_object, read_sheet, read_symbol};
+use project_model::{Change, Placed, Project, Thing, Value};
 use std::alloc::{AllocError, Global};
 use std::test::Fail;
 

@@ -9,14 +9,14 @@ use Rattle.std.specs.declared.cmp.Ordering.TheVariants.{Less, Equal}
 use Rattle.std.specs.Ordering.{nat_cmp, ordering_then}
 use Rattle.std.proofs.lemmas.List.{map-append}
 use Rattle.std.specs.Cmp.{nat_cmp_is}
-use Rattle.geda_model.specs.declared.change.Placed.{Placed}
+use Rattle.project_model.specs.declared.change.Placed.{Placed}
 use Rattle.geda_model.specs.declared.object.Body.{Body}
 use Rattle.geda_model.specs.declared.object.Body.TheVariants as bodies
 use Rattle.geda_model.specs.declared.shape.Shape.TheVariants as shapes
 use Rattle.geda_model.specs.Shapes.{ComponentData}
 use Rattle.geda_model.specs.Sheets.{ObjectData, SymbolData}
-use Rattle.geda_model.specs.Projects.{ProjectData}
-use Rattle.geda_model.proofs.OrderedRows.{keys_sorted}
+use Rattle.project_model.specs.Projects.{ProjectData}
+use Rattle.project_model.proofs.OrderedRows.{keys_sorted}
 use Rattle.attr_rules.specs.Attributes.{parts_of}
 use Rattle.attr_rules.specs.Components.{is_graphical}
 use Rattle.attr_rules.specs.Libraries.{library_of}

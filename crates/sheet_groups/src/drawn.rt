@@ -9,8 +9,9 @@ ghost use Rattle.sheet_groups.specs.steps.Gathering.{GivesNumber, TakesIn, drawn
 
 use attr_rules::library_of;
 use geda_geom::{Conductor, Key};
-use geda_model::{Name, Object, Placed, Project};
+use geda_model::{Name, Object};
 use pin_place::conductors_of;
+use project_model::{Placed, Project};
 use std::alloc::{AllocError, Global};
 use std::collections::HashMap;
 
@@ -33,7 +34,7 @@ pub fn drawn_of(
     object: &Object,
 ) -> Result<Vec<(u32, Conductor)>, AllocError>
     ensures { IfOk result (λ drawn. drawn.items
-        ≡ conductors_of object.now (library_of project.now.parts object.now)) }
+        ≡ conductors_of object.now (library_of project.now.contents object.now)) }
 {
     let library = library_of(alloc, project, object)?;
     conductors_of(alloc, object, library)
@@ -93,7 +94,7 @@ impl Gathered {
         placed: &Placed,
     ) -> Result<(), AllocError>
         ensures { OnOk result
-            (TakesIn project.now.parts fresh (id, placed.now) self.old self.new) }
+            (TakesIn project.now.contents fresh (id, placed.now) self.old self.new) }
     {
         let number = number_of(&mut self.numbers, &placed.sheet, fresh)?;
         let drawn = drawn_of(alloc, project, &placed.object)?;
@@ -104,7 +105,7 @@ impl Gathered {
 /// All conductors of a project, by id and then by place.
 pub fn drawn_conductors(alloc: Global, project: &Project) -> Result<Vec<DrawnConductor>, AllocError>
     ensures { IfOk result
-        (λ drawn. AreNumbered (sheet_conductors project.now.parts) drawn.items) }
+        (λ drawn. AreNumbered (sheet_conductors project.now.contents) drawn.items) }
 {
     let rows = project.objects_by_id(alloc)?;
     let mut gathered = Gathered {

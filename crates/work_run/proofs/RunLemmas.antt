@@ -2,16 +2,16 @@
 use Rattle.std.proofs.Common.{◌≡◌, ℕ, suc, ◌≤◌, ◌<◌, ◌+◌, ◌-◌, ◌^◌, ◌==◌, ◌%◌, ◌/◌, min, Bool, true, false, List, [], Option, None, Some, option_map, cond, nat_lt, refl, sym, ap, subst, ◌∙◌, arith}
 use Rattle.std.specs.List.{Contains}
 use Rattle.std.specs.FinMap.{keys}
-use Rattle.geda_model.specs.Items.{Item}
+use Rattle.project_model.specs.Items.{Item}
 use Rattle.geda_model.specs.Sheets.{ObjectData}
-use Rattle.geda_model.specs.Changes.{put}
-use Rattle.geda_model.specs.Projects.{ProjectData, no_parts}
+use Rattle.project_model.specs.Changes.{put}
+use Rattle.project_model.specs.Projects.{ProjectData, empty_project}
 use Rattle.board_core.specs.Bounds.{IsBound}
 use Rattle.board_core.specs.Boards.{BoardData, RenewsGroups, StaysInBound}
 use Rattle.gaf_work.specs.Draws.{drawn}
 use Rattle.gaf_work.specs.DrawnSteps.{IdsAreBelow, coming, id_at, leaving, part, step, wire}
 use Rattle.gaf_work.specs.Opening.{opening}
-use Rattle.gaf_work.proofs.IdsBelow.{IdsAreBelow-no_parts, IdsAreBelow-put}
+use Rattle.gaf_work.proofs.IdsBelow.{IdsAreBelow-empty_project, IdsAreBelow-put}
 use Rattle.gaf_work.proofs.LiveIds.{id_has_row}
 use Rattle.work_run.specs.Runs.{AddsBound, IsRun, IsStep, PutsIn, RunData}
 use Rattle.work_run.specs.steps.SoundRuns.{IsSoundBoard, IsSoundRun, OpenRun}
@@ -62,10 +62,10 @@ IsSoundBoard-new board fresh none_asked = record {
     nothing_in sheet has = absurd (let within = has.1 in omega arith)
 
 -- so is a run that is opened
-pub IsSoundRun-opened : (run : OpenRun) → IsSoundBoard run.board run.bound → run.board.project ≡ put no_parts opening → IsSoundRun 0 run
+pub IsSoundRun-opened : (run : OpenRun) → IsSoundBoard run.board run.bound → run.board.project ≡ put empty_project opening → IsSoundRun 0 run
 IsSoundRun-opened run board project = record {
   board = board;
-  below = subst IdsAreBelow (sym project) (IdsAreBelow-put no_parts opening IdsAreBelow-no_parts);
+  below = subst IdsAreBelow (sym project) (IdsAreBelow-put empty_project opening IdsAreBelow-empty_project);
   few = subst (λ (p : ProjectData). p.next_id ≤ 0) (sym project) (omega arith);
 }
 

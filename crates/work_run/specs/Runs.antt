@@ -1,8 +1,8 @@
 -- A run of the work: its steps on one project, and what their changes may cost (own).
 use Rattle.std.specs.Prelude.{◌≡◌, ◌+◌, ◌-◌, ◌^◌, ℕ, zero, suc, List, Option, None, Some, min}
-use Rattle.geda_model.specs.Items.{Item}
-use Rattle.geda_model.specs.Projects.{ProjectData, no_parts}
-use Rattle.geda_model.specs.Changes.{put}
+use Rattle.project_model.specs.Items.{Item}
+use Rattle.project_model.specs.Projects.{ProjectData, empty_project}
+use Rattle.project_model.specs.Changes.{put}
 use Rattle.board_core.specs.Bounds.{IsBound}
 use Rattle.gaf_work.specs.Draws.{drawn, first_state}
 use Rattle.gaf_work.specs.Opening.{opening}
@@ -39,8 +39,8 @@ Steps (suc n) old new = (before : RunData) × Steps n old before × IsStep befor
 -- the run before its first step: the opening is put into the empty project
 pub record IsOpened (start : ℕ) (run : RunData) : Type 0 where
   pub state : run.state ≡ first_state start
-  pub project : run.project ≡ put no_parts opening
-  pub bound : AddsBound no_parts opening 0 run.bound
+  pub project : run.project ≡ put empty_project opening
+  pub bound : AddsBound empty_project opening 0 run.bound
 
 -- the run of so many steps from a start
 pub record IsRun (start count : ℕ) (run : RunData) : Type 0 where

@@ -11,15 +11,15 @@ ghost use Rattle.work_run.specs.steps.SoundRuns.{run_of};
 
 use crate::steps::{Run, run_from};
 use geda_geom::Key;
-use geda_model::Project;
 use hierarchy::ElabFault;
 use net_names::Nets;
+use project_model::Project;
 use reports::net_list;
 use std::alloc::{AllocError, Global};
 use std::collections::BTreeMap;
 
 fn live(alloc: Global, project: &Project) -> Result<usize, AllocError>
-    ensures { IfOk result (λ count. count ≡ length (entries project.now.parts.objects)) }
+    ensures { IfOk result (λ count. count ≡ length (entries project.now.contents.objects)) }
 {
     Ok(project.objects_by_id(alloc)?.len())
 }

@@ -1,13 +1,13 @@
 // The steps of a run.
 ghost use Rattle.std.specs.Prelude.{◌≡◌, ◌+◌, ◌≤◌, ℕ, IfOk, OnOk};
-ghost use Rattle.geda_model.specs.Changes.{CanApply, put};
+ghost use Rattle.project_model.specs.Changes.{CanApply, put};
 ghost use Rattle.gaf_work.specs.DrawnSteps.{HasRoom};
 ghost use Rattle.work_run.specs.Runs.{AddsBound, IsOpened, IsRun, IsStep};
 ghost use Rattle.work_run.specs.steps.SoundRuns.{IsSoundBoard, IsSoundRun, run_of};
 
 use board_core::Board;
 use gaf_work::{Work, opening};
-use geda_model::Change;
+use project_model::Change;
 use std::alloc::{AllocError, Global};
 use std::marker::Model;
 

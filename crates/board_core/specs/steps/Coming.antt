@@ -2,9 +2,9 @@
 -- How many conductors come with a change, as far as 64 bits hold the number.
 use Rattle.std.specs.Prelude.{◌-◌, ◌^◌, ℕ, List, min, length, filter}
 use Rattle.std.specs.List.{flat_map, sum_by}
-use Rattle.geda_model.specs.declared.change.Placed.{Placed}
-use Rattle.geda_model.specs.Items.{Item}
-use Rattle.geda_model.specs.Projects.{ProjectData}
+use Rattle.project_model.specs.declared.change.Placed.{Placed}
+use Rattle.project_model.specs.Items.{Item}
+use Rattle.project_model.specs.Projects.{ProjectData}
 use Rattle.geda_model.specs.Sheets.{ObjectData}
 use Rattle.attr_rules.specs.Libraries.{library_of}
 use Rattle.pin_place.specs.Pins.{conductors_of}

@@ -2,9 +2,9 @@
 -- The walk along all conductors of a project, by which those that leave are taken out one by one.
 use Rattle.std.specs.Prelude.{◌≡◌, ◌+◌, ◌-◌, ◌^◌, ℕ, Bool, false, List, [], ◌++◌, Option, Some, None, min, length, map}
 use Rattle.std.specs.FinMap as finite
-use Rattle.geda_model.specs.declared.change.Placed.{Placed}
-use Rattle.geda_model.specs.Items.{Item}
-use Rattle.geda_model.specs.Projects.{ProjectData}
+use Rattle.project_model.specs.declared.change.Placed.{Placed}
+use Rattle.project_model.specs.Items.{Item}
+use Rattle.project_model.specs.Projects.{ProjectData}
 use Rattle.sheet_groups.specs.declared.drawn.DrawnConductor.{DrawnConductor}
 use Rattle.sheet_groups.specs.Conductors.{SheetConductor}
 use Rattle.sheet_groups.specs.Numbered.{AreNumbered}

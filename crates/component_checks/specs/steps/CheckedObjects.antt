@@ -4,7 +4,7 @@ use Rattle.std.specs.Prelude.{ℕ, List, Option, Some, None}
 use Rattle.std.specs.FinMap.{get}
 use Rattle.std.specs.List.{slice_get}
 use Rattle.geda_model.specs.Sheets.{ObjectData}
-use Rattle.geda_model.specs.Projects.{ProjectData}
+use Rattle.project_model.specs.Projects.{ProjectData}
 use Rattle.hierarchy.specs.declared.instances.Instance.{Instance}
 use Rattle.flat_sheets.specs.Occurrences.{FlatObject, OccurrenceData, flat_object, object_at}
 use Rattle.component_checks.specs.CheckedComponents.{CheckedData, checked_object}

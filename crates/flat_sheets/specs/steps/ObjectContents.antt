@@ -7,7 +7,7 @@ use Rattle.std.specs.Option.{option_to_list}
 use Rattle.geda_model.specs.declared.shape.Shape.{Shape}
 use Rattle.geda_model.specs.declared.shape.Shape.TheVariants as shapes
 use Rattle.geda_model.specs.Sheets.{ObjectData, SymbolData}
-use Rattle.geda_model.specs.Projects.{ProjectData}
+use Rattle.project_model.specs.Projects.{ProjectData}
 use Rattle.attr_rules.specs.Attributes.{attached}
 use Rattle.attr_rules.specs.Components.{has_sources, refdes_of}
 use Rattle.attr_rules.specs.Libraries.{library_of}

@@ -2,8 +2,8 @@
 -- The ids of each sheet, gathered in one pass over all objects, and the objects of an instance.
 use Rattle.std.specs.Prelude.{◌≡◌, ℕ, if◌then◌else◌, List, [], ◌∷◌, ◌++◌}
 use Rattle.std.specs.List.{flat_map}
-use Rattle.geda_model.specs.declared.change.Placed.{Placed}
-use Rattle.geda_model.specs.Projects.{is_on}
+use Rattle.project_model.specs.declared.change.Placed.{Placed}
+use Rattle.project_model.specs.Projects.{is_on}
 use Rattle.hierarchy.specs.declared.instances.Instance.{Instance}
 use Rattle.flat_sheets.specs.Occurrences.{OccurrenceData}
 use Rattle.flat_sheets.specs.SheetIds.{IdsBySheet, ids_at}

@@ -1,6 +1,6 @@
 -- Objects with their ids, as texts (own).
 use Rattle.std.specs.Prelude.{ℕ, List}
-use Rattle.geda_model.specs.declared.change.Placed.{Placed}
+use Rattle.project_model.specs.declared.change.Placed.{Placed}
 use Rattle.geda_grammar.specs.Canonical.{object_text}
 
 -- the text of an object, without its id

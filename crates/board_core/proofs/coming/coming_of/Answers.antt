@@ -1,6 +1,6 @@
 use Rattle.std.proofs.Common.{◌≡◌, false, List, ap, ◌∙◌, subst}
 use Rattle.std.proofs.lemmas.Result.{IfOk-weaker}
-use Rattle.geda_model.specs.Items.{Item}
+use Rattle.project_model.specs.Items.{Item}
 use Rattle.board_core.specs.Bounds.{coming_count}
 use Rattle.board_core.specs.steps.ChangedThings.{HasNoSymbol}
 use Rattle.board_core.specs.steps.Coming.{capped, given_total}
@@ -9,7 +9,7 @@ use Rattle.board_core.proofs.coming.coming_of.Goals as goal
 
 pub returns-then-not-has_symbols : goal.returns-then-not-has_symbols
 returns-then-not-has_symbols c =
-    let p = c.args.project.now.parts in
+    let p = c.args.project.now.contents in
     let items = c.args.change.now.items in
     let plain : c.has_symbols.result ≡ false = let h = c.if-not-has_symbols.true in cc in
     let none = subst HasNoSymbol c.requires.same (c.has_symbols.ensures plain) in

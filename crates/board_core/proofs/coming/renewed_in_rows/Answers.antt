@@ -1,6 +1,6 @@
 use Rattle.std.proofs.Common.{◌≡◌, ◌<◌, ap, ◌∙◌, sym, drop, map, length, arith}
 use Rattle.std.proofs.lemmas.List.{drop_all}
-use Rattle.geda_model.specs.Tables.{row_now}
+use Rattle.project_model.specs.Tables.{row_now}
 use Rattle.board_core.specs.steps.Coming.{renewed_total}
 use Rattle.board_core.proofs.ComingLemmas.{renewed_counted, renewed_passed}
 use Rattle.board_core.proofs.coming.renewed_in_rows.Goals as goal
@@ -8,7 +8,7 @@ use Rattle.board_core.proofs.coming.renewed_in_rows.Goals.{then-is_renewed+in_ok
 
 pub loop-row-preserved : goal.loop-row-preserved
 loop-row-preserved c =
-    let after = c.args.after.now.parts in
+    let after = c.args.after.now.contents in
     let items = c.args.things.now in
     let rows = c.args.rows.now in
     let i = c.loop-row.row-index in
@@ -29,7 +29,7 @@ loop-row-preserved c =
 
 pub returns : goal.returns
 returns c =
-    let after = c.args.after.now.parts in
+    let after = c.args.after.now.contents in
     let items = c.args.things.now in
     let rows = c.args.rows.now in
     let rest : renewed_total after items (map row_now (drop c.loop-row.row-index rows)) ≡ 0 =

@@ -6,11 +6,11 @@ use Rattle.board_core.proofs.SizeLemmas.{way_begins, way_ends, way_leaves, way_s
 use Rattle.board_core.proofs.sizes.sizes_on_way.Goals as goal
 
 pub loop-place-init : goal.loop-place-init
-loop-place-init c = way_begins c.args.project.now.parts c.args.things.now c.in_ok-drawn.drawn.items c.in_ok-drawn.ensures
+loop-place-init c = way_begins c.args.project.now.contents c.args.things.now c.in_ok-drawn.drawn.items c.in_ok-drawn.ensures
 
 pub loop-place-preserved-then-leaves : goal.loop-place-preserved-then-leaves
 loop-place-preserved-then-leaves c =
-    let p = c.args.project.now.parts in
+    let p = c.args.project.now.contents in
     let items = c.args.things.now in
     let drawn = c.loop-place.drawn.items in
     let place = c.loop-place.place in
@@ -25,7 +25,7 @@ loop-place-preserved-then-leaves c =
 
 pub loop-place-preserved : goal.loop-place-preserved
 loop-place-preserved c =
-    let p = c.args.project.now.parts in
+    let p = c.args.project.now.contents in
     let items = c.args.things.now in
     let drawn = c.loop-place.drawn.items in
     let place = c.loop-place.place in
@@ -38,4 +38,4 @@ loop-place-preserved c =
 
 pub returns : goal.returns
 returns c =
-    way_ends c.args.project.now.parts c.args.things.now c.loop-place.drawn.items c.loop-place.place c.loop-place.sum c.loop-place.invariant (omega arith)
+    way_ends c.args.project.now.contents c.args.things.now c.loop-place.drawn.items c.loop-place.place c.loop-place.sum c.loop-place.invariant (omega arith)

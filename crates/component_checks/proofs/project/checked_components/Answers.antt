@@ -8,6 +8,6 @@ use Rattle.component_checks.proofs.project.checked_components.Goals as goal
 
 pub returns : goal.returns
 returns c =
-    let p = c.args.project.now.parts in
+    let p = c.args.project.now.contents in
     let same = ap (filter_map (checked_at p)) (c.deref.ensures.value ∙ c.in_ok-occurrences.ensures) ∙ checked_at-are p (occurrences p) in
     subst (λ (all : List CheckedData). IfOk c.components_among.result (λ components. components.items ≡ all)) same c.components_among.ensures

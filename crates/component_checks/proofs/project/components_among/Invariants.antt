@@ -7,7 +7,7 @@ use Rattle.component_checks.proofs.project.components_among.Given as goal
 abbrev pub invariant-loop-occurrence : goal.invariant-loop-occurrence
 invariant-loop-occurrence l = record {
   components :
-      l.components.items ++ filter_map (checked_at l.project.parts) (drop l.occurrence-index l.occurrences)
-      ≡ filter_map (checked_at l.project.parts) l.occurrences;
-  known : AreLabelSets l.project.parts l.known;
+      l.components.items ++ filter_map (checked_at l.project.contents) (drop l.occurrence-index l.occurrences)
+      ≡ filter_map (checked_at l.project.contents) l.occurrences;
+  known : AreLabelSets l.project.contents l.known;
 }

@@ -4,5 +4,5 @@ use Rattle.flat_sheets.proofs.order.listed_by_instance.Given as goal
 
 abbrev pub invariant-loop-place : goal.invariant-loop-place
 invariant-loop-place l =
-    l.listed.items ++ occurrences_from l.project.parts l.place (drop l.place l.instances)
-    ≡ occurrences_from l.project.parts 0 l.instances
+    l.listed.items ++ occurrences_from l.project.contents l.place (drop l.place l.instances)
+    ≡ occurrences_from l.project.contents 0 l.instances

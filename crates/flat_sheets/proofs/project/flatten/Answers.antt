@@ -6,7 +6,7 @@ use Rattle.flat_sheets.proofs.project.flatten.Goals as goal
 
 pub returns-clause-conductors : goal.returns-clause-conductors
 returns-clause-conductors c =
-    let p = c.args.project.now.parts in
+    let p = c.args.project.now.contents in
     let order = c.deref.ensures.value ∙ c.in_ok-occurrences.ensures in
     let drawn = c.in_ok-contents.ensures.drawn ∙ ap (drawn_in p) order ∙ drawn_in-are p (occurrences p) in
     let hidden = c.in_ok-contents.ensures.hidden ∙ ap (hidden_in p) order ∙ hidden_in-are p (occurrences p) in
@@ -14,5 +14,5 @@ returns-clause-conductors c =
 
 pub returns-clause-parts : goal.returns-clause-parts
 returns-clause-parts c =
-    let p = c.args.project.now.parts in
+    let p = c.args.project.now.contents in
     c.in_ok-contents.ensures.parts ∙ ap (parts_in p) (c.deref.ensures.value ∙ c.in_ok-occurrences.ensures) ∙ parts_in-are p (occurrences p)

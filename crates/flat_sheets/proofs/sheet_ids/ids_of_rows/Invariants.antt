@@ -1,5 +1,5 @@
 use Rattle.std.proofs.Common.{◌≡◌, ◌++◌, ℕ, List, drop, map}
-use Rattle.geda_model.specs.Tables.{row_now}
+use Rattle.project_model.specs.Tables.{row_now}
 use Rattle.flat_sheets.specs.SheetIds.{ids_at}
 use Rattle.flat_sheets.specs.steps.SheetIds.{ids_in}
 use Rattle.flat_sheets.proofs.sheet_ids.ids_of_rows.Given as goal

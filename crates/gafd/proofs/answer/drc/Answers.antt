@@ -16,7 +16,7 @@ returns-clause-answer g c =
     let later = g.F.Folder.files c.matrix_of.new.folder in
     let names = c.args.names in
     let levels = c.in_ok-matrix.matrix in
-    let project = c.in_ok-project.project.parts in
+    let project = c.in_ok-project.project.contents in
     let told : GathersFrom later names (Ok project) = subst (λ (ns : List (List ℕ)). GathersFrom later ns (Ok project)) c.as_slice.ensures c.in_ok-project.ensures.project in
     let came : GathersFrom files names (Ok project) = of_kept files later (λ known. GathersTo known names (Ok project)) c.in_ok-matrix.ensures.files told in
     answer_from _ (ByNetList (checked levels) project) (Over files (Drc c.args.matrix names)) c.checked.result (λ r h. (Ok levels, c.in_ok-matrix.ensures.matrix, sheets_come (checked levels) files names project r came h)) c.checked.ensures

@@ -13,7 +13,7 @@ returns-clause-answer g c =
     let files = g.F.Folder.files c.args.folder.now in
     let names = c.args.names in
     let form = c.args.form in
-    let project = c.in_ok-project.project.parts in
+    let project = c.in_ok-project.project.contents in
     let gathers = subst (λ (ns : List (List ℕ)). GathersFrom files ns (Ok project)) c.as_slice.ensures c.in_ok-project.ensures.project in
     answer_from _ (ByNetList (listed form) project) (Over files (Netlist form names)) c.listed.result (λ r h. sheets_come (listed form) files names project r gathers h) c.listed.ensures
 

@@ -11,10 +11,10 @@ use Rattle.hierarchy.proofs.TableLemmas.{table_inside}
 use Rattle.hierarchy.proofs.elaboration.elaborate.Goals as goal
 
 pub hierarchy_of-requires-clause-once : goal.hierarchy_of-requires-clause-once
-hierarchy_of-requires-clause-once c = rw (c.as_slice.ensures.value, c.in_ok-sheets.ensures) (ways_once (sheet_table c.args.project.now.parts) (table_once c.args.project.now.parts))
+hierarchy_of-requires-clause-once c = rw (c.as_slice.ensures.value, c.in_ok-sheets.ensures) (ways_once (sheet_table c.args.project.now.contents) (table_once c.args.project.now.contents))
 
 pub hierarchy_of-requires-clause-sources : goal.hierarchy_of-requires-clause-sources
-hierarchy_of-requires-clause-sources c = rw (c.as_slice.ensures.value, c.in_ok-sheets.ensures) (table_inside c.args.project.now.parts)
+hierarchy_of-requires-clause-sources c = rw (c.as_slice.ensures.value, c.in_ok-sheets.ensures) (table_inside c.args.project.now.contents)
 
 pub returns-clause-instances : goal.returns-clause-instances
 returns-clause-instances c =

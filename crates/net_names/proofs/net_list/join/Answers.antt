@@ -4,7 +4,7 @@ use Rattle.net_names.proofs.net_list.join.Goals as goal
 
 pub class_labels-requires : goal.class_labels-requires
 class_labels-requires c =
-    rw (c.as_slice-2.ensures.value, c.in_ok-conductors.ensures.conductors) (instance_groups c.args.project.now.parts c.args.groups.now c.requires.groups)
+    rw (c.as_slice-2.ensures.value, c.in_ok-conductors.ensures.conductors) (instance_groups c.args.project.now.contents c.args.groups.now c.requires.groups)
 
 pub nets_by-requires-clause-in_range : goal.nets_by-requires-clause-in_range
 nets_by-requires-clause-in_range c = λ i h.

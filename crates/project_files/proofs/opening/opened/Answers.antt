@@ -1,6 +1,6 @@
 use Rattle.std.proofs.Common.{length, subst, sym}
 use Rattle.std.proofs.lemmas.Bool.{ltb-false}
-use Rattle.geda_model.specs.Changes.{CanApply}
+use Rattle.project_model.specs.Changes.{CanApply}
 use Rattle.project_files.specs.Opening.{all_objects}
 use Rattle.project_files.proofs.OpeningLemmas.{opening_can_apply}
 use Rattle.project_files.proofs.opening.opened.Goals as goal

@@ -1,6 +1,6 @@
 use Rattle.std.proofs.Common.{◌≡◌, Result, subst, sym, arith}
 use Rattle.std.proofs.lemmas.Result.{err_from_is_err_and}
-use Rattle.geda_model.specs.Projects.{ProjectData}
+use Rattle.project_model.specs.Projects.{ProjectData}
 use Rattle.project_files.specs.declared.fault.FileFault.{FileFault}
 use Rattle.project_files.specs.Opening.{opened}
 use Rattle.project_files.specs.ProjectFiles.{GathersFrom, with_view}
@@ -14,7 +14,7 @@ returns-clause-project g c =
     let files = g.F.Folder.files c.args.folder.now in
     let names = c.args.names.now in
     let gathered = c.in_ok-gathered.gathered in
-    answer_from _ (λ (end : Result ProjectData FileFault). end ≡ opened gathered) (GathersFrom files names) (with_view (λ p. p.parts) c.opened.result)
+    answer_from _ (λ (end : Result ProjectData FileFault). end ≡ opened gathered) (GathersFrom files names) (with_view (λ p. p.contents) c.opened.result)
     (λ r e. subst (GathersFrom files names) (sym e) (gathers files names gathered c.in_ok-gathered.ensures.read))
     c.opened.ensures
 

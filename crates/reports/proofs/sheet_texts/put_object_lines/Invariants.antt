@@ -1,6 +1,6 @@
 use Rattle.std.proofs.Common.{◌≡◌, ◌++◌, drop, map}
 use Rattle.std.specs.List.{flat_map}
-use Rattle.geda_model.specs.Tables.{row_now}
+use Rattle.project_model.specs.Tables.{row_now}
 use Rattle.reports.specs.SheetTexts.{object_line}
 use Rattle.reports.proofs.sheet_texts.put_object_lines.Given as goal
 

@@ -1,6 +1,6 @@
 use Rattle.std.proofs.Common.{◌≡◌, ◌++◌, drop, map}
 use Rattle.std.specs.List.{flat_map}
-use Rattle.geda_model.specs.Tables.{row_now}
+use Rattle.project_model.specs.Tables.{row_now}
 use Rattle.reports.specs.steps.Rows.{row_text}
 use Rattle.reports.proofs.sheet_texts.put_objects.Given as goal
 

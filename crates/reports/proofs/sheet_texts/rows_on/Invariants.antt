@@ -1,7 +1,7 @@
 use Rattle.std.proofs.Common.{◌≡◌, ◌++◌, drop, map}
 use Rattle.std.specs.List.{filter}
-use Rattle.geda_model.specs.Tables.{row_now}
-use Rattle.geda_model.specs.Projects.{is_on}
+use Rattle.project_model.specs.Tables.{row_now}
+use Rattle.project_model.specs.Projects.{is_on}
 use Rattle.reports.proofs.sheet_texts.rows_on.Given as goal
 
 abbrev pub invariant-loop-row : goal.invariant-loop-row

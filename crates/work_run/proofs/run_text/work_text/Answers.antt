@@ -12,11 +12,11 @@ returns-in_err-nets c =
     let groups = c.in_ok-groups.groups.entries in
     let are_groups = subst (λ (run : OpenRun). AreGroups (sheet_conductors run.board.project) groups) c.run.view_is c.in_ok-groups.ensures in
     let same = c.project.ensures ∙ ap (λ (run : OpenRun). run.board.project) c.run.view_is in
-    rw (fault.1, fault.2) (WorkComesTo-fault c.args.start c.args.count c.in_ok-run.run' c.project.result.now.parts groups c.in_err-nets.field-0.0 same c.in_ok-run.ensures.run are_groups c.in_err-nets.ensures)
+    rw (fault.1, fault.2) (WorkComesTo-fault c.args.start c.args.count c.in_ok-run.run' c.project.result.now.contents groups c.in_err-nets.field-0.0 same c.in_ok-run.ensures.run are_groups c.in_err-nets.ensures)
 
 pub returns : goal.returns
 returns c =
     let groups = c.in_ok-groups.groups.entries in
     let are_groups = subst (λ (run : OpenRun). AreGroups (sheet_conductors run.board.project) groups) c.run.view_is c.in_ok-groups.ensures in
     let same = c.project.ensures ∙ ap (λ (run : OpenRun). run.board.project) c.run.view_is in
-    WorkComesTo-text c.args.start c.args.count c.in_ok-run.run' c.project.result.now.parts groups c.in_ok-nets.nets c.in_ok-told.field-0.items same c.in_ok-run.ensures.run c.in_ok-run.ensures.sound c.in_ok-told.ensures.calls are_groups c.in_ok-nets.ensures c.in_ok-told.ensures.text
+    WorkComesTo-text c.args.start c.args.count c.in_ok-run.run' c.project.result.now.contents groups c.in_ok-nets.nets c.in_ok-told.field-0.items same c.in_ok-run.ensures.run c.in_ok-run.ensures.sound c.in_ok-told.ensures.calls are_groups c.in_ok-nets.ensures c.in_ok-told.ensures.text

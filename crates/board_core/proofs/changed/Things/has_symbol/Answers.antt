@@ -1,5 +1,5 @@
 use Rattle.std.proofs.Common.{ℕ, List, Option, sym, ap, ◌∙◌}
-use Rattle.geda_model.specs.Items.{Item}
+use Rattle.project_model.specs.Items.{Item}
 use Rattle.geda_model.specs.Shapes.{ComponentData, PartData}
 use Rattle.board_core.specs.Changed.{has_symbol, has_thing, is_symbol}
 use Rattle.board_core.proofs.changed.Things.has_symbol.Goals as goal

@@ -1,7 +1,7 @@
 use Rattle.std.proofs.Common.{List, sym, ap, ◌∙◌}
 use Rattle.std.specs.Str.{bytes_eq}
 use Rattle.std.specs.String.{string_bytes}
-use Rattle.geda_model.specs.Items.{Item}
+use Rattle.project_model.specs.Items.{Item}
 use Rattle.board_core.specs.Changed.{has_thing, is_symbol}
 use Rattle.board_core.proofs.ThingLemmas.{none_in_empty, not_false}
 use Rattle.board_core.proofs.changed.Things.has_symbols.Goals as goal

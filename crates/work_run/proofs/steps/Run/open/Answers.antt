@@ -1,6 +1,6 @@
 use Rattle.std.proofs.Common.{◌≡◌}
-use Rattle.geda_model.specs.Changes.{put}
-use Rattle.geda_model.specs.Projects.{no_parts}
+use Rattle.project_model.specs.Changes.{put}
+use Rattle.project_model.specs.Projects.{empty_project}
 use Rattle.gaf_work.specs.Opening.{opening}
 use Rattle.work_run.proofs.RunLemmas.{IsSoundBoard-new, IsSoundRun-opened}
 use Rattle.work_run.proofs.steps.Run.open.Goals as goal
@@ -12,5 +12,5 @@ returns-clause-sound c =
     let first = c.new-board.ensures.project in
     let given = c.in_ok-change.ensures.opening in
     let there = c.in_ok-bound.ensures.project in
-    let project : board.project ≡ put no_parts opening = cc in
+    let project : board.project ≡ put empty_project opening = cc in
     IsSoundRun-opened _ (c.in_ok-bound.ensures.sound fresh) project

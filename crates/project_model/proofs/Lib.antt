@@ -1,0 +1,5 @@
+pub mod Rows
+pub mod OrderedRows
+pub mod ChangeLemmas
+pub mod BuiltChanges
+pub mod SortedLists

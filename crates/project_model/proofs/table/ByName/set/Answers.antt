@@ -1,0 +1,25 @@
+use Rattle.std.proofs.Common.{sym, ap, ◌∙◌}
+use Rattle.std.specs.FinMap as map
+use Rattle.project_model.proofs.Rows.{names, get_row, put_row, remove_row}
+use Rattle.project_model.proofs.table.ByName.set.Goals as goal
+
+pub returns-in-Some-clause-old : goal.returns-in-Some-clause-old
+returns-in-Some-clause-old g c =
+    let old = rw (c.unwrap.ensures, c.name.ensures) at c.insert.ensures.old in
+    old ∙ sym (get_row names c.self.inside.rows.entries c.args.name.now) ∙ ap (λ t. map.get t.rows c.args.name.now) c.self.view_is
+
+pub returns-in-Some-clause-rows : goal.returns-in-Some-clause-rows
+returns-in-Some-clause-rows g c =
+    let updates = rw (c.unwrap.ensures, c.name.ensures) at c.insert.ensures.updates in
+    rw c.in-Some.is (
+    put_row names c.self.inside.rows.entries c.insert.new.self.entries c.args.name.now c.in-Some.row updates.0
+    ∙ ap (λ t. map.insert t.rows c.args.name.now c.in-Some.row) c.self.view_is)
+
+pub returns-in-None-clause-old : goal.returns-in-None-clause-old
+returns-in-None-clause-old g c = c.remove.ensures.value ∙ sym (get_row names c.self.inside.rows.entries c.args.name.now) ∙ ap (λ t. map.get t.rows c.args.name.now) c.self.view_is
+
+pub returns-in-None-clause-rows : goal.returns-in-None-clause-rows
+returns-in-None-clause-rows g c =
+    rw c.in-None.is (
+    remove_row names c.self.inside.rows.entries c.remove.new.self.entries c.args.name.now c.remove.ensures.updates.0
+    ∙ ap (λ t. map.remove t.rows c.args.name.now) c.self.view_is)

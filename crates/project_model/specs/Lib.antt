@@ -1,0 +1,5 @@
+pub mod Tables
+pub mod Projects
+pub mod Items
+pub mod Changes
+pub mod steps

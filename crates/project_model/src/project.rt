@@ -1,0 +1,187 @@
+// Projects, and how a change is put into one.
+ghost use Rattle.std.specs.Prelude.{◌≡◌, ◌+◌, ◌≤◌, ◌<◌, IfOk, OnOk, length, map, option_copied};
+ghost use Rattle.std.specs.FinMap.{entries, get, keys};
+ghost use Rattle.project_model.specs.Tables.{row_now};
+ghost use Rattle.project_model.specs.Projects.{empty_project, ids_on};
+ghost use Rattle.project_model.specs.Changes.{value_at, put_one, put, values_in, CanApply, IsIdInRange, IsRoomFor, count_names, name_count};
+
+use crate::change::{Change, Placed, Thing, Value, head_of, placed_of, symbol_of};
+use crate::ordered::{ids_in, names_in, rows_in};
+use crate::table::{ById, ByName};
+use geda_model::{Head, Items, Name, Symbol};
+use std::alloc::{AllocError, Global};
+use std::marker::Model;
+
+/// Sheets by name, their objects by id, and the symbols of a library by name.
+#[derive(Drop)]
+pub struct Project {
+    sheets: ByName<Head>,
+    objects: ById<Placed>,
+    symbols: ByName<Symbol>,
+    next_id: u32,
+}
+
+impl Model for Project {
+    ghost use Rattle.std.specs.Prelude.{min};
+    ghost use Rattle.std.specs.FinMap as map;
+    ghost use Rattle.std.specs.Coded.{codes};
+    ghost use Rattle.project_model.specs.Projects.{ProjectView};
+
+    ghost Value = { ProjectView };
+
+    ghost coded = { Prim.hlevel (codes, map.code) };
+
+    ghost view = { λ p. record { contents = record { sheets = p.sheets.rows; objects = p.objects.rows; symbols = p.symbols.rows; next_id = p.next_id }; spare = record { things = p.objects.spare; names = min p.sheets.spare p.symbols.spare } } };
+}
+
+impl Project {
+    /// The empty project, whose first object has the id 0. It takes no memory.
+    pub fn new(alloc: Global) -> Project
+        ensures contents { result.contents ≡ empty_project }
+    {
+        Project {
+            sheets: ByName::new(alloc),
+            objects: ById::new(alloc),
+            symbols: ByName::new(alloc),
+            next_id: 0,
+        }
+    }
+
+    /// The version line of a sheet.
+    ///
+    /// `None` exactly where there is no such sheet. It takes no memory.
+    pub fn head(&self, name: &Name) -> Option<&Head>
+        ensures found { option_copied result ≡ get self.now.contents.sheets name.now }
+    {
+        self.sheets.get(name)
+    }
+
+    /// An object in its sheet.
+    ///
+    /// `None` exactly where no object has the id. It takes no memory.
+    pub fn object(&self, id: u32) -> Option<&Placed>
+        ensures found { option_copied result ≡ get self.now.contents.objects id }
+    {
+        self.objects.get(id)
+    }
+
+    /// A symbol of the library.
+    ///
+    /// `None` exactly where there is no such symbol. It takes no memory.
+    pub fn symbol(&self, name: &Name) -> Option<&Symbol>
+        ensures found { option_copied result ≡ get self.now.contents.symbols name.now }
+    {
+        self.symbols.get(name)
+    }
+
+    /// The id of the next object, above each that was given. It takes no memory.
+    pub fn next_id(&self) -> u32
+        ensures id { result ≡ self.now.contents.next_id }
+    {
+        self.next_id
+    }
+
+    /// The names of the sheets, rising.
+    pub fn sheet_names(&self, alloc: Global) -> Result<Vec<Name>, AllocError>
+        ensures names { IfOk result (λ v. v.items ≡ keys self.now.contents.sheets) }
+    {
+        names_in(alloc, self.sheets.rows())
+    }
+
+    /// The ids of a sheet's objects, rising.
+    pub fn ids_of(&self, alloc: Global, name: &Name) -> Result<Vec<u32>, AllocError>
+        ensures ids { IfOk result (λ v. v.items ≡ ids_on self.now.contents name.now) }
+    {
+        ids_in(alloc, self.objects.rows(), name)
+    }
+
+    /// All objects with their ids, by rising id.
+    pub fn objects_by_id(&self, alloc: Global) -> Result<Vec<(u32, &Placed)>, AllocError>
+        ensures objects { IfOk result (λ v. map row_now v.items ≡ entries self.now.contents.objects) }
+    {
+        rows_in(alloc, self.objects.rows())
+    }
+
+    /// Makes room for the things of a change, and for the names of sheets and symbols among them.
+    /// The project and the room that it has stay, also where memory runs out.
+    pub fn reserve(&mut self, alloc: Global, change: &Change) -> Result<(), AllocError>
+        ensures contents { self.new.contents ≡ self.old.contents }
+        ensures ok { OnOk result (IsRoomFor change.now.items self.new.spare) }
+        ensures things { self.old.spare.things ≤ self.new.spare.things }
+        ensures names { self.old.spare.names ≤ self.new.spare.names }
+    {
+        let names = change.count_names();
+        self.sheets.reserve(alloc, names)?;
+        self.symbols.reserve(alloc, names)?;
+        self.objects.reserve(change.len())
+    }
+
+    /// An equal project, without the room for changes.
+    pub fn copy(&self, alloc: Global) -> Result<Project, AllocError>
+        ensures contents { IfOk result (λ project. project.contents ≡ self.now.contents) }
+    {
+        Ok(Project {
+            sheets: self.sheets.copy(alloc)?,
+            objects: self.objects.copy()?,
+            symbols: self.symbols.copy(alloc)?,
+            next_id: self.next_id,
+        })
+    }
+
+    // Gives a thing a value, or none, and answers the value that it had.
+    fn swap(&mut self, thing: &Thing, value: Option<Value>) -> Option<Value>
+        requires things { 0 < self.old.spare.things }
+        requires names { name_count thing.now ≤ self.old.spare.names }
+        requires id { IsIdInRange thing.now }
+        ensures contents { self.new.contents ≡ put_one self.old.contents thing.now value }
+        ensures before { result ≡ value_at self.old.contents thing.now }
+        ensures things { self.old.spare.things ≤ self.new.spare.things + 1 }
+        ensures names { self.old.spare.names ≤ self.new.spare.names + name_count thing.now }
+    {
+        match thing {
+            Thing::Object(id) => {
+                let id = *id;
+                self.next_id = self.next_id.max(id + 1);
+                self.objects.set(id, placed_of(value)).map(Value::Object)
+            }
+            Thing::SheetName(name) => self.sheets.set(name, head_of(value)).map(Value::Head),
+            Thing::SymbolName(name) => self.symbols.set(name, symbol_of(value)).map(Value::Symbol),
+        }
+    }
+
+    /// Puts the values of a change in, and answers the same things in the same order, each with the
+    /// value that it had before.
+    ///
+    /// A value of another kind than its thing counts as none. It can't fail and takes no memory.
+    pub fn apply(&mut self, change: Change) -> Change
+        requires can_apply { CanApply change.items }
+        requires room { IsRoomFor change.items self.old.spare }
+        ensures contents { self.new.contents ≡ put self.old.contents change.items }
+        ensures before { result.items ≡ values_in self.old.contents change.items }
+        ensures again { CanApply result.items }
+        ensures things { self.old.spare.things ≤ self.new.spare.things + length change.items }
+        ensures names { self.old.spare.names ≤ self.new.spare.names + count_names change.items }
+    {
+        self.exchange(change)
+    }
+
+    // The items are changed in place and given back, so that no memory is taken. That it can be
+    // applied again is told by `apply`, since it follows from the things alone.
+    fn exchange(&mut self, change: Change) -> Change
+        requires can_apply { CanApply change.items }
+        requires room { IsRoomFor change.items self.old.spare }
+        ensures contents { self.new.contents ≡ put self.old.contents change.items }
+        ensures before { result.items ≡ values_in self.old.contents change.items }
+        ensures things { self.old.spare.things ≤ self.new.spare.things + length change.items }
+        ensures names { self.old.spare.names ≤ self.new.spare.names + count_names change.items }
+    {
+        let mut items = change.items.into_vec();
+        for item in items.iter_mut() {
+            let value = item.1.take();
+            item.1 = self.swap(&item.0, value);
+        }
+        Change {
+            items: Items::from_vec(items),
+        }
+    }
+}
