@@ -7,17 +7,9 @@ use Rattle.std.proofs.Math.Bool.{or-true}
 use Rattle.std.proofs.lemmas.Bool.Decides.{same_from_decides}
 use Rattle.std.proofs.lemmas.List.Folds.{list_any-append}
 use Rattle.std.proofs.lemmas.Slice.Eq.{bytes_eq-Decides}
+use Rattle.std.proofs.lemmas.Bool.{and_parts, or_parts}
 use Rattle.flat_sheets.specs.declared.package.Package.{Package}
 use Rattle.backends.specs.BillText.{ArticleData, article_of, packages_of, same_article, with_article}
-
-both : (s t : Bool) → (s && t) ≡ true → (s ≡ true) × (t ≡ true)
-both true t is = (refl, is)
-both false t is = absurd (true≢false (sym is))
-
--- of two tests that have failed, each has
-pub neither : (s t : Bool) → (s || t) ≡ false → (s ≡ false) × (t ≡ false)
-neither true t is = absurd (true≢false is)
-neither false t is = (refl, is)
 
 abbrev article : List ℕ → List ℕ → List ℕ → ArticleData
 article device value footprint =
@@ -26,8 +18,8 @@ article device value footprint =
 -- articles with the same texts are the same
 pub same_exact : (a b : ArticleData) → same_article a b ≡ true → a ≡ b
 same_exact a b is =
-    let first = both (bytes_eq a.device b.device) (bytes_eq a.value b.value && bytes_eq a.footprint b.footprint) is in
-    let others = both (bytes_eq a.value b.value) (bytes_eq a.footprint b.footprint) first.1 in
+    let first = and_parts (bytes_eq a.device b.device) (bytes_eq a.value b.value && bytes_eq a.footprint b.footprint) is in
+    let others = and_parts (bytes_eq a.value b.value) (bytes_eq a.footprint b.footprint) first.1 in
     let device : a.device ≡ b.device = (bytes_eq-Decides a.device b.device).0 first.0 in
     let value : a.value ≡ b.value = (bytes_eq-Decides a.value b.value).0 others.0 in
     let footprint : a.footprint ≡ b.footprint = (bytes_eq-Decides a.footprint b.footprint).0 others.1 in
@@ -43,7 +35,7 @@ same_self a =
 same_decides : (a b : ArticleData) → Decides (same_article a b) (a ≡ b)
 same_decides a b = (same_exact a b, λ e. subst (λ (x : ArticleData). same_article a x ≡ true) e (same_self a))
 
--- the test says the same from both sides
+-- the test says the same from and_parts sides
 pub same_turned : (a b : ArticleData) → same_article a b ≡ same_article b a
 same_turned a b =
     let there = same_decides a b in
@@ -57,7 +49,7 @@ Once (a ∷ rest) = (list_any (same_article a) rest ≡ false) × Once rest
 once_behind : (xs : List ArticleData) (a : ArticleData) → list_any (same_article a) xs ≡ false → Once xs → Once (xs ++ a ∷ [])
 once_behind [] a none once = (refl, tt)
 once_behind (x ∷ rest) a none once =
-    let apart = neither (same_article a x) (list_any (same_article a) rest) none in
+    let apart = or_parts (same_article a x) (list_any (same_article a) rest) none in
     (list_any-append (same_article x) rest (a ∷ []) ∙ ap₂ (λ (s t : Bool). s || (t || false)) once.0 (same_turned x a ∙ apart.0), once_behind rest a apart.1 once.1)
 
 once_with : (xs : List ArticleData) (a : ArticleData) → Once xs → Once (with_article xs a)

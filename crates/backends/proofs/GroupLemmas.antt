@@ -5,11 +5,12 @@ use Rattle.std.proofs.lemmas.List.{map-append}
 use Rattle.std.proofs.lemmas.List.Elements.{filter-append}
 use Rattle.std.proofs.lemmas.List.Folds.{flat_map-map}
 use Rattle.std.proofs.lemmas.List.Sums.{fold-append}
+use Rattle.std.proofs.lemmas.Bool.{or_parts}
 use Rattle.flat_sheets.specs.declared.package.Package.{Package}
 use Rattle.backends.specs.BillText.{ArticleData, article_of, articles_of, group_text, packages_of, same_article, with_article}
 use Rattle.backends.specs.steps.Groups.{GroupData, group_in, group_record, group_seen, groups_of, with_member, with_package}
 use Rattle.backends.specs.declared.articles.Group.{Group}
-use Rattle.backends.proofs.ArticleLemmas.{Once, neither, none_of, once_all, same_exact, same_self, same_turned}
+use Rattle.backends.proofs.ArticleLemmas.{Once, none_of, once_all, same_exact, same_self, same_turned}
 
 packages_behind : (ps : List Package) (p : Package) (a : ArticleData) (t : Bool) → same_article a (article_of p) ≡ t → packages_of (ps ++ p ∷ []) a ≡ packages_of ps a ++ (if t then p ∷ [] else [])
 packages_behind ps p a t is =
@@ -28,7 +29,7 @@ other_group ps p a is = ap (with_members a) (packages_behind ps p a false is ∙
 other_groups : (ps : List Package) (p : Package) (xs : List ArticleData) → list_any (same_article (article_of p)) xs ≡ false → map (group_in (ps ++ p ∷ [])) xs ≡ map (group_in ps) xs
 other_groups ps p [] none = refl
 other_groups ps p (a ∷ rest) none =
-    let apart = neither (same_article (article_of p) a) (list_any (same_article (article_of p)) rest) none in
+    let apart = or_parts (same_article (article_of p) a) (list_any (same_article (article_of p)) rest) none in
     ap₂ (λ (g : GroupData) (gs : List GroupData). g ∷ gs) (other_group ps p a (same_turned a (article_of p) ∙ apart.0)) (other_groups ps p rest apart.1)
 
 joins_old : (ps : List Package) (p : Package) (xs : List ArticleData) → Once xs → list_any (same_article (article_of p)) xs ≡ true → with_package (map (group_in ps) xs) p ≡ map (group_in (ps ++ p ∷ [])) xs

@@ -10,6 +10,7 @@ use Rattle.std.proofs.lemmas.List.{map-append}
 use Rattle.std.proofs.lemmas.Map.Entries.{lookup_from_place}
 use Rattle.std.proofs.lemmas.Map.Keys.{IsDistinct-from_sorted}
 use Rattle.std.proofs.lemmas.Map.Lookups.{exact_unsigned}
+use Rattle.std.proofs.lemmas.Bool.{or_parts}
 use Rattle.geda_geom.specs.declared.conductor.Conductor.{Conductor}
 use Rattle.project_model.specs.declared.change.Placed.{Placed}
 use Rattle.project_model.specs.declared.change.Thing.{Thing}
@@ -64,14 +65,6 @@ module _ (p : ProjectData) (items : List Item) where
   pub leaving_flagged : leaving p items ≡ flagged p items (sheet_conductors p)
   leaving_flagged = flagged_rows (entries p.objects) (found_row p)
 
-no_first : (a b : Bool) → (a || b) ≡ false → a ≡ false
-no_first true b e = e
-no_first false b e = refl
-
-no_second : (a b : Bool) → (a || b) ≡ false → b ≡ false
-no_second true b e = absurd (let h : true ≡ false = e in cc)
-no_second false b e = e
-
 true_false : {P : Type 0} (b : Bool) → b ≡ true → b ≡ false → P
 true_false b yes_ no_ = absurd (let h : true ≡ false = sym yes_ ∙ no_ in cc)
 
@@ -82,8 +75,8 @@ TouchesNone p items = list_any (λ (item : Item). may_touch p item.0) items ≡ 
 no_object : (p : ProjectData) (items : List Item) (id : ℕ) (placed : Placed) → get p.objects id ≡ Some placed → TouchesNone p items → has_thing (is_object id) items ≡ false
 no_object p [] id placed there none = refl
 no_object p (item ∷ items) id placed there none =
-    let rest = no_object p items id placed there (no_second (may_touch p item.0) (list_any (λ (x : Item). may_touch p x.0) items) none) in
-    rw (of_thing item.0 (no_first (may_touch p item.0) (list_any (λ (x : Item). may_touch p x.0) items) none)) rest
+    let rest = no_object p items id placed there ((or_parts (may_touch p item.0) (list_any (λ (x : Item). may_touch p x.0) items) none).1) in
+    rw (of_thing item.0 ((or_parts (may_touch p item.0) (list_any (λ (x : Item). may_touch p x.0) items) none).0)) rest
   where
     same_id : (other : ℕ) (b : Bool) → (other == id) ≡ b → is_some (get p.objects other) ≡ false → (other == id) ≡ false
     same_id other false e untouched = e
@@ -99,8 +92,8 @@ no_object p (item ∷ items) id placed there none =
 no_symbol : (p : ProjectData) (items : List Item) → TouchesNone p items → HasNoSymbol items
 no_symbol p [] none name = refl
 no_symbol p (item ∷ items) none name =
-    let rest = no_symbol p items (no_second (may_touch p item.0) (list_any (λ (x : Item). may_touch p x.0) items) none) name in
-    rw (of_thing item.0 (no_first (may_touch p item.0) (list_any (λ (x : Item). may_touch p x.0) items) none)) rest
+    let rest = no_symbol p items ((or_parts (may_touch p item.0) (list_any (λ (x : Item). may_touch p x.0) items) none).1) name in
+    rw (of_thing item.0 ((or_parts (may_touch p item.0) (list_any (λ (x : Item). may_touch p x.0) items) none).0)) rest
   where
     of_thing : (thing : Thing) → may_touch p thing ≡ false → is_symbol name thing ≡ false
     of_thing (things.Object other) untouched = refl

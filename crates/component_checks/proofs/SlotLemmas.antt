@@ -9,8 +9,8 @@ use Rattle.std.specs.Ordering.{nat_cmp}
 use Rattle.std.specs.Str.{bytes_eq}
 use Rattle.std.proofs.lemmas.Map.Text.{is_eq-slice_cmp}
 use Rattle.std.proofs.lemmas.Slice.Eq.{bytes_eq-Decides}
-use Rattle.hierarchy.proofs.PlaceLemmas.{bytes_false, bytes_same, bytes_true}
-use Rattle.flat_sheets.specs.Order.{by_bytes}
+use Rattle.geda_defs.proofs.Bytes.{bytes_turned}
+use Rattle.geda_defs.specs.Order.{by_bytes}
 use Rattle.component_checks.specs.CheckedComponents.{CheckedData}
 use Rattle.component_checks.specs.OnPackages.{is_number, of_package, slot_value, unused_slot, unused_slots, uses_slot}
 use Rattle.component_checks.specs.declared.slot_rows.PackageSlots.{PackageSlots}
@@ -18,14 +18,6 @@ use Rattle.component_checks.specs.steps.SlotRows.{AddsNumber, AreSlotsOf, SlotRo
 use Rattle.component_checks.proofs.ListLemmas.{first_cons, flat_map_same, option_or-assoc, option_or-none}
 
 -- ---- one component
-
--- equality of bytes, turned round
-turned : (x y : List ℕ) → bytes_eq x y ≡ bytes_eq y x
-turned x y = by (bytes_eq x y) refl
-  where
-    by : (b : Bool) → bytes_eq x y ≡ b → bytes_eq x y ≡ bytes_eq y x
-    by true e = e ∙ sym (bytes_true y x (sym (bytes_same x y e)))
-    by false e = e ∙ sym (bytes_false y x (λ same. let t = bytes_true x y (sym same) in absurd (let h : true ≡ false = sym t ∙ e in cc)))
 
 -- the slots that are known of a package, or none
 known_count : (row : Option PackageSlots) (none : PackageSlots) → none.count ≡ None → (unwrap_or row none).count ≡ count_in row
@@ -49,10 +41,10 @@ row_back refdes old mid new made out back q = by (bytes_eq q refdes) refl
   where
     by : (b : Bool) → bytes_eq q refdes ≡ b → row_at new q ≡ cond b (Some made) (row_at old q)
     by true e =
-        let hit : is_at (by_bytes refdes) q ≡ true = is_eq-slice_cmp refdes q ∙ turned refdes q ∙ e in
+        let hit : is_at (by_bytes refdes) q ≡ true = is_eq-slice_cmp refdes q ∙ bytes_turned refdes q ∙ e in
         back.0 q ∙ rw hit refl
     by false e =
-        let miss : is_at (by_bytes refdes) q ≡ false = is_eq-slice_cmp refdes q ∙ turned refdes q ∙ e in
+        let miss : is_at (by_bytes refdes) q ≡ false = is_eq-slice_cmp refdes q ∙ bytes_turned refdes q ∙ e in
         back.0 q ∙ rw miss (out.0 q ∙ rw miss refl)
 
 -- so the rows take in a component

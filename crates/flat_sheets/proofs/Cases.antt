@@ -22,7 +22,7 @@ use Rattle.attr_rules.specs.declared.kinds.PinKind.TheVariants as kinds
 use Rattle.geda_geom.specs.declared.conductor.Point.{Point}
 use Rattle.geda_geom.specs.declared.conductor.Conductor.TheVariants.{Segment}
 use Rattle.hierarchy.specs.declared.instances.Instance.{Instance}
-use Rattle.flat_sheets.specs.Order.{once_in_order}
+use Rattle.geda_defs.specs.Order.{once_in_order}
 use Rattle.flat_sheets.specs.Occurrences.{OccurrenceData, by_occurrence}
 use Rattle.flat_sheets.specs.Ports.{labels_of, labels_on, pins_at}
 use Rattle.flat_sheets.specs.ListedParts.{is_no_part, under}

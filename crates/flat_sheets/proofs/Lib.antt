@@ -1,5 +1,4 @@
 pub mod Outcomes
-pub mod OnceLaws
 pub mod SheetIdLemmas
 pub mod LabelLemmas
 pub mod LineLemmas

@@ -10,7 +10,7 @@ use Rattle.std.proofs.lemmas.Map.Text.{is_eq-slice_cmp}
 use Rattle.std.proofs.lemmas.Slice.Eq.{bytes_eq-Decides}
 use Rattle.project_model.specs.declared.change.Placed.{Placed}
 use Rattle.project_model.specs.Projects.{is_on}
-use Rattle.flat_sheets.specs.Order.{by_bytes}
+use Rattle.geda_defs.specs.Order.{by_bytes}
 use Rattle.flat_sheets.specs.SheetIds.{IdsBySheet, ids_at}
 use Rattle.flat_sheets.specs.steps.SheetIds.{AddsId, id_on, ids_in}
 

@@ -1,4 +1,3 @@
-pub mod Order
 pub mod SheetIds
 pub mod Occurrences
 pub mod Ports

@@ -10,7 +10,7 @@ use Rattle.geda_model.specs.Sheets.{ObjectData}
 use Rattle.project_model.specs.Projects.{ProjectData, ids_on}
 use Rattle.hierarchy.specs.declared.instances.Instance.{Instance}
 use Rattle.hierarchy.specs.Instances.{instances_of}
-use Rattle.flat_sheets.specs.Order.{once_in_order}
+use Rattle.geda_defs.specs.Order.{once_in_order}
 
 -- an object in an instance of its sheet: the route of the instance, its place among all instances,
 -- and the id of the object

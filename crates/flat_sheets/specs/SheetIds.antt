@@ -3,7 +3,7 @@ use Rattle.std.specs.Prelude.{◌≡◌, ℕ, List, []}
 use Rattle.std.specs.BTreeMap.{BTreeMap, get}
 use Rattle.std.specs.Option.{unwrap_or}
 use Rattle.project_model.specs.Projects.{ProjectData, ids_on}
-use Rattle.flat_sheets.specs.Order.{by_bytes}
+use Rattle.geda_defs.specs.Order.{by_bytes}
 
 -- ids by sheet
 abbrev pub IdsBySheet : Type 0

@@ -1,5 +1,5 @@
 -- The names and the texts that the work writes.
-use Rattle.std.proofs.Common.{◌≡◌, ℕ, ◌<◌, ◌^◌, Bool, true, false, ◌&&◌, List, [], ◌∷◌, ◌++◌, refl, arith, rules, codes, eqb}
+use Rattle.std.proofs.Common.{◌≡◌, ℕ, ◌<◌, ◌^◌, true, false, ◌&&◌, List, [], ◌∷◌, ◌++◌, refl, arith, rules, codes, eqb}
 use Rattle.std.specs.List.{list_all}
 use Rattle.std.proofs.lemmas.List.Folds.{list_all-append}
 use Rattle.std.specs.Char.{is_ascii_digit}
@@ -11,6 +11,7 @@ use Rattle.std.proofs.lemmas.Str.Parse.{IsNumeralModel, numerals_by_value}
 use Rattle.std.proofs.lemmas.Str.{IsUtf8-from_ascii, is_utf8-from_IsUtf8}
 use Rattle.std.proofs.lemmas.Str.Ascii.{IsAscii-nil, IsAscii-cons}
 use Rattle.std.proofs.lemmas.Bool.Decides.{nat_tests}
+use Rattle.std.proofs.lemmas.Bool.{and_parts}
 use Rattle.geda_model.specs.Names.{IsName, IsWord}
 use Rattle.geda_model.specs.Ranges.{IsContent, has_cr_end, line_feeds}
 use Rattle.geda_model.proofs.WordTests.{IsWord-from_is_word}
@@ -24,16 +25,11 @@ sheet_name_is_name = record { filled = omega arith; short = omega arith; first =
 pub symbol_name_is_name : IsName symbol_name
 symbol_name_is_name = record { filled = omega arith; short = omega arith; first = λ e. absurd cc; name_bytes = refl }
 
-both_of : (a b : Bool) → (a && b) ≡ true → (a ≡ true) × (b ≡ true)
-both_of true true e = (refl, refl)
-both_of true false e = absurd (let h : false ≡ true = e in cc)
-both_of false b e = absurd (let h : false ≡ true = e in cc)
-
 head_plain : (b : ℕ) (bs : List ℕ) → IsPlain (b ∷ bs) → is_plain_byte b ≡ true
-head_plain b bs h = (both_of (is_plain_byte b) (list_all is_plain_byte bs) h).0
+head_plain b bs h = (and_parts (is_plain_byte b) (list_all is_plain_byte bs) h).0
 
 tail_plain : (b : ℕ) (bs : List ℕ) → IsPlain (b ∷ bs) → IsPlain bs
-tail_plain b bs h = (both_of (is_plain_byte b) (list_all is_plain_byte bs) h).1
+tail_plain b bs h = (and_parts (is_plain_byte b) (list_all is_plain_byte bs) h).1
 
 no_cr : (bs : List ℕ) → IsPlain bs → has_cr_end bs ≡ false
 no_cr [] h = refl
@@ -77,7 +73,7 @@ digit_plain b h = grind (arith, nat_tests)
 digits_plain : (ds : List ℕ) → list_all is_ascii_digit ds ≡ true → IsPlain ds
 digits_plain [] h = refl
 digits_plain (d ∷ ds) h =
-    let parts = both_of (is_ascii_digit d) (list_all is_ascii_digit ds) h in
+    let parts = and_parts (is_ascii_digit d) (list_all is_ascii_digit ds) h in
     rw (digit_plain d parts.0, digits_plain ds parts.1) refl
 
 own : IsNumeralModel (λ ds. list_all is_ascii_digit ds ≡ true) (digits_value 10)

@@ -29,7 +29,7 @@ use Rattle.geda_grammar.specs.Spelling.{IsBlankLine, SpellRows}
 use Rattle.geda_model.specs.Names.{is_word}
 use Rattle.geda_text.specs.Lines.{IsCutLine, fields_of, first_field, other_fields, whole_of}
 use Rattle.geda_grammar.proofs.LevelSound.{mapped, let_through}
-use Rattle.std.proofs.lemmas.Bool.{eqb-true}
+use Rattle.std.proofs.lemmas.Bool.{eqb-true, or_parts}
 use Rattle.geda_grammar.proofs.LineRows as line_rows
 use Rattle.geda_grammar.proofs.LineRows.{Follows}
 use Rattle.geda_grammar.proofs.FieldLaws.{has_fields, line_fits, read_fields_back}
@@ -170,11 +170,6 @@ first_version = refl
 first_good : IsCutLine (codes "v 00000000 1")
 first_good = record { one = (omega arith, (omega arith, (omega arith, (omega arith, (omega arith, (omega arith, (omega arith, (omega arith, (omega arith, (omega arith, (omega arith, (omega arith, tt)))))))))))); no_cr = refl }
 
--- neither of two
-or_false : (b c : Bool) → (b || c) ≡ false → (b ≡ false) × (c ≡ false)
-or_false true c e = absurd cc
-or_false false c e = (refl, e)
-
 -- a bracket alone
 pub open_block_said : sheet_line (byte_of letters.OpenBlock ∷ []) ≡ Complete rows.OpenBlock
 unfolding fields_of
@@ -215,7 +210,7 @@ line_four (Some l) ws = fields_four l ws
 
 passes : {T : Type 0} (m : LineMachine T) (t : T) (line : List ℕ) → AllByRecursion (λ k. test m t line k ≡ false) kinds → Passes m t (letter_at line) (other_fields (fields_of line))
 passes m t line f =
-    let two = or_false (is_stray m t (letter_at line)) (takes m t letters.OpenSymbol && not (is_open_symbol (letter_at line))) f.1.1.1.1.1.0 in
+    let two = or_parts (is_stray m t (letter_at line)) (takes m t letters.OpenSymbol && not (is_open_symbol (letter_at line))) f.1.1.1.1.1.0 in
     record {
       room = f.0;
       block = f.1.1.1.1.0;

@@ -7,6 +7,7 @@ use Rattle.std.proofs.lemmas.Slice.Eq.{bytes_eq-Decides}
 use Rattle.std.proofs.lemmas.List.{append-nil}
 use Rattle.std.proofs.lemmas.Bool.{eqb-true}
 use Rattle.std.proofs.lemmas.Bool.Decides.{nat_tests}
+use Rattle.geda_defs.proofs.Bytes.{bytes_same, bytes_false}
 use Rattle.geda_defs.specs.Lines.{ended}
 use Rattle.geda_model.specs.declared.shape.Shape.{Shape}
 use Rattle.geda_grammar.specs.steps.Reading.{Progress, Still, Whole}
@@ -17,19 +18,8 @@ use Rattle.geda_grammar.proofs.LineRows.{Follows}
 abbrev pub AreUtf8 : List (List ℕ) → Type 0
 AreUtf8 lines = AllByRecursion (λ l. is_utf8 l ≡ true) lines
 
--- equal bytes
-pub equal : (a b : List ℕ) → bytes_eq a b ≡ true → a ≡ b
-equal a b e = search (rules, bytes_eq-Decides)
-
 pub unequal : (a b : List ℕ) → bytes_eq a b ≡ false → a ≢ b
 unequal a b e = search (rules, bytes_eq-Decides)
-
-pub not_equal : (a b : List ℕ) → a ≢ b → bytes_eq a b ≡ false
-not_equal a b h = go (bytes_eq a b) refl
-  where
-    go : (t : Bool) → bytes_eq a b ≡ t → bytes_eq a b ≡ false
-    go true e = absurd (h (equal a b e))
-    go false e = e
 
 -- a line that adds something is UTF-8
 pub more_adds : (p : Pending) (line : List ℕ) (g : Progress Pending) → more p line ≡ Some g → (is_utf8 line ≡ true) × (add p line ≡ g)
@@ -97,7 +87,7 @@ data_follow f file bytes [] u d =
     let last : add (PictureLines f file bytes) (codes ".") ≡ Whole (picture f file (Some (bytes ++ []))) = subst (λ (b : List ℕ). add (PictureLines f file bytes) (codes ".") ≡ Whole (picture f file (Some b))) (sym (append-nil bytes)) refl in
     inl (adds_more (PictureLines f file bytes) (codes ".") _ u.0 last, refl)
 data_follow f file bytes (line ∷ lines) u d =
-    let other : bytes_eq line (codes ".") ≡ false = not_equal line (codes ".") d.0 in
+    let other : bytes_eq line (codes ".") ≡ false = bytes_false line (codes ".") d.0 in
     let rest = subst (λ (b : List ℕ). Follows more (PictureLines f file (bytes ++ ended line)) (picture f file (Some b)) (lines ++ codes "." ∷ [])) (append_assoc bytes (ended line) (flat_map ended lines)) (data_follow f file (bytes ++ ended line) lines u.1 d.1) in
     inr (PictureLines f file (bytes ++ ended line), adds_more (PictureLines f file bytes) line _ u.0 (rw other refl), rest)
 
@@ -110,7 +100,7 @@ added_data : (f : PictureLineData) (file bytes line : List ℕ) (g : Progress Pe
 added_data f file bytes line g e = subst (AddsData f file bytes line) e (go (bytes_eq line (codes ".")) refl)
   where
     go : (b : Bool) → bytes_eq line (codes ".") ≡ b → AddsData f file bytes line (cond b (Whole (picture f file (Some bytes))) (Still (PictureLines f file (bytes ++ ended line))))
-    go true h = (equal line (codes ".") h, refl)
+    go true h = (bytes_same line (codes ".") h, refl)
     go false h = (unequal line (codes ".") h, refl)
 
 pub record IsData (f : PictureLineData) (file bytes : List ℕ) (shape : Shape) (lines : List (List ℕ)) : Type 0 where

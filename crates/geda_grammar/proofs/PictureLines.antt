@@ -2,7 +2,7 @@
 use Rattle.std.proofs.Common.{◌≡◌, ℕ, suc, ◌-◌, Bool, true, false, List, [], ◌∷◌, ◌++◌, length, refl, sym, ap, subst, ◌∙◌, arith, codes, inl, inr, ◌⊎◌}
 use Rattle.std.specs.Prelude.{◌≢◌, ◌&&◌, ◌||◌, ◌==◌, slice_index}
 use Rattle.std.specs.List.{slice_split, onto_first, flat_map, AllByRecursion}
-use Rattle.std.proofs.lemmas.Bool.{eqb-true}
+use Rattle.std.proofs.lemmas.Bool.{eqb-true, or_parts}
 use Rattle.geda_defs.specs.Lines.{ended, is_line_feed}
 use Rattle.geda_model.specs.Ranges.{begins_with_dot_line, has_later_dot_line, IsPictureData}
 use Rattle.geda_text.specs.Lines.{without_empty_end}
@@ -57,14 +57,10 @@ data_whole (b ∷ bs) (inr h) =
     let k = cut_of b bs (ends_well b bs h) in
     ap (λ (ps : List (List ℕ)). flat_map ended (without_empty_end ps)) k.pieces ∙ k.whole
 
-or_none : (c d : Bool) → (c || d) ≡ false → (c ≡ false) × (d ≡ false)
-or_none true d e = absurd cc
-or_none false d e = (refl, e)
-
 -- what follows a line
 later : (line rest : List ℕ) → has_later_dot_line ((line ++ 10 ∷ []) ++ rest) ≡ false → (begins_with_dot_line rest ≡ false) × (has_later_dot_line rest ≡ false)
-later [] rest h = or_none (begins_with_dot_line rest) (has_later_dot_line rest) h
-later (b ∷ line) rest h = later line rest (or_none ((b == 10) && begins_with_dot_line ((line ++ 10 ∷ []) ++ rest)) (has_later_dot_line ((line ++ 10 ∷ []) ++ rest)) h).1
+later [] rest h = or_parts (begins_with_dot_line rest) (has_later_dot_line rest) h
+later (b ∷ line) rest h = later line rest (or_parts ((b == 10) && begins_with_dot_line ((line ++ 10 ∷ []) ++ rest)) (has_later_dot_line ((line ++ 10 ∷ []) ++ rest)) h).1
 
 -- no line is a point
 no_points : (lines : List (List ℕ)) → begins_with_dot_line (flat_map ended lines) ≡ false → has_later_dot_line (flat_map ended lines) ≡ false → AllByRecursion (λ l. l ≢ codes ".") lines

@@ -3,6 +3,7 @@ use Rattle.std.proofs.Common.{◌≡◌, ℕ, ℤ, pos, Bool, true, false, cond,
 use Rattle.std.specs.Prelude.{if◌then◌else◌}
 use Rattle.std.specs.List.{join_with_byte}
 use Rattle.std.proofs.lemmas.List.{take-append-drop}
+use Rattle.geda_defs.proofs.Bytes.{bytes_same}
 use Rattle.geda_model.specs.Data.{TextData, StrokeData, FillData}
 use Rattle.geda_model.specs.declared.shape.Shape.{Shape}
 use Rattle.geda_model.specs.declared.shape.Shape.TheVariants as shapes
@@ -20,7 +21,7 @@ use Rattle.geda_grammar.specs.steps.Following.{Pending, add, add_line, TextLines
 use Rattle.geda_grammar.specs.steps.SheetLines.{drawn_line, letter_line, sheet_line, component_data, natural_in, flag_in, stroke, fill}
 use Rattle.geda_grammar.proofs.LineRows.{Follows}
 use Rattle.geda_grammar.proofs.FieldLaws.{FitFields, line_as, has_fields, line_fits, natural_back, flag_back, bit_back}
-use Rattle.geda_grammar.proofs.FollowLaws.{AreUtf8, equal, lines_follow, lines_back, data_follow, data_back, more_adds, adds_more}
+use Rattle.geda_grammar.proofs.FollowLaws.{AreUtf8, lines_follow, lines_back, data_follow, data_back, more_adds, adds_more}
 
 -- what a row was read from, by what its line says
 abbrev Back : Letter → List Field → SheetLine Pending → Type 0
@@ -82,7 +83,7 @@ component_back x y selectable angle mirror name true e h =
     let selectable' = flag_back selectable h.1.1.0 in
     let angle' = natural_back Angle angle (λ n. refl) h.1.1.1.0 in
     let mirror' = flag_back mirror h.1.1.1.1.0 in
-    let name' : codes "EMBEDDED" ++ drop 8 name ≡ name = ap (λ (bs : List ℕ). bs ++ drop 8 name) (sym (equal (take 8 name) (codes "EMBEDDED") e)) ∙ take-append-drop 8 name in
+    let name' : codes "EMBEDDED" ++ drop 8 name ≡ name = ap (λ (bs : List ℕ). bs ++ drop 8 name) (sym (bytes_same (take 8 name) (codes "EMBEDDED") e)) ∙ take-append-drop 8 name in
     (refl, rw (selectable', angle', mirror', name') refl, refl)
 component_back x y selectable angle mirror name false e h =
     let selectable' = flag_back selectable h.1.1.0 in

@@ -5,26 +5,21 @@ use Rattle.std.specs.List.{list_all}
 use Rattle.std.specs.Option.{option_map}
 use Rattle.std.specs.Char.{is_ascii_digit}
 use Rattle.std.specs.Str.{bytes_eq}
-use Rattle.std.proofs.lemmas.Bool.{eqb-true, eq-eqb}
+use Rattle.std.proofs.lemmas.Bool.{eqb-true, eq-eqb, and_parts}
+use Rattle.geda_defs.proofs.Bytes.{bytes_same}
 use Rattle.geda_model.specs.Sheets.{HeadData}
 use Rattle.geda_grammar.specs.Letters.{is_version}
 use Rattle.geda_grammar.specs.Spelling.{IsVersionLine}
 use Rattle.geda_grammar.specs.steps.Files.{version_of, version_in, format_of, head_of}
 use Rattle.geda_text.specs.Lines.{fields_of}
-use Rattle.geda_grammar.proofs.FollowLaws.{equal}
-
--- both hold
-pub and_true : (b c : Bool) → (b && c) ≡ true → (b ≡ true) × (c ≡ true)
-and_true true c e = (refl, e)
-and_true false c e = absurd cc
 
 -- a field that says a format
 known_format : (w : List ℕ) (f : ℕ) → format_of w ≡ Some f → ((w ≡ codes "1") × (f ≡ 1)) ⊎ ((w ≡ codes "2") × (f ≡ 2))
 known_format w f e = go (bytes_eq w (codes "1")) (bytes_eq w (codes "2")) refl refl e
   where
     go : (b c : Bool) → bytes_eq w (codes "1") ≡ b → bytes_eq w (codes "2") ≡ c → cond b (Some 1) (cond c (Some 2) None) ≡ Some f → ((w ≡ codes "1") × (f ≡ 1)) ⊎ ((w ≡ codes "2") × (f ≡ 2))
-    go true c g h e = inl (equal w (codes "1") g, let same : 1 ≡ f = cc in sym same)
-    go false true g h e = inr (equal w (codes "2") h, let same : 2 ≡ f = cc in sym same)
+    go true c g h e = inl (bytes_same w (codes "1") g, let same : 1 ≡ f = cc in sym same)
+    go false true g h e = inr (bytes_same w (codes "2") h, let same : 2 ≡ f = cc in sym same)
     go false false g h e = absurd cc
 
 format_known : (w : List ℕ) (f : ℕ) → ((w ≡ codes "1") × (f ≡ 1)) ⊎ ((w ≡ codes "2") × (f ≡ 2)) → format_of w ≡ Some f
@@ -65,8 +60,8 @@ version_is head line e = by_words (fields_of line) refl e
     by_tests : (v date format : List ℕ) (b : Bool) → fields_of line ≡ v ∷ date ∷ format ∷ [] → (is_version v && (eqb (length date) 8 && list_all is_ascii_digit date)) ≡ b → cond b (option_map (head_of date) (format_of format)) None ≡ Some head → IsVersionLine head line
     by_tests v date format false f g e = absurd cc
     by_tests v date format true f g e =
-        let a = and_true (is_version v) (eqb (length date) 8 && list_all is_ascii_digit date) g in
-        let b = and_true (eqb (length date) 8) (list_all is_ascii_digit date) a.1 in
+        let a = and_parts (is_version v) (eqb (length date) 8 && list_all is_ascii_digit date) g in
+        let b = and_parts (eqb (length date) 8) (list_all is_ascii_digit date) a.1 in
         by_format v date format (format_of format) f a.0 (eqb-true _ _ b.0) b.1 refl e
 
     by_words : (ws : List (List ℕ)) → fields_of line ≡ ws → version_in ws ≡ Some head → IsVersionLine head line

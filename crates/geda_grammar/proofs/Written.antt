@@ -22,7 +22,7 @@ use Rattle.geda_grammar.specs.declared.row.Row.TheVariants.{Drawn}
 use Rattle.geda_grammar.specs.Rows.{IsRow, FollowRow, letter_of_row, component_line_of, row_fields}
 use Rattle.geda_grammar.specs.Canonical.{field_text, following, row_lines}
 use Rattle.std.proofs.lemmas.List.{length-append}
-use Rattle.std.proofs.lemmas.Bool.{le-leb}
+use Rattle.std.proofs.lemmas.Bool.{le-leb, and_parts}
 use Rattle.std.proofs.lemmas.List.Elements.{All-from_recursion, recursion_from_All}
 use Rattle.std.proofs.lemmas.Str.{IsUtf8-append, IsUtf8-from_is_utf8, is_utf8-from_IsUtf8}
 use Rattle.geda_grammar.proofs.Ascii.{ascii}
@@ -36,13 +36,12 @@ use Rattle.geda_text.proofs.WordsAgain.{IsGraphic, words_again, number_graphic}
 use Rattle.geda_grammar.proofs.Writing.{Good, AllGood, fields_again, no_feed}
 use Rattle.geda_grammar.proofs.Goodness.{shape_good, is_coordinate, is_bit, is_angle}
 use Rattle.geda_grammar.proofs.Pieces.{pieces_utf8, pieces_cut}
-use Rattle.geda_grammar.proofs.VersionLaws.{and_true}
 
 -- the bytes of a word stand above the space
 word_above : (bs : List ℕ) → list_all is_word_byte bs ≡ true → AllByRecursion (λ b. 32 < b) bs
 word_above [] h = tt
 word_above (b ∷ bs) h =
-    let both = and_true (is_word_byte b) (list_all is_word_byte bs) h in
+    let both = and_parts (is_word_byte b) (list_all is_word_byte bs) h in
     let one = both.0 in
     (grind (arith, nat_tests, one), word_above bs both.1)
 
@@ -52,8 +51,8 @@ field_graphic (UpTo n) (Number z) h = number_graphic z h.1
 field_graphic Lines (Number z) h = number_graphic z h.1
 field_graphic Angle (Number z) h = number_graphic z h.1
 field_graphic Basename (Word bytes) h =
-    let both = and_true (is_utf8 bytes) (nat_le (length bytes) 200 && list_all is_word_byte bytes) h.0 in
-    record { some = h.1; above = word_above bytes (and_true (nat_le (length bytes) 200) (list_all is_word_byte bytes) both.1).1 }
+    let both = and_parts (is_utf8 bytes) (nat_le (length bytes) 200 && list_all is_word_byte bytes) h.0 in
+    record { some = h.1; above = word_above bytes (and_parts (nat_le (length bytes) 200) (list_all is_word_byte bytes) both.1).1 }
 field_graphic c f h = absurd h
 
 fields_graphic : (cs : List Class) (fs : List Field) → AllGood cs fs → AllByRecursion IsGraphic (map field_text fs)

@@ -3,7 +3,7 @@ use Rattle.std.proofs.Common.{◌≡◌, ℕ, ◌<◌, ◌≤◌, Bool, true, fa
 use Rattle.std.specs.Prelude.{◌&&◌}
 use Rattle.std.specs.List.{slice_split, AllByRecursion}
 use Rattle.std.specs.Str.{is_utf8}
-use Rattle.std.proofs.lemmas.Bool.{leb-true}
+use Rattle.std.proofs.lemmas.Bool.{leb-true, and_parts}
 use Rattle.geda_model.specs.Limits.{most_embedded_bytes}
 use Rattle.geda_model.specs.Names.{is_word}
 use Rattle.geda_model.specs.declared.shape.Shape.TheVariants.{Picture}
@@ -56,14 +56,10 @@ has_bytes : (bs : List ℕ) → IsFilled bs → 0 < length bs
 has_bytes [] h = absurd cc
 has_bytes (b ∷ bs) h = omega arith
 
-both : (t u : Bool) → (t && u) ≡ true → (t ≡ true) × (u ≡ true)
-both true u h = (refl, h)
-both false u h = absurd cc
-
 short : (name : List ℕ) → is_word (codes "EMBEDDED" ++ name) ≡ true → length name ≤ most_embedded_bytes
 short name h =
     let word = codes "EMBEDDED" ++ name in
-    let few = (both _ _ (both (is_utf8 word) _ h).1).0 in
+    let few = (and_parts _ _ (and_parts (is_utf8 word) _ h).1).0 in
     let most = leb-true (length word) 200 few in
     omega (arith, most)
 

@@ -5,6 +5,7 @@ use Rattle.std.specs.FinMap.{entries, keys}
 use Rattle.std.proofs.lemmas.Bool.{cases_lt}
 use Rattle.std.proofs.lemmas.List.{get_or-map, get_or_default, length-map}
 use Rattle.std.proofs.lemmas.List.Elements.{All-contains, All-contains_itself, All-filter, All-head, All-tail, All-weaker, filter_passes}
+use Rattle.geda_defs.proofs.Bytes.{bytes_same}
 use Rattle.project_model.specs.declared.change.Placed.{Placed}
 use Rattle.project_model.specs.Projects.{ProjectData, ids_on, is_on}
 use Rattle.hierarchy.specs.declared.way.Step.{Step}
@@ -14,7 +15,7 @@ use Rattle.hierarchy.specs.steps.Inside.{AreSources}
 use Rattle.hierarchy.specs.Ways.{WayData, IsStep, IsWay, LeadDown, last_sheet, ways}
 use Rattle.hierarchy.specs.Instances.{AreApart, instance_of, instances_of}
 use Rattle.hierarchy.proofs.ListLemmas.{all_none, all_filter_map, all_map}
-use Rattle.hierarchy.proofs.PlaceLemmas.{bytes_same, keys_rise, names_apart}
+use Rattle.hierarchy.proofs.PlaceLemmas.{keys_rise, names_apart}
 use Rattle.hierarchy.proofs.TableLemmas.{made_by, table_inside}
 use Rattle.hierarchy.proofs.WayLemmas.{all_are_ways, last_from, sheets_inside}
 use Rattle.hierarchy.proofs.OnceLemmas.{pairs_map, ways_once}

@@ -3,26 +3,22 @@ use Rattle.std.proofs.Common.{◌≡◌, ◌≢◌, ◌==◌, ◌&&◌, ◌<◌,
 use Rattle.std.specs.Prelude.{AllPairs}
 use Rattle.std.specs.List.{position, slice_get}
 use Rattle.std.specs.Str.{bytes_eq}
-use Rattle.std.proofs.lemmas.Bool.{cases_lt, eq-eqb, eqb-true, false≢true, ne_eqb}
+use Rattle.std.proofs.lemmas.Bool.{cases_lt, eq-eqb, eqb-true, false≢true, ne_eqb, and_parts}
 use Rattle.std.proofs.lemmas.List.{append-nil, get_or-take, get_or_push}
+use Rattle.geda_defs.proofs.Bytes.{bytes_true, bytes_same}
 use Rattle.hierarchy.specs.declared.way.Step.{Step}
 use Rattle.hierarchy.specs.Ways.{WayData, extended}
 use Rattle.hierarchy.specs.Instances.{is_upper, parent_of, same_step, same_steps}
 use Rattle.hierarchy.specs.steps.Parents.{AllFollow, AreInOrder, ArePlaces, IsBelow, IsReady, StandsAt, parent_in}
-use Rattle.hierarchy.proofs.PlaceLemmas.{bytes_same, bytes_true, position_at}
-
--- two tests that both pass
-both : (a b : Bool) → (a && b) ≡ true → (a ≡ true) × (b ≡ true)
-both true b e = (refl, e)
-both false b e = absurd (false≢true e)
+use Rattle.hierarchy.proofs.PlaceLemmas.{position_at}
 
 and_true : (a b : Bool) → a ≡ true → b ≡ true → (a && b) ≡ true
 and_true a b e f = rw (e, f) refl
 
 step_same : (s t : Step) → same_step s t ≡ true → s ≡ t
 step_same s t e =
-    let first = both (s.id == t.id) (bytes_eq s.refdes t.refdes && (s.sheet == t.sheet)) e in
-    let second = both (bytes_eq s.refdes t.refdes) (s.sheet == t.sheet) first.1 in
+    let first = and_parts (s.id == t.id) (bytes_eq s.refdes t.refdes && (s.sheet == t.sheet)) e in
+    let second = and_parts (bytes_eq s.refdes t.refdes) (s.sheet == t.sheet) first.1 in
     let ids : s.id ≡ t.id = eqb-true s.id t.id first.0 in
     let names : s.refdes ≡ t.refdes = bytes_same s.refdes t.refdes second.0 in
     let sheets : s.sheet ≡ t.sheet = eqb-true s.sheet t.sheet second.1 in
@@ -38,7 +34,7 @@ steps_same [] [] e = refl
 steps_same [] (t ∷ ts) e = absurd (false≢true e)
 steps_same (s ∷ ss) [] e = absurd (false≢true e)
 steps_same (s ∷ ss) (t ∷ ts) e =
-    let parts = both (same_step s t) (same_steps ss ts) e in
+    let parts = and_parts (same_step s t) (same_steps ss ts) e in
     let head : s ≡ t = step_same s t parts.0 in
     let tail : ss ≡ ts = steps_same ss ts parts.1 in
     λ i. head i ∷ tail i
@@ -66,7 +62,7 @@ upper_is t s =
 
 only_upper : (t : WayData) (s : Step) (w : WayData) → is_upper (extended t s) w ≡ true → w ≡ t
 only_upper t s w e =
-    let parts = both (w.root == t.root) (same_steps w.steps (take (length (t.steps ++ s ∷ []) - 1) (t.steps ++ s ∷ []))) e in
+    let parts = and_parts (w.root == t.root) (same_steps w.steps (take (length (t.steps ++ s ∷ []) - 1) (t.steps ++ s ∷ []))) e in
     let roots : w.root ≡ t.root = eqb-true w.root t.root parts.0 in
     let steps : w.steps ≡ t.steps = steps_same w.steps (take (length (t.steps ++ s ∷ []) - 1) (t.steps ++ s ∷ [])) parts.1 ∙ before_last t.steps s in
     λ i. record { root = roots i; steps = steps i }

@@ -18,7 +18,7 @@ use Rattle.std.proofs.lemmas.List.Sums.{fails_before_first, position_or_len_is}
 use Rattle.std.proofs.lemmas.Map.Keys.{Less-from_sorted}
 use Rattle.std.proofs.lemmas.Map.Lookups.{exact_bytes}
 use Rattle.std.proofs.lemmas.Map.Text.{is_eq-slice_cmp}
-use Rattle.std.proofs.lemmas.Slice.Eq.{bytes_eq-Decides}
+use Rattle.geda_defs.proofs.Bytes.{bytes_true, bytes_false}
 use Rattle.project_model.specs.Projects.{ProjectData}
 use Rattle.project_model.proofs.OrderedRows.{keys_sorted}
 
@@ -50,19 +50,6 @@ module _ {X : Type 0} (test : X → Bool) where
         cc)
     | inr le ↦ fails_before_first test xs k d (omega arith)
   ]
-
-pub bytes_true : (x y : List ℕ) → x ≡ y → bytes_eq x y ≡ true
-bytes_true x y same = (bytes_eq-Decides x y).1 same
-
-pub bytes_same : (x y : List ℕ) → bytes_eq x y ≡ true → x ≡ y
-bytes_same x y e = (bytes_eq-Decides x y).0 e
-
-pub bytes_false : (x y : List ℕ) → (x ≡ y → ⊥) → bytes_eq x y ≡ false
-bytes_false x y apart = by (bytes_eq x y) refl
-  where
-    by : (b : Bool) → bytes_eq x y ≡ b → bytes_eq x y ≡ false
-    by true e = absurd (apart (bytes_same x y e))
-    by false e = e
 
 -- texts that do not tie are two
 untied : (x y : List ℕ) (o : Ordering) → slice_cmp nat_cmp x y ≡ o → is_eq o ≡ false → x ≡ y → ⊥

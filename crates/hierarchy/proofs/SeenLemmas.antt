@@ -3,15 +3,8 @@ use Rattle.std.proofs.Common.{◌≡◌, ◌||◌, ℕ, Bool, true, false, List,
 use Rattle.std.specs.Prelude.{cond}
 use Rattle.std.specs.List.{list_any}
 use Rattle.std.specs.Str.{bytes_eq}
+use Rattle.geda_defs.proofs.Bytes.{bytes_turned}
 use Rattle.hierarchy.specs.steps.SeenTexts.{AddsText, AreTheTexts}
-use Rattle.hierarchy.proofs.PlaceLemmas.{bytes_false, bytes_same, bytes_true}
-
-turned : (x y : List ℕ) → bytes_eq x y ≡ bytes_eq y x
-turned x y = by (bytes_eq x y) refl
-  where
-    by : (b : Bool) → bytes_eq x y ≡ b → bytes_eq x y ≡ bytes_eq y x
-    by true e = e ∙ sym (bytes_true y x (sym (bytes_same x y e)))
-    by false e = e ∙ sym (bytes_false y x (λ same. let t = bytes_true x y (sym same) in absurd (let h : true ≡ false = sym t ∙ e in cc)))
 
 -- the last one of some texts is among them
 among_more : (q : List ℕ) (texts : List (List ℕ)) (text : List ℕ) → list_any (bytes_eq q) (texts ++ text ∷ []) ≡ cond (bytes_eq q text) true (list_any (bytes_eq q) texts)
@@ -31,6 +24,6 @@ among_more q (t ∷ ts) text = ap (λ (b : Bool). bytes_eq q t || b) (among_more
 pub seen_more : (old new : List ℕ → Bool) (texts : List (List ℕ)) (text : List ℕ) → AreTheTexts old texts → AddsText text old new → AreTheTexts new (texts ++ text ∷ [])
 seen_more old new texts text seen adds q =
     adds q
-    ∙ ap (λ (b : Bool). cond b true (old q)) (turned text q)
+    ∙ ap (λ (b : Bool). cond b true (old q)) (bytes_turned text q)
     ∙ ap (λ (b : Bool). cond (bytes_eq q text) true b) (seen q)
     ∙ sym (among_more q texts text)

@@ -11,6 +11,7 @@ use Rattle.std.proofs.lemmas.List.{get_or-map, length-map}
 use Rattle.std.proofs.lemmas.List.Kept.{AllPairs-filter}
 use Rattle.std.proofs.lemmas.List.Quantifiers.{all_pairs_push, position-Some}
 use Rattle.std.proofs.lemmas.Map.Keys.{below_from_sorted}
+use Rattle.geda_defs.proofs.Bytes.{bytes_true, bytes_same}
 use Rattle.geda_defs.specs.Lists.{each_once, with_new}
 use Rattle.project_model.specs.declared.change.Placed.{Placed}
 use Rattle.project_model.specs.Projects.{ProjectData, is_on}
@@ -19,7 +20,6 @@ use Rattle.attr_rules.specs.Attributes.{attrs}
 use Rattle.attr_rules.specs.Libraries.{library_of}
 use Rattle.hierarchy.specs.SheetTable.{HierarchicalData, hierarchical, no_sheet, place_of, sheet_of, sheet_table, source_of, source_values}
 use Rattle.hierarchy.proofs.ListLemmas.{all_none, all_filter_map}
-use Rattle.hierarchy.proofs.PlaceLemmas.{bytes_same, bytes_true}
 use Rattle.hierarchy.proofs.TableLemmas.{made_by}
 use Rattle.hierarchy.proofs.OnceLemmas.{AllStandOnce, NameApart, StandOnce, pairs_filter_map, pairs_map, pairs_none, pairs_weaker}
 

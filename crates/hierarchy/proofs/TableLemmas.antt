@@ -9,6 +9,7 @@ use Rattle.std.proofs.lemmas.List.{append-nil, length-map}
 use Rattle.std.proofs.lemmas.List.Elements.{filter-append, filter_map-append}
 use Rattle.std.proofs.lemmas.List.Quantifiers.{position-Some}
 use Rattle.std.proofs.lemmas.List.Sums.{list_all-from_AllPass, sum_by_push}
+use Rattle.geda_defs.proofs.Bytes.{bytes_same, bytes_false}
 use Rattle.project_model.specs.declared.change.Placed.{Placed}
 use Rattle.geda_model.specs.Sheets.{ObjectData}
 use Rattle.project_model.specs.Projects.{ProjectData, is_on}
@@ -18,7 +19,7 @@ use Rattle.hierarchy.specs.SheetTable.{HierarchicalData, TableSheetData, compone
 use Rattle.hierarchy.specs.steps.Inside.{AreSources, component_in_table, is_in_table, sheet_in_table}
 use Rattle.hierarchy.specs.steps.SheetRows.{AreLight, IsTableOf, bare_sheet, with_object}
 use Rattle.hierarchy.proofs.ListLemmas.{all_map, all_filter_map}
-use Rattle.hierarchy.proofs.PlaceLemmas.{bytes_false, bytes_same, fails_from_none, keys_rise, lt_true, names_apart}
+use Rattle.hierarchy.proofs.PlaceLemmas.{fails_from_none, keys_rise, lt_true, names_apart}
 
 -- a list with one more element, filtered
 kept : {X : Type 0} (test : X → Bool) (xs : List X) (x : X) → test x ≡ true → filter test (xs ++ x ∷ []) ≡ filter test xs ++ x ∷ []

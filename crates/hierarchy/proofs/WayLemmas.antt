@@ -3,7 +3,7 @@ use Rattle.std.proofs.Common.{◌≡◌, ◌≢◌, ◌==◌, ◌<◌, ◌≤◌
 use Rattle.std.specs.Prelude.{nat_lt, All, AllPairs, Any, Contains, flat_map}
 use Rattle.std.specs.List.{list_any, range_with_len, slice_get}
 use Rattle.std.specs.Option.{option_map_or}
-use Rattle.std.proofs.lemmas.Bool.{eq-eqb, eqb-true, false≢true}
+use Rattle.std.proofs.lemmas.Bool.{eq-eqb, eqb-true, false≢true, or_cases}
 use Rattle.std.proofs.lemmas.Bool.Decides.{Decides-eqb, nat_tests}
 use Rattle.std.proofs.lemmas.List.{append-nil, length-map, map-append}
 use Rattle.std.proofs.lemmas.List.Sums.{AllPass-from_list_all}
@@ -36,20 +36,15 @@ on_way : (w : WayData) (place k d : ℕ) → k < length (sheets_on w) → get_or
 on_way w place zero d h e = rw (eq-eqb w.root place e) refl
 on_way w place (suc k) d h e = rw (found w.steps place k d (omega arith) e) (or_true (w.root == place))
 
--- and the other way round
-either : (a b : Bool) → (a || b) ≡ true → (a ≡ true) ⊎ (b ≡ true)
-either true b e = inl refl
-either false b e = inr e
-
 among : (steps : List Step) (place : ℕ) → list_any (λ s. s.sheet == place) steps ≡ true → Contains (map (λ s. s.sheet) steps) place
 among [] place e = absurd (false≢true e)
-among (s ∷ ss) place e = elim (either (s.sheet == place) (list_any (λ s. s.sheet == place) ss) e) [
+among (s ∷ ss) place e = elim (or_cases (s.sheet == place) (list_any (λ s. s.sheet == place) ss) e) [
   | inl here ↦ (0, omega arith, eqb-true s.sheet place here)
   | inr there ↦ Contains-append_right (s.sheet ∷ []) (map (λ s. s.sheet) ss) place (among ss place there)
 ]
 
 on_list : (w : WayData) (place : ℕ) → is_on w place ≡ true → Contains (sheets_on w) place
-on_list w place e = elim (either (w.root == place) (list_any (λ s. s.sheet == place) w.steps) e) [
+on_list w place e = elim (or_cases (w.root == place) (list_any (λ s. s.sheet == place) w.steps) e) [
   | inl here ↦ (0, omega arith, eqb-true w.root place here)
   | inr there ↦ Contains-append_right (w.root ∷ []) (map (λ s. s.sheet) w.steps) place (among w.steps place there)
 ]
@@ -201,7 +196,7 @@ module _ (sheets : List TableSheetData) where
 
   listed_inside : (n q : ℕ) (xs : List ℕ) → All (λ x. x < n) xs → list_any (eqb q) xs ≡ true → q < n
   listed_inside n q [] all e = absurd (false≢true e)
-  listed_inside n q (x ∷ xs) all e = elim (either (eqb q x) (list_any (eqb q) xs) e) [
+  listed_inside n q (x ∷ xs) all e = elim (or_cases (eqb q x) (list_any (eqb q) xs) e) [
     | inl here ↦ let same = eqb-true q x here in let lt = All-head (λ x. x < n) x xs all in omega arith
     | inr there ↦ listed_inside n q xs (All-tail (λ x. x < n) x xs all) there
   ]

@@ -15,6 +15,7 @@ use Rattle.std.proofs.lemmas.Map.Keys.{IsDistinct-from_sorted}
 use Rattle.std.proofs.lemmas.Map.Lookups.{exact_bytes, exact_pairs, exact_unsigned}
 use Rattle.std.proofs.lemmas.Cmp.{eq_by_cmp_equiv}
 use Rattle.std.proofs.lemmas.Option.{get_or_from_slice_get, none-some, same_Some, slice_get_within}
+use Rattle.geda_defs.proofs.Bytes.{bytes_true, bytes_same}
 use Rattle.project_model.specs.declared.change.Placed.{Placed}
 use Rattle.project_model.specs.Projects.{ProjectData, ids_on, is_on}
 use Rattle.project_model.proofs.OrderedRows.{keys_sorted}
@@ -23,12 +24,11 @@ use Rattle.hierarchy.specs.declared.instances.Instance.{Instance}
 use Rattle.hierarchy.specs.Instances.{instances_of}
 use Rattle.hierarchy.proofs.KnownLemmas.{known_by_object}
 use Rattle.hierarchy.proofs.ListLemmas.{all_filter_map, all_map, all_none, contains_filter_map, contains_map}
-use Rattle.hierarchy.proofs.PlaceLemmas.{bytes_same, bytes_true}
 use Rattle.flat_sheets.specs.Occurrences.{FlatObject, OccurrenceData, by_occurrence, flat_object, flat_objects, object_at, occurrences, occurrences_at, occurrences_from}
-use Rattle.flat_sheets.specs.Order.{is_equal}
+use Rattle.geda_defs.specs.Order.{is_equal}
 use Rattle.flat_sheets.specs.steps.ObjectContents.{flat}
 use Rattle.flat_sheets.specs.steps.SheetIds.{occurrence}
-use Rattle.flat_sheets.proofs.OnceLaws.{find_once, is_once_in_order}
+use Rattle.geda_defs.proofs.OnceLaws.{find_once, is_once_in_order}
 use Rattle.net_names.proofs.PlaceLemmas.{contains_filter, found, is_found, place_in}
 
 -- occurrences are in a total order, and those that compare as equal have one route and one id

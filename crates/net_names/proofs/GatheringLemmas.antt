@@ -12,7 +12,7 @@ use Rattle.std.proofs.lemmas.List.{append-nil, append_assoc, drop_more, get_or-s
 use Rattle.std.proofs.lemmas.List.Sums.{fold-append}
 use Rattle.link_classes.specs.declared.conductors.FlatConductor.{FlatConductor}
 use Rattle.link_classes.specs.Links.{names_of}
-use Rattle.flat_sheets.specs.Order.{once_in_order}
+use Rattle.geda_defs.specs.Order.{once_in_order}
 use Rattle.net_names.specs.NetClasses.{Labelled, labelled_from, ClassPinData, class_pin_of, NetClassData, is_drawn_pin, is_single_pin, has_global_name, net_class}
 use Rattle.net_names.specs.NetLists.{by_name}
 use Rattle.net_names.specs.steps.Gathering.{GrowingClassData, empty_class, with_pin, lesser, with_conductor, joined_at, gathered_from, one_or_none, as_net_class}

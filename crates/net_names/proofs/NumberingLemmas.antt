@@ -17,7 +17,7 @@ use Rattle.net_names.specs.declared.nets.Net.{Net}
 use Rattle.net_names.specs.declared.nets.NetSort.{NetSort}
 use Rattle.net_names.specs.NetClasses.{NetClassData}
 use Rattle.net_names.specs.NetLists.{is_free, numbered, net_of}
-use Rattle.flat_sheets.specs.Order.{by_bytes, is_equal}
+use Rattle.geda_defs.specs.Order.{by_bytes, is_equal}
 use Rattle.net_names.specs.steps.Numbering.{with_taken, taken_names, is_taken, free_below, AllTaken, TakeSame, IsNextFree}
 
 -- what passes the test of equals is one

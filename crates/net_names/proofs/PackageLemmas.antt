@@ -13,13 +13,14 @@ use Rattle.std.specs.Ordering.{is_eq, is_lt}
 use Rattle.std.specs.Str.{bytes_eq}
 use Rattle.std.proofs.lemmas.Map.Text.{is_eq-slice_cmp}
 use Rattle.std.proofs.lemmas.Slice.Eq.{bytes_eq-Decides}
+use Rattle.geda_defs.proofs.Bytes.{bytes_same}
 use Rattle.flat_sheets.specs.declared.package.Package.{Package}
 use Rattle.net_names.specs.declared.packages.PackageAttributes.{PackageAttributes}
-use Rattle.flat_sheets.specs.Order.{by_bytes, is_equal, once_in_order}
+use Rattle.geda_defs.specs.Order.{by_bytes, is_equal, once_in_order}
 use Rattle.net_names.specs.Packages.{attr_in_package, package_attr, package_of, packages_by}
 use Rattle.net_names.specs.steps.Orders.{by_bytes_total}
 use Rattle.net_names.specs.steps.PackageRows.{AreRowsOf, PackageRows, no_attributes, package_of_row, row_after, row_and_part, row_at, row_with, with_attributes_of}
-use Rattle.flat_sheets.proofs.OnceLaws.{find_once, is_once_in_order, option_or-assoc, option_or-none}
+use Rattle.geda_defs.proofs.OnceLaws.{find_once, is_once_in_order, option_or-assoc, option_or-none}
 
 -- ---- one part
 
@@ -28,18 +29,15 @@ refuted : (b : Bool) → (b ≡ true → ⊥) → b ≡ false
 refuted true h = absurd (h refl)
 refuted false h = refl
 
-same_bytes : (a b : List ℕ) → bytes_eq a b ≡ true → a ≡ b
-same_bytes a b e = (bytes_eq-Decides a b).0 e
-
 -- the order finds equal bytes alone
 equal_false : (a b : List ℕ) → bytes_eq a b ≡ false → is_equal by_bytes b a ≡ false
 equal_false a b e = is_eq-slice_cmp b a ∙ refuted (bytes_eq b a) (λ h.
-    let there : bytes_eq a b ≡ true = (bytes_eq-Decides a b).1 (sym (same_bytes b a h)) in
+    let there : bytes_eq a b ≡ true = (bytes_eq-Decides a b).1 (sym (bytes_same b a h)) in
     let clash : true ≡ false = sym there ∙ e in
     cc)
 
 equal_true : (a b : List ℕ) → bytes_eq a b ≡ true → is_equal by_bytes b a ≡ true
-equal_true a b e = rw (same_bytes a b e, tied_itself by_bytes_total b) refl
+equal_true a b e = rw (bytes_same a b e, tied_itself by_bytes_total b) refl
 
 -- attributes are those that are known and those of a part, where each one is
 pub made_of : (made known : PackageAttributes) (part : Package)
@@ -62,7 +60,7 @@ takes_in part old made q now is_made put = put ∙ by (bytes_eq part.refdes q) r
         → cond (is_at (by_bytes part.refdes) q) (Some made) (row_at old q) ≡ cond b (Some (row_and_part part (row_at old q))) (row_at old q)
     by true e =
         let hit : is_at (by_bytes part.refdes) q ≡ true = is_eq-slice_cmp part.refdes q ∙ e in
-        rw (hit, is_made, same_bytes part.refdes q e) refl
+        rw (hit, is_made, bytes_same part.refdes q e) refl
     by false e =
         let miss : is_at (by_bytes part.refdes) q ≡ false = is_eq-slice_cmp part.refdes q ∙ e in
         rw miss refl
@@ -194,11 +192,11 @@ found_row parts q (k ∷ ks) = by (bytes_eq k q) refl (found_row parts q ks)
   where
     by : (b : Bool) → bytes_eq k q ≡ b → table.find by_bytes q (map (row_of parts) ks) ≡ wanted_row parts ks q
         → table.find by_bytes q (map (row_of parts) (k ∷ ks)) ≡ wanted_row parts (k ∷ ks) q
-    by true e h = rw (equal_true k q e, same_bytes k q e) refl
+    by true e h = rw (equal_true k q e, bytes_same k q e) refl
     by false e h = rw (equal_false k q e) h
 
 exact : (x y : List ℕ) → by_bytes x y ≡ Equal → x ≡ y
-exact x y e = same_bytes x y (sym (is_eq-slice_cmp x y) ∙ ap is_eq e)
+exact x y e = bytes_same x y (sym (is_eq-slice_cmp x y) ∙ ap is_eq e)
 
 packages_of_keys : (parts : List Package) (ks : List (List ℕ)) → map package_of_row (map (row_of parts) ks) ≡ map (package_of parts) ks
 packages_of_keys parts [] = refl

@@ -13,7 +13,7 @@ use Rattle.net_names.specs.declared.nets.Net.{Net}
 use Rattle.net_names.specs.declared.nets.NetSort.{NetSort}
 use Rattle.net_names.specs.declared.nets.NetSort.TheVariants as sorts
 use Rattle.net_names.specs.declared.nets.Nets.{Nets}
-use Rattle.flat_sheets.specs.Order.{once_in_order, by_bytes}
+use Rattle.geda_defs.specs.Order.{once_in_order, by_bytes}
 use Rattle.link_classes.specs.declared.conductors.FlatConductor.{FlatConductor}
 use Rattle.link_classes.specs.Links.{Linked, names_of}
 use Rattle.flat_sheets.specs.Conductors.{conductors_of}

@@ -5,7 +5,7 @@ use Rattle.std.specs.Str.{bytes_eq}
 use Rattle.project_model.specs.Projects.{ProjectData}
 use Rattle.flat_sheets.specs.declared.package.Package.{Package}
 use Rattle.flat_sheets.specs.ListedParts.{listed_parts}
-use Rattle.flat_sheets.specs.Order.{by_bytes, once_in_order}
+use Rattle.geda_defs.specs.Order.{by_bytes, once_in_order}
 
 -- an attribute of a part, if the part has this refdes
 abbrev pub attr_in_package :

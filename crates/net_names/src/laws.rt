@@ -4,7 +4,7 @@ ghost use Rattle.project_model.specs.Projects.{ProjectData};
 ghost use Rattle.net_names.specs.declared.nets.Nets.{Nets};
 ghost use Rattle.net_names.specs.NetClasses.{ClassPinData, NetClassData, by_member};
 ghost use Rattle.net_names.specs.NetLists.{IsNetListOf, by_least_pin, by_name};
-ghost use Rattle.flat_sheets.specs.Order.{IsOnceInOrder, by_bytes, once_in_order};
+ghost use Rattle.geda_defs.specs.Order.{IsOnceInOrder, by_bytes, once_in_order};
 
 /// The law that a project has one net list.
 pub fn one_net_list()

@@ -80,7 +80,7 @@ impl PartialEq for NetName {
     ghost use Rattle.std.proofs.Common.{rules};
     ghost use Rattle.std.specs.Cmp.Rules.{comparing};
     ghost use Rattle.std.specs.Ordering.{eq_by_cmp};
-    ghost use Rattle.flat_sheets.specs.Order.{by_bytes};
+    ghost use Rattle.geda_defs.specs.Order.{by_bytes};
 
     ghost eq = { eq_by_cmp by_bytes };
 
@@ -104,7 +104,7 @@ impl PartialOrd for NetName {
     ghost use Rattle.std.specs.Cmp.{partial_order_from_own_ties};
     ghost use Rattle.std.specs.Cmp.Rules.{comparing};
     ghost use Rattle.std.specs.Ordering.{as_partial_cmp};
-    ghost use Rattle.flat_sheets.specs.Order.{by_bytes};
+    ghost use Rattle.geda_defs.specs.Order.{by_bytes};
 
     ghost partial_cmp = { as_partial_cmp by_bytes };
 
@@ -119,7 +119,7 @@ impl PartialOrd for NetName {
 impl Ord for NetName {
     ghost use Rattle.std.proofs.Common.{rules};
     ghost use Rattle.std.specs.Cmp.Rules.{comparing};
-    ghost use Rattle.flat_sheets.specs.Order.{by_bytes};
+    ghost use Rattle.geda_defs.specs.Order.{by_bytes};
 
     ghost cmp = { by_bytes };
 

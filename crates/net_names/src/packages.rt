@@ -2,7 +2,7 @@
 ghost use Rattle.std.specs.Prelude.{◌≡◌, IfOk, OnOk, map};
 ghost use Rattle.std.specs.BTreeMap.{IsOrdered};
 ghost use Rattle.std.specs.Option.{option_or};
-ghost use Rattle.flat_sheets.specs.Order.{by_bytes};
+ghost use Rattle.geda_defs.specs.Order.{by_bytes};
 ghost use Rattle.net_names.specs.Packages.{packages_by};
 ghost use Rattle.net_names.specs.steps.PackageRows.{AreRowsOf, TakesIn, no_attributes};
 ghost use Rattle.net_names.specs.steps.PackageRows.{package_of_row};

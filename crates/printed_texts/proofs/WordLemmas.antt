@@ -5,6 +5,7 @@ use Rattle.std.specs.Str.{IsUtf8}
 use Rattle.std.proofs.lemmas.Str.{IsUtf8-nil, IsUtf8-append, IsUtf8-from_is_utf8, is_utf8-from_IsUtf8, encode_ascii}
 use Rattle.std.proofs.lemmas.List.Elements.{All-nil, All-append, All-cons}
 use Rattle.std.proofs.lemmas.Bool.Decides.{nat_tests}
+use Rattle.std.proofs.lemmas.Bool.{and_parts}
 use lib.Utf8.{scalar, scalars, encode, encodes, next}
 use Rattle.geda_model.specs.Names.{IsLine, IsLineByte}
 use Rattle.printed_texts.specs.PrintedTexts.{word_byte, word}
@@ -56,17 +57,9 @@ all_encoded (c ∷ cs) = map-append_words (encode c) (encodes cs) ∙ (ap (λ (l
 scalar_word : (c : ℕ) → scalar c ≡ true → scalar (word_byte c) ≡ true
 scalar_word c h = grind (arith, nat_tests)
 
-first_of : (a b : Bool) → (a && b) ≡ true → a ≡ true
-first_of true b h = refl
-first_of false b h = h
-
-second_of : (a b : Bool) → (a && b) ≡ true → b ≡ true
-second_of true b h = h
-second_of false b h = absurd (let e = h in cc)
-
 scalar_words : (cs : List ℕ) → scalars cs ≡ true → scalars (map word_byte cs) ≡ true
 scalar_words [] h = refl
-scalar_words (c ∷ cs) h = rw (scalar_word c (first_of (scalar c) (scalars cs) h)) (scalar_words cs (second_of (scalar c) (scalars cs) h))
+scalar_words (c ∷ cs) h = rw (scalar_word c ((and_parts (scalar c) (scalars cs) h).0)) (scalar_words cs ((and_parts (scalar c) (scalars cs) h).1))
 
 IsUtf8-word : (bs : List ℕ) → IsUtf8 bs → IsUtf8 (word bs)
 IsUtf8-word bs (cs, (s, e)) = (map word_byte cs, (scalar_words cs s, sym (all_encoded cs) ∙ ap (map word_byte) e))

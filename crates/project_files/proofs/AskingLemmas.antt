@@ -8,9 +8,10 @@ use Rattle.std.specs.Prelude.{cond, option_and_then, ◌⊎◌}
 use Rattle.std.proofs.lemmas.List.{append_assoc}
 use Rattle.std.proofs.lemmas.List.Folds.{list_any-append}
 use Rattle.std.proofs.lemmas.List.Elements.{All-push}
-use Rattle.std.proofs.lemmas.Slice.Eq.{bytes_eq-Decides}
 use Rattle.geda_defs.specs.Contents.{Files, KeepsFiles, ReadsFile, found_bytes}
 use Rattle.std.specs.declared.alloc.Global.{Global}
+use Rattle.std.proofs.lemmas.Bool.{or_cases, or_parts}
+use Rattle.geda_defs.proofs.Bytes.{bytes_true, bytes_same}
 use Rattle.geda_grammar.proofs.FollowLaws.{not_equal}
 use Rattle.geda_model.specs.Names.{is_name}
 use Rattle.geda_model.specs.Shapes.{ComponentData}
@@ -26,12 +27,6 @@ use Rattle.geda_model.specs.declared.shape.Shape.{Shape}
 use Rattle.project_files.specs.ProjectFiles.{with_view}
 use Rattle.project_files.specs.steps.Progress.{AreTold, AskedData, Asks, Fits, Follows, IsAsked, IsFoundOf, IsWaiting, Leads, LeadsOut, Progress, SheetFileData, at, gathered, is_asked_symbol, is_in, with_files}
 use Rattle.project_files.specs.steps.Asking.{AsksComponent, AsksObject, AsksObjects, AsksSymbol, AsksValues, LeavesObjects, component_values, with_values, LeavesValues, symbol_of}
-
-pub same_bytes : (bytes : List ℕ) → bytes_eq bytes bytes ≡ true
-same_bytes bytes = (bytes_eq-Decides bytes bytes).1 refl
-
-pub equal_bytes : (a b : List ℕ) → bytes_eq a b ≡ true → a ≡ b
-equal_bytes a b e = (bytes_eq-Decides a b).0 e
 
 -- files that stay twice stay
 pub kept_on : (old between now : Option Files) → KeepsFiles old between → KeepsFiles between now → KeepsFiles old now
@@ -123,7 +118,7 @@ abbrev pub changed : Files → List ℕ → Option (List ℕ) → Files
 changed files name file q = if bytes_eq q name then file else files q
 
 changed_there : (files : Files) (name : List ℕ) (file : Option (List ℕ)) → changed files name file name ≡ file
-changed_there files name file = rw (same_bytes name) refl
+changed_there files name file = rw (bytes_true name name refl) refl
 
 changed_apart : (files : Files) (name : List ℕ) (file : Option (List ℕ)) (q : List ℕ) → q ≢ name → changed files name file q ≡ files q
 changed_apart files name file q apart = rw (not_equal q name apart) refl
@@ -213,21 +208,12 @@ still_true test xs ys e = list_any-append test xs ys ∙ rw e refl
 still_false : {X : Type 0} (test : X → Bool) (xs : List X) (x : X) → list_any test xs ≡ false → test x ≡ false → list_any test (xs ++ x ∷ []) ≡ false
 still_false test xs x e f = list_any-append test xs (x ∷ []) ∙ rw (e, f) refl
 
--- one of the two has it
-pub one_of : (b c : Bool) → (b || c) ≡ true → (b ≡ true) ⊎ (c ≡ true)
-one_of true c e = inl refl
-one_of false c e = inr e
-
-pub neither : (b c : Bool) → (b || c) ≡ false → (b ≡ false) × (c ≡ false)
-neither true c e = absurd (true≢false e)
-neither false c e = (refl, e)
-
 in_last : (q name : List ℕ) (names : List (List ℕ)) → is_in q (names ++ name ∷ []) ≡ true → (is_in q names ≡ true) ⊎ (q ≡ name)
-in_last q name names e = go (one_of (is_in q names) (bytes_eq q name || false) (sym (list_any-append (bytes_eq q) names (name ∷ [])) ∙ e))
+in_last q name names e = go (or_cases (is_in q names) (bytes_eq q name || false) (sym (list_any-append (bytes_eq q) names (name ∷ [])) ∙ e))
   where
     go : (is_in q names ≡ true) ⊎ ((bytes_eq q name || false) ≡ true) → (is_in q names ≡ true) ⊎ (q ≡ name)
     go (inl there) = inl there
-    go (inr last) = inr (equal_bytes q name (sym (or_false (bytes_eq q name)) ∙ last))
+    go (inr last) = inr (bytes_same q name (sym (or_false (bytes_eq q name)) ∙ last))
 
 module _ (files : Option Files) (before : AskedData) (name : List ℕ) (fresh : is_asked_symbol name before.symbols ≡ false) where
   pub symbol_leads : (symbol : Option SymbolData) → SymbolFrom files name (Ok symbol) → Leads files before (and_symbol before name symbol) (λ known. AsksSymbol before (Some name) known (Ok (and_symbol before name symbol)))
@@ -250,7 +236,7 @@ module _ (files : Option Files) (before : AskedData) (name : List ℕ) (fresh : 
             apart = fits.apart;
           };
           holds = λ known f sheets.
-              let same = (f.symbols name (last_true (has_name name) before.symbols (name, symbol) (same_bytes name))).1 in
+              let same = (f.symbols name (last_true (has_name name) before.symbols (name, symbol) (bytes_true name name refl))).1 in
               subst (λ (b : Bool). SymbolUnless b known.symbols (gathered sheets before) name (Ok (gathered sheets (and_symbol before name symbol)))) (sym fresh)
               (symbol_comes (gathered sheets before) name symbol (known.symbols name) (subst (λ (file : Option (List ℕ)). SymbolOf name file (Ok symbol)) (sym same) more.2));
         },
@@ -325,8 +311,8 @@ found_none (Some whole) (inr e) = absurd cc
 no_word : (name : List ℕ) (queue read words more : List (List ℕ)) → queue ≡ read ++ (words ++ more) → is_in name queue ≡ false → is_in name words ≡ false
 no_word name queue read words more e out =
     let all : (is_in name read || is_in name (words ++ more)) ≡ false = sym (list_any-append (bytes_eq name) read (words ++ more)) ∙ sym (ap (is_in name) e) ∙ out in
-    let rest : (is_in name words || is_in name more) ≡ false = sym (list_any-append (bytes_eq name) words more) ∙ (neither (is_in name read) (is_in name (words ++ more)) all).1 in
-    (neither (is_in name words) (is_in name more) rest).0
+    let rest : (is_in name words || is_in name more) ≡ false = sym (list_any-append (bytes_eq name) words more) ∙ (or_parts (is_in name read) (is_in name (words ++ more)) all).1 in
+    (or_parts (is_in name words) (is_in name more) rest).0
 
 names_push : (waiting : List SheetFileData) (sheet : SheetFileData) → map (λ (s : SheetFileData). s.name) (waiting ++ sheet ∷ []) ≡ map (λ (s : SheetFileData). s.name) waiting ++ sheet.name ∷ []
 names_push [] sheet = refl
@@ -343,7 +329,7 @@ module _ (files : Option Files) (before : AskedData) (name : List ℕ) (named : 
       let more = more_sheets told files p name (IsFoundOf (Some bytes)) kept fits.as_told from (not_asked read words old) in
       let now = at (and_sheet before name bytes) read words more.0 in
       let sheet : SheetFileData = record { name = name; bytes = bytes } in
-      let here : IsAsked now name = inr (last_true (bytes_eq name) before.queue name (same_bytes name), no_word name before.queue read words (map (λ (s : SheetFileData). s.name) before.waiting) fits.queue out) in
+      let here : IsAsked now name = inr (last_true (bytes_eq name) before.queue name (bytes_true name name refl), no_word name before.queue read words (map (λ (s : SheetFileData). s.name) before.waiting) fits.queue out) in
       let asks : (q : List ℕ) → IsAsked p q → IsAsked now q = still_asked (read) (words) (old) more.0 in
       let follows : Follows p now = record {
         sheets = λ q asked. (asks q asked, (more.3.sheets q asked).1);
@@ -377,7 +363,7 @@ module _ (files : Option Files) (before : AskedData) (name : List ℕ) (named : 
       let more = more_sheets told files p name (IsFoundOf None) kept fits.as_told from (not_asked read words old) in
       let now = at (and_absent before name) read words more.0 in
       let none : more.0.sheets name ≡ None = found_none (more.0.sheets name) more.2 in
-      let here : IsAsked now name = inl (last_true (bytes_eq name) before.absent name (same_bytes name)) in
+      let here : IsAsked now name = inl (last_true (bytes_eq name) before.absent name (bytes_true name name refl)) in
       let asks : (q : List ℕ) → IsAsked p q → IsAsked now q = still_asked read words old more.0 in
       let follows : Follows p now = record {
         sheets = λ q asked. (asks q asked, (more.3.sheets q asked).1);

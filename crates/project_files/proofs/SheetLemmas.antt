@@ -11,6 +11,8 @@ use Rattle.std.proofs.lemmas.Map.Made.{AllPairs-from_IsDistinct}
 use Rattle.std.proofs.lemmas.Slice.Eq.{bytes_eq-Decides}
 use Rattle.geda_grammar.proofs.FollowLaws.{not_equal}
 use Rattle.std.proofs.lemmas.Option.{slice_get_past}
+use Rattle.std.proofs.lemmas.Bool.{or_parts}
+use Rattle.geda_defs.proofs.Bytes.{bytes_true}
 use Rattle.geda_defs.specs.Contents.{Files, KeepsFiles}
 use Rattle.geda_model.specs.Sheets.{SheetData}
 use Rattle.geda_grammar.specs.Spelling.{Spells}
@@ -24,7 +26,7 @@ use Rattle.project_files.specs.steps.Standing.{ReadsFrom, Continues, IsStart, St
 use Rattle.project_files.specs.steps.Reading.{SheetFrom, SheetOf}
 use Rattle.project_files.specs.steps.Progress.{AreTold, AskedData, Fits, Follows, IsAsked, IsFoundOf, IsWaiting, Leads, LeadsOut, Progress, SheetFileData, at, gathered, is_in, with_files}
 use Rattle.project_files.specs.steps.Asking.{AsksObjects}
-use Rattle.project_files.proofs.AskingLemmas.{follows_back, follows_self, more_sheets, neither, same_bytes, waits_on}
+use Rattle.project_files.proofs.AskingLemmas.{follows_back, follows_self, more_sheets, waits_on}
 use Rattle.project_files.proofs.Reading.{HoldsOfWhole}
 
 -- the file of a sheet, and what its objects come to
@@ -108,7 +110,7 @@ queued read name more queue is =
   where
     go : (b : Bool) → (b || (bytes_eq name name || is_in name more)) ≡ true
     go true = refl
-    go false = rw (same_bytes name) refl
+    go false = rw (bytes_true name name refl) refl
 
 one_more : (read : List (List ℕ)) (name : List ℕ) (n : ℕ) → length read ≡ n → length (read ++ name ∷ []) ≡ suc n
 one_more read name n e = length-append read (name ∷ []) ∙ omega (arith, e)
@@ -145,11 +147,11 @@ word_turn told now names read words name asked sheets result stands kept once fr
   where
     fresh : is_in name asked.queue ≡ true → ((n : List ℕ) → is_in n asked.absent ≡ true → is_in n asked.queue ≡ false) → IsAsked (at asked read (name ∷ words) stands.0) name → ⊥
     fresh there apart (inl absent) = true≢false (sym there ∙ apart name absent)
-    fresh there apart (inr (here, left)) = true≢false (sym (same_bytes name) ∙ (neither (bytes_eq name name) (is_in name words) left).0)
+    fresh there apart (inr (here, left)) = true≢false (sym (bytes_true name name refl) ∙ (or_parts (bytes_eq name name) (is_in name words) left).0)
 
     asks : (files : ProjectFiles) (n : List ℕ) → IsAsked (at asked read (name ∷ words) stands.0) n → IsAsked (at asked (read ++ name ∷ []) words files) n
     asks files n (inl absent) = inl absent
-    asks files n (inr (here, left)) = inr (here, (neither (bytes_eq n name) (is_in n words) left).1)
+    asks files n (inr (here, left)) = inr (here, (or_parts (bytes_eq n name) (is_in n words) left).1)
 
 -- the same, with the first of the waiting files taken
 abbrev pub taken : AskedData → List SheetFileData → AskedData

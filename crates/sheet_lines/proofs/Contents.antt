@@ -1,7 +1,7 @@
 -- Lines that are added to a content.
 use Rattle.std.proofs.Common.{◌≡◌, ◌≢◌, ℕ, ◌+◌, ◌<◌, ◌≤◌, Bool, true, false, cond, ◌||◌, ◌&&◌, List, [], ◌∷◌, ◌++◌, eqb, refl, arith}
 use Rattle.std.specs.List.{AllByRecursion}
-use Rattle.std.proofs.lemmas.Bool.{ne_eqb}
+use Rattle.std.proofs.lemmas.Bool.{ne_eqb, or_parts}
 use Rattle.std.proofs.lemmas.List.Sums.{sum_by-append}
 use Rattle.std.specs.Str.{is_utf8, IsUtf8}
 use Rattle.std.proofs.lemmas.Str.{IsUtf8-nil, IsUtf8-append, IsUtf8-from_ascii, IsUtf8-from_is_utf8, is_utf8-from_IsUtf8}
@@ -11,10 +11,6 @@ use Rattle.sheet_lines.specs.steps.Contents.{with_line}
 use Rattle.geda_model.specs.Limits.{most_lines}
 use Rattle.geda_model.specs.Ranges.{IsContent, has_cr_end, is_after_line, line_feeds}
 use Rattle.geda_text.specs.Lines.{IsCutLine, without_crs, unless_last_cr}
-
-or_false : (a b : Bool) → (a || b) ≡ false → (a ≡ false) × (b ≡ false)
-or_false true b e = absurd cc
-or_false false b e = (refl, e)
 
 -- what follows does not make a CR the end of a line
 not_after : (a : Bool) (bs cs : List ℕ) → (a && is_after_line bs) ≡ false → (a && is_after_line (bs ++ cs)) ≡ false
@@ -26,7 +22,7 @@ not_after true (b ∷ bs) cs e = e
 no_cr_joined : (bs cs : List ℕ) → has_cr_end bs ≡ false → has_cr_end cs ≡ false → has_cr_end (bs ++ cs) ≡ false
 no_cr_joined [] cs h k = k
 no_cr_joined (b ∷ bs) cs h k =
-    let parts = or_false (eqb b 13 && is_after_line bs) (has_cr_end bs) h in
+    let parts = or_parts (eqb b 13 && is_after_line bs) (has_cr_end bs) h in
     rw (not_after (eqb b 13) bs cs parts.0, no_cr_joined bs cs parts.1 k) refl
 
 -- a line of a file has no CR at its end

@@ -1,11 +1,11 @@
 -- Words, and those that begin with `EMBEDDED`.
 use Rattle.std.proofs.Common.{◌≡◌, ◌≤◌, ◌<◌, ℕ, Bool, true, false, cond, Result, List, [], ◌∷◌, ◌++◌, length, Ok, Err, take, drop, refl, ap, sym, subst, codes, arith, ◌∙◌, nat_le, rules}
-use Rattle.std.specs.Str.{is_utf8, bytes_eq, IsAscii}
+use Rattle.std.specs.Str.{is_utf8, IsAscii}
 use Rattle.std.proofs.lemmas.Str.{IsUtf8-drop, IsUtf8-append, IsUtf8-from_ascii, IsUtf8-from_is_utf8, is_utf8-from_IsUtf8, IsCharBoundary-after_ascii}
 use Rattle.std.proofs.lemmas.Str.Ascii.{IsAscii-cons}
-use Rattle.std.proofs.lemmas.Slice.Eq.{bytes_eq-Decides}
 use Rattle.std.proofs.lemmas.Bool.Decides.{nat_tests}
 use Rattle.std.proofs.lemmas.List.{take-append-drop}
+use Rattle.geda_defs.proofs.Bytes.{bytes_same}
 use Rattle.geda_model.specs.Names.{IsWord, is_word}
 use Rattle.geda_model.proofs.WordTests.{is_word-from_IsWord, IsWord-from_is_word}
 use Rattle.geda_grammar.specs.declared.kind.ReadKind.TheVariants.{OutOfRange}
@@ -59,11 +59,8 @@ same_test bs h =
     let short : nat_le (length bs) 200 ≡ true = grind (arith, nat_tests, h) in
     rw (utf8_behind bs, long, short) refl
 
-equal : (a b : List ℕ) → bytes_eq a b ≡ true → a ≡ b
-equal a b e = search (rules, bytes_eq-Decides)
-
 whole_name : (field : List ℕ) → is_embedding field ≡ true → codes "EMBEDDED" ++ drop 8 field ≡ field
-whole_name field e = ap (λ (bs : List ℕ). bs ++ drop 8 field) (sym (equal (take 8 field) (codes "EMBEDDED") e)) ∙ take-append-drop 8 field
+whole_name field e = ap (λ (bs : List ℕ). bs ++ drop 8 field) (sym (bytes_same (take 8 field) (codes "EMBEDDED") e)) ∙ take-append-drop 8 field
 
 same_as_rest : (field : List ℕ) → is_embedding field ≡ true → length field ≤ 200 → is_word field ≡ is_word (drop 8 field)
 same_as_rest field e h =

@@ -3,7 +3,7 @@ use Rattle.std.proofs.Common.{◌≡◌, ◌≢◌, ℕ, suc, ◌-◌, Bool, tru
 use Rattle.std.specs.Prelude.{slice_index}
 use Rattle.std.specs.List.{AllByRecursion}
 use Rattle.std.specs.Str.{IsUtf8}
-use Rattle.std.proofs.lemmas.Bool.{ne_eqb}
+use Rattle.std.proofs.lemmas.Bool.{ne_eqb, or_parts}
 use Rattle.std.proofs.lemmas.List.{length-append}
 use Rattle.std.proofs.lemmas.Str.{IsUtf8-nil, IsUtf8-append, IsUtf8-from_ascii, IsUtf8-from_is_utf8, is_utf8-from_IsUtf8}
 use Rattle.std.proofs.lemmas.Str.Ascii.{IsAscii-cons}
@@ -56,10 +56,6 @@ begins_joined (b ∷ []) [] h k e = refl
 begins_joined (b ∷ []) (c ∷ cs) h k e = subst (λ (n : ℕ). (eqb n 46 && eqb c 10) ≡ false) (sym h) refl
 begins_joined (b ∷ c ∷ cs) tail h k e = e
 
-or_false : (a b : Bool) → (a || b) ≡ false → (a ≡ false) × (b ≡ false)
-or_false true b e = absurd cc
-or_false false b e = (refl, e)
-
 feed_then : (t a b : Bool) → (t && a) ≡ false → (a ≡ false → b ≡ false) → (t && b) ≡ false
 feed_then true a b e f = f e
 feed_then false a b e f = refl
@@ -67,7 +63,7 @@ feed_then false a b e f = refl
 later_joined : (bs tail : List ℕ) → EndsWell bs → begins_with_dot_line tail ≡ false → has_later_dot_line tail ≡ false → has_later_dot_line bs ≡ false → has_later_dot_line (bs ++ tail) ≡ false
 later_joined [] tail h k l e = l
 later_joined (b ∷ bs) tail h k l e =
-    let parts = or_false (eqb b 10 && begins_with_dot_line bs) (has_later_dot_line bs) e in
+    let parts = or_parts (eqb b 10 && begins_with_dot_line bs) (has_later_dot_line bs) e in
     let first = feed_then (eqb b 10) (begins_with_dot_line bs) (begins_with_dot_line (bs ++ tail)) parts.0 (begins_joined bs tail (behind_first b bs h) k) in
     rw (first, later_joined bs tail (behind_first b bs h) k l parts.1) refl
 

@@ -9,12 +9,12 @@ use Rattle.std.specs.Option.{option_copied, option_or}
 use Rattle.std.specs.Ordering.{nat_cmp}
 use Rattle.std.specs.Str.{bytes_eq}
 use Rattle.std.proofs.lemmas.Map.Text.{is_eq-slice_cmp}
+use Rattle.geda_defs.proofs.Bytes.{bytes_same}
 use Rattle.printed_texts.specs.PrintedTexts.{word}
 use Rattle.text_tallies.specs.LookAlike.{look_alike, print_alike}
 use Rattle.text_tallies.specs.NameSets.{has_name}
 use Rattle.text_tallies.specs.steps.FirstNames.{AddsFirst, AddsIf, FirstNames, alike_after, first_at}
 use Rattle.text_tallies.proofs.PairLemmas.{and_false, any_none, any_pairs, any_same, or_false}
-use Rattle.text_tallies.proofs.SetLemmas.{same_bytes}
 
 or_true : (b : Bool) → (b || true) ≡ true
 or_true true = refl
@@ -79,7 +79,7 @@ within_more first text name names ih false c p e =
     rw (p, of_other_text text name names p) ih
 within_more first text name names ih true false p e = rw (p, e) refl
 within_more first text name names ih true true p e =
-    rw (p, e, of_text text name names p, sym (same_bytes first name e))
+    rw (p, e, of_text text name names p, sym (bytes_same first name e))
     (or_itself (list_any (prints_other first text) names) (look_alike names text) ih)
 
 within : (first text : List ℕ) (names : List (List ℕ))
@@ -128,7 +128,7 @@ adds_first text name old new free updates q =
     by : (b : Bool) → bytes_eq text q ≡ b
         → option_copied (cond b (Some name) (get (slice_cmp nat_cmp) old q))
         ≡ option_or (first_at old q) (cond b (Some name.now) None)
-    by true e = rw (sym (same_bytes text q e), free) refl
+    by true e = rw (sym (bytes_same text q e), free) refl
     by false e = sym (or_none (first_at old q))
 
 -- an empty set has no name

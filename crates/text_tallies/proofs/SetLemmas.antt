@@ -1,5 +1,5 @@
 -- One more key in a set, as what the set has; and two pairs of texts.
-use Rattle.std.proofs.Common.{◌≡◌, ◌∙◌, ℕ, List, Bool, true, false, ◌&&◌, ◌||◌, cond, refl, sym}
+use Rattle.std.proofs.Common.{◌≡◌, ◌∙◌, Bool, true, false, ◌&&◌, ◌||◌, cond, refl, sym}
 use Rattle.std.specs.BTreeSet.{BTreeSet, Updates, contains}
 use Rattle.std.specs.Cmp.{IsTotalOrder, eq_by_cmp_equiv, nat_cmp_total, on_total, then_total}
 use Rattle.std.specs.Cmp.Lexicographic.{lists_total, slice_cmp}
@@ -8,7 +8,8 @@ use Rattle.std.specs.Str.{bytes_eq}
 use Rattle.std.specs.declared.cmp.Ordering.{Ordering}
 use Rattle.std.specs.declared.cmp.Ordering.TheVariants.{Less, Equal, Greater}
 use Rattle.std.proofs.lemmas.Map.Text.{is_eq-slice_cmp}
-use Rattle.std.proofs.lemmas.Slice.Eq.{bytes_eq-Decides}
+use Rattle.std.proofs.lemmas.Bool.{and_parts}
+use Rattle.geda_defs.proofs.Bytes.{bytes_same}
 use Rattle.text_tallies.specs.PairSets.{PairData, by_pair, same_pair}
 use Rattle.text_tallies.specs.steps.SetSteps.{Adds, AddsIfSeen}
 use Rattle.text_tallies.proofs.PairLemmas.{and_false, any_same, or_false}
@@ -41,9 +42,6 @@ module _ {K : Type 0} {cmp : K → K → Ordering} (o : IsTotalOrder cmp) where
       by true e = rw (alike q key e seen, met) refl
       by false e = rw (e, and_false (contains cmp seen q)) refl
 
-pub same_bytes : (xs ys : List ℕ) → bytes_eq xs ys ≡ true → xs ≡ ys
-same_bytes xs ys e = (bytes_eq-Decides xs ys).0 e
-
 eq_then : (a b : Ordering) → is_eq (ordering_then a b) ≡ (is_eq a && is_eq b)
 eq_then Less b = refl
 eq_then Equal b = refl
@@ -55,20 +53,11 @@ pair_equal q k =
     eq_then (slice_cmp nat_cmp q.first k.first) (slice_cmp nat_cmp q.second k.second)
     ∙ rw (is_eq-slice_cmp q.first k.first, is_eq-slice_cmp q.second k.second) refl
 
--- both of two that are true together
-pub first_of : (a b : Bool) → (a && b) ≡ true → a ≡ true
-first_of true b h = refl
-first_of false b h = h
-
-pub second_of : (a b : Bool) → (a && b) ≡ true → b ≡ true
-second_of true b h = h
-second_of false b h = absurd (let e = h in cc)
-
 -- the same two texts are one pair
 pub pair_exact : (q k : PairData) → same_pair q k ≡ true → q ≡ k
 pair_exact q k e =
-    let f = same_bytes q.first k.first (first_of (bytes_eq q.first k.first) (bytes_eq q.second k.second) e) in
-    let s = same_bytes q.second k.second (second_of (bytes_eq q.first k.first) (bytes_eq q.second k.second) e) in
+    let f = bytes_same q.first k.first ((and_parts (bytes_eq q.first k.first) (bytes_eq q.second k.second) e).0) in
+    let s = bytes_same q.second k.second ((and_parts (bytes_eq q.first k.first) (bytes_eq q.second k.second) e).1) in
     λ i. record { first = f i; second = s i }
 
 -- pairs are in a total order

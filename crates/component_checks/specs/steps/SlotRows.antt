@@ -8,7 +8,7 @@ use Rattle.std.specs.List.{flat_map, list_any, range_with_len}
 use Rattle.std.specs.Option.{option_or}
 use Rattle.std.specs.Ordering.{nat_cmp}
 use Rattle.std.specs.Str.{bytes_eq}
-use Rattle.flat_sheets.specs.Order.{by_bytes}
+use Rattle.geda_defs.specs.Order.{by_bytes}
 use Rattle.printed_texts.specs.PrintedTexts.{two_words, word}
 use Rattle.drc_findings.specs.declared.finding.Finding.{Finding}
 use Rattle.drc_findings.specs.Findings.{a_warning, found_if}

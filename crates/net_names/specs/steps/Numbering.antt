@@ -8,7 +8,7 @@ use Rattle.net_names.specs.declared.nets.Net.{Net}
 use Rattle.net_names.specs.declared.nets.NetSort.{NetSort}
 use Rattle.net_names.specs.NetClasses.{NetClassData}
 use Rattle.net_names.specs.NetLists.{numbered}
-use Rattle.flat_sheets.specs.Order.{by_bytes, is_equal}
+use Rattle.geda_defs.specs.Order.{by_bytes, is_equal}
 
 -- names in order, with one more if it begins with a prefix
 abbrev pub with_taken : List ℕ → List (List ℕ) → List ℕ → List (List ℕ)

@@ -7,7 +7,7 @@ use Rattle.std.specs.Cmp.Lexicographic.{lists_total, options_total}
 use Rattle.net_names.specs.declared.nets.Net.{Net}
 use Rattle.net_names.specs.NetClasses.{by_member, by_pin}
 use Rattle.net_names.specs.NetLists.{least_pin, by_least_pin, slashes, by_name}
-use Rattle.flat_sheets.specs.Order.{by_bytes}
+use Rattle.geda_defs.specs.Order.{by_bytes}
 
 -- texts by their bytes are in a total order
 pub by_bytes_total : IsTotalOrder by_bytes

@@ -5,7 +5,7 @@ use Rattle.std.specs.BTreeMap.{BTreeMap, get}
 use Rattle.std.specs.Option.{option_or, unwrap_or}
 use Rattle.std.specs.Str.{bytes_eq}
 use Rattle.flat_sheets.specs.declared.package.Package.{Package}
-use Rattle.flat_sheets.specs.Order.{by_bytes}
+use Rattle.geda_defs.specs.Order.{by_bytes}
 use Rattle.net_names.specs.declared.packages.PackageAttributes.{PackageAttributes}
 
 -- attributes by refdes

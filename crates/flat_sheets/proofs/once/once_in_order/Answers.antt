@@ -1,4 +1,4 @@
-use Rattle.flat_sheets.proofs.OnceLaws.{once_from_sort}
+use Rattle.geda_defs.proofs.OnceLaws.{once_from_sort}
 use Rattle.flat_sheets.proofs.once.once_in_order.Goals as goal
 
 pub returns : goal.returns

@@ -1,6 +1,6 @@
 use Rattle.std.proofs.Common.{[], None, Some, refl, rules, sym, ◌∷◌, ◌≡◌}
 use Rattle.std.specs.BTreeMap.{get}
-use Rattle.flat_sheets.specs.Order.{by_bytes}
+use Rattle.geda_defs.specs.Order.{by_bytes}
 use Rattle.flat_sheets.proofs.Outcomes.{on_ok}
 use Rattle.flat_sheets.proofs.SheetIdLemmas.{adds_id}
 use Rattle.flat_sheets.proofs.sheet_ids.add_id.Goals as goal

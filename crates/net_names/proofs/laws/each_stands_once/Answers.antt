@@ -1,5 +1,5 @@
 use Rattle.net_names.specs.steps.Orders.{by_bytes_total, by_least_pin_total, by_member_total, by_name_total}
-use Rattle.flat_sheets.proofs.OnceLaws.{is_once_in_order}
+use Rattle.geda_defs.proofs.OnceLaws.{is_once_in_order}
 use Rattle.net_names.proofs.laws.each_stands_once.Goals as goal
 
 pub returns-clause-members : goal.returns-clause-members

@@ -3,7 +3,7 @@ use Rattle.std.specs.List.{list_any}
 use Rattle.std.specs.Set.{remove_key}
 use Rattle.std.specs.BTreeMap.{is_at}
 use Rattle.std.proofs.lemmas.Map.Made.{length-remove_key}
-use Rattle.flat_sheets.specs.Order.{by_bytes}
+use Rattle.geda_defs.specs.Order.{by_bytes}
 use Rattle.net_names.specs.steps.Numbering.{is_taken, TakeSame}
 use Rattle.net_names.proofs.NumberingLemmas.{one_more, take_same}
 use Rattle.net_names.proofs.numbering.free_name.Goals as goal

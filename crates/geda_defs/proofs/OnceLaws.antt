@@ -12,7 +12,7 @@ use Rattle.std.specs.BTreeSet.{insert_key}
 use Rattle.std.proofs.lemmas.List.Elements.{All-from_recursion}
 use Rattle.std.proofs.lemmas.List.Filters.{dedup_is}
 use Rattle.std.proofs.lemmas.List.Kept.{IsStrictlySortedBy-dedup}
-use Rattle.flat_sheets.specs.Order.{once_in_order, is_equal, IsOnceInOrder}
+use Rattle.geda_defs.specs.Order.{once_in_order, is_equal, IsOnceInOrder}
 
 pub option_or-none : {A : Type 0} (a : Option A) → option_or a None ≡ a
 option_or-none None = refl
