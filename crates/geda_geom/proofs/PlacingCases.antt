@@ -1,7 +1,8 @@
--- A pin end at (300, 100) in its symbol, under a component at (1000, 2000).
-use Rattle.std.proofs.Common.{◌≡◌, ℕ, ℤ, pos, Bool, true, false, refl}
+-- A pin end at (300, 100) in its symbol, under a component at (1000, 2000), and points that are
+-- turned about another one.
+use Rattle.std.proofs.Common.{◌≡◌, ℕ, ℤ, pos, neg_ℤ, Bool, true, false, refl}
 use Rattle.geda_geom.specs.declared.conductor.Point.{Point}
-use Rattle.geda_geom.specs.Placing.{placed}
+use Rattle.geda_geom.specs.Placing.{placed, turned_about}
 
 abbrev at : ℤ → ℤ → Point
 at x y = record { x = x; y = y }
@@ -34,3 +35,12 @@ mirrored_by_180 = refl
 
 mirrored_by_270 : under 270 true ≡ at (pos 1100) (pos 2300)
 mirrored_by_270 = refl
+
+about_origin : turned_about (at (pos 100) (pos 0)) (at (pos 0) (pos 0)) 1 true ≡ at (pos 0) (neg_ℤ (pos 100))
+about_origin = refl
+
+about_a_point : turned_about (at (pos 300) (pos 100)) (at (pos 100) (pos 100)) 1 false ≡ at (pos 100) (pos 300)
+about_a_point = refl
+
+mirrored_about_a_point : turned_about (at (pos 300) (pos 100)) (at (pos 100) (pos 100)) 0 true ≡ at (neg_ℤ (pos 100)) (pos 100)
+mirrored_about_a_point = refl

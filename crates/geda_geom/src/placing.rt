@@ -1,6 +1,6 @@
-// Points of library symbols on the sheet.
-ghost use Rattle.std.specs.Prelude.{◌≡◌};
-ghost use Rattle.geda_geom.specs.Placing.{IsOnSheet, IsPlacement, mirrored, placed, shifted, turned};
+// Points of library symbols on the sheet, and points that are turned about another one.
+ghost use Rattle.std.specs.Prelude.{◌≡◌, ◌<◌};
+ghost use Rattle.geda_geom.specs.Placing.{IsOnSheet, IsPlacement, IsStep, mirrored, placed, seen_from, shifted, turned, turned_about};
 
 use crate::conductor::Point;
 
@@ -18,9 +18,9 @@ pub struct Placement {
 }
 
 fn mirrored(point: Point, by: Placement) -> Point
-    requires on_sheet { IsOnSheet point }
+    requires step { IsStep point }
     ensures same { result ≡ mirrored by.mirror point }
-    ensures on_sheet { IsOnSheet result }
+    ensures step { IsStep result }
 {
     if by.mirror {
         return Point {
@@ -32,9 +32,9 @@ fn mirrored(point: Point, by: Placement) -> Point
 }
 
 fn turned(point: Point, by: Placement) -> Point
-    requires on_sheet { IsOnSheet point }
+    requires step { IsStep point }
     ensures same { result ≡ turned by.angle point }
-    ensures on_sheet { IsOnSheet result }
+    ensures step { IsStep result }
 {
     match by.angle {
         0 => point,
@@ -54,14 +54,22 @@ fn turned(point: Point, by: Placement) -> Point
 }
 
 fn shifted(point: Point, by: Placement) -> Point
-    requires point { IsOnSheet point }
-    requires by { IsPlacement by }
+    requires point { IsStep point }
+    requires by { IsStep (record { x = by.x; y = by.y }) }
     ensures { result ≡ shifted by point }
 {
     Point {
         x: by.x + point.x,
         y: by.y + point.y,
     }
+}
+
+fn placed(point: Point, by: Placement) -> Point
+    requires point { IsStep point }
+    requires by { IsStep (record { x = by.x; y = by.y }) }
+    ensures { result ≡ placed point by }
+{
+    shifted(turned(mirrored(point, by), by), by)
 }
 
 /// Where a point of a library symbol stands under a component (docs/RULES.md, "Placing"): mirrored
@@ -75,5 +83,38 @@ pub fn place(point: Point, by: Placement) -> Point
     requires by { IsPlacement by }
     ensures { result ≡ placed point by }
 {
-    shifted(turned(mirrored(point, by), by), by)
+    placed(point, by)
+}
+
+fn seen_from(about: Point, point: Point) -> Point
+    requires about { IsOnSheet about }
+    requires point { IsOnSheet point }
+    ensures same { result ≡ seen_from about point }
+    ensures step { IsStep result }
+{
+    Point {
+        x: point.x - about.x,
+        y: point.y - about.y,
+    }
+}
+
+/// Where a point comes when it is turned about another one (docs/RULES.md, "Moving and turning"):
+/// mirrored where that is asked, so that it comes to the other side of the upright line through
+/// that one, then turned by so many right angles counterclockwise, 0 to 3.
+///
+/// Each coordinate is -200,000 to 200,000, those of the answer -600,000 to 600,000. It takes no
+/// memory.
+pub fn turn(point: Point, about: Point, quarter: u8, mirror: bool) -> Point
+    requires point { IsOnSheet point }
+    requires about { IsOnSheet about }
+    requires quarter { quarter < 4 }
+    ensures { result ≡ turned_about point about quarter mirror }
+{
+    let by = Placement {
+        x: about.x,
+        y: about.y,
+        angle: 90 * u16::from(quarter),
+        mirror,
+    };
+    placed(seen_from(about, point), by)
 }
