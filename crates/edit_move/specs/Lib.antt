@@ -1,0 +1,4 @@
+pub mod Motions
+pub mod Objects
+pub mod Faults
+pub mod steps

@@ -1,0 +1,2 @@
+-- What steps of the code promise.
+pub mod Walks
