@@ -1,0 +1,2 @@
+pub mod FirstPoints
+pub mod Attributes
