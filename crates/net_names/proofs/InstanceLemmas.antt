@@ -49,7 +49,7 @@ shapes_there (Some s) None t = absurd t
 shapes_there (Some s) (Some r) t = record { one = s; other = r; first_is = refl; second_is = refl; touch = t }
 
 -- what is related stands at its places, and back
-at_places : (R : FlatConductor → FlatConductor → Type 0) (fs : List FlatConductor) (i j : ℕ) (f g : FlatConductor) → slice_get fs i ≡ Some f → slice_get fs j ≡ Some g
+pub at_places : (R : FlatConductor → FlatConductor → Type 0) (fs : List FlatConductor) (i j : ℕ) (f g : FlatConductor) → slice_get fs i ≡ Some f → slice_get fs j ≡ Some g
     → R f g → AtPlaces R fs i j
 at_places R fs i j f g first second r = record {
   first = slice_get_within fs i f first;

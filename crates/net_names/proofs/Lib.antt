@@ -8,4 +8,10 @@ pub mod FlatLemmas
 pub mod DrawnLemmas
 pub mod GroupLemmas
 pub mod InstanceLemmas
+pub mod ApartLemmas
+pub mod ClassLemmas
+pub mod FreeNumbers
+pub mod NameLaws
+pub mod PinLaws
+pub mod ListedPins
 pub mod Cases

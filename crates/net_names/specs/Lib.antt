@@ -1,4 +1,5 @@
 pub mod Packages
 pub mod NetClasses
 pub mod NetLists
+pub mod NetLaws
 pub mod steps

@@ -1,6 +1,6 @@
 -- The net list of a project (own): nets are the classes of the least equivalence that
 -- holds the links, their members each once, their names and their order.
-use Rattle.std.specs.Prelude.{◌≡◌, ℕ, ◌+◌, ◌==◌, ◌&&◌, not, Bool, List, [], ◌∷◌, ◌++◌, Option, length, map, filter, take, codes, count_by, slice_get}
+use Rattle.std.specs.Prelude.{◌≡◌, ℕ, ◌+◌, ◌^◌, ◌<◌, ◌==◌, ◌&&◌, not, Bool, List, [], ◌∷◌, ◌++◌, Option, length, map, filter, take, codes, count_by, slice_get}
 use Rattle.std.specs.Option.{option_cmp}
 use Rattle.std.specs.declared.cmp.Ordering.{Ordering}
 use Rattle.std.specs.List.{flat_map, list_any, range_with_len}
@@ -106,7 +106,13 @@ AreNetsOf conductors nets =
     × AreClasses (Linked conductors) (length conductors) labels
     × (nets ≡ nets_by conductors labels)
 
--- the net list of a project
+-- conductors and their names are together fewer than 10^64, so that each number of a net prints in
+-- digits of its own
+abbrev pub AreCountable : List FlatConductor → Type 0
+AreCountable conductors = length conductors + length (flat_map names_of conductors) < 10 ^ 64
+
+-- the net list of a project, which has one where its conductors and their names can be counted
 pub record IsNetListOf (p : ProjectData) (list : Nets) : Type 0 where
   pub packages : list.packages ≡ packages_of p
   pub nets : AreNetsOf (conductors_of p) list.nets
+  pub countable : AreCountable (conductors_of p)

@@ -3,6 +3,7 @@ ghost use Rattle.std.specs.Prelude.{◌≡◌, codes, length, replicate, IfOk, O
 ghost use Rattle.std.specs.List.{flat_map, fold};
 ghost use Rattle.link_classes.specs.Links.{names_of};
 ghost use Rattle.net_names.specs.NetClasses.{is_drawn_pin};
+ghost use Rattle.net_names.specs.NetLists.{AreCountable};
 ghost use Rattle.net_names.specs.steps.Gathering.{ArePlaces, empty_class, with_conductor, gathered};
 ghost use Rattle.net_names.specs.steps.Gathering.{lesser};
 ghost use Rattle.net_names.specs.steps.Numbering.{taken_names};
@@ -134,6 +135,7 @@ pub fn gathered(
         ≡ taken_names (codes "unnamed_net") (flat_map names_of conductors.items)) }
     ensures unconnected { IfOk result (λ r. r.1.unconnected.keys
         ≡ taken_names (codes "unconnected_pin-") (flat_map names_of conductors.items)) }
+    ensures countable { IfOk result (λ _. AreCountable conductors.items) }
 {
     let mut growing = empty_classes(alloc, conductors.len())?;
     let mut taken = TakenNames::new(alloc);

@@ -16,7 +16,7 @@ mod packages;
 mod taken;
 
 pub use flat_sheets::Package;
-pub use laws::{each_stands_once, one_net_list};
+pub use laws::{each_pin_has_one_net, each_stands_once, names_differ, one_net_list};
 pub use link_classes::Member;
 pub use net_list::join;
 pub use nets::{Members, Net, NetList, NetSort, Nets, Packages};

@@ -1,6 +1,6 @@
 // The nets of the conductors of a project, given the label of each.
 ghost use Rattle.std.specs.Prelude.{◌≡◌, length, IfOk};
-ghost use Rattle.net_names.specs.NetLists.{nets_by};
+ghost use Rattle.net_names.specs.NetLists.{AreCountable, nets_by};
 ghost use Rattle.net_names.specs.steps.Gathering.{ArePlaces};
 
 use crate::gathering::gathered;
@@ -23,7 +23,8 @@ pub fn nets_by(
 ) -> Result<NetList, AllocError>
     requires len { length labels.now ≡ length conductors.items }
     requires in_range { ArePlaces labels.now (length conductors.items) }
-    ensures { IfOk result (λ nets. nets ≡ nets_by conductors.items labels.now) }
+    ensures nets { IfOk result (λ nets. nets ≡ nets_by conductors.items labels.now) }
+    ensures countable { IfOk result (λ _. AreCountable conductors.items) }
 {
     let (growing, taken) = gathered(alloc, conductors, labels)?;
     let NetClasses {

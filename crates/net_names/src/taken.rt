@@ -1,5 +1,5 @@
 // Names of conductors that look like those of nets without names.
-ghost use Rattle.std.specs.Prelude.{◌≡◌, [], OnOk, codes};
+ghost use Rattle.std.specs.Prelude.{◌≡◌, ◌<◌, ◌^◌, [], OnOk, codes, length};
 ghost use Rattle.std.specs.List.{fold};
 ghost use Rattle.link_classes.specs.Links.{names_of};
 ghost use Rattle.net_names.specs.steps.Numbering.{with_taken};
@@ -57,6 +57,7 @@ impl TakenNames {
         ensures unconnected { OnOk result (self.new.unconnected.keys
             ≡ fold (with_taken (codes "unconnected_pin-")) self.old.unconnected.keys
             (names_of conductor.now)) }
+        ensures few { length (names_of conductor.now) < 2 ^ 65 }
     {
         let global = conductor.global_names.as_slice();
         let drawn = conductor.drawn_names.as_slice();

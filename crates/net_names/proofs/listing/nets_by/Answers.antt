@@ -2,8 +2,8 @@ use Rattle.std.proofs.Common.{◌∙◌}
 use Rattle.net_names.proofs.ListingLemmas.{nets_by_steps}
 use Rattle.net_names.proofs.listing.nets_by.Goals as goal
 
-pub returns : goal.returns
-returns c =
+pub returns-clause-nets : goal.returns-clause-nets
+returns-clause-nets c =
     let made = c.in_ok-growing.ensures in
     let classes = c.in_ok-named.ensures in
     c.from_vec.ensures
