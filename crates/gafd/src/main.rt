@@ -2,25 +2,14 @@
 //! of those below them, `gafd drc FILE...` what the check finds on them, and `gafd export FILE` the
 //! canonical text of a schematic or of a symbol.
 //!
-//! `run` is all of the program, over any folder and sinks; `main` makes the real ones. Commands and
-//! statuses: docs/FORMATS.md. Definitions: specs/Answers.antt and specs/Runs.antt.
+//! `gafd_run::run` is all of the program, over any folder and sinks; `main` makes the real ones.
 #![tactic(auto)]
 
-mod answer;
 #[cfg(test)]
-mod check_tests;
-#[cfg(test)]
-mod drawings;
-mod error_lines;
-mod fault;
-#[cfg(test)]
-mod net_tests;
-mod run;
-mod sink;
+mod edges;
 mod std_sink;
-#[cfg(test)]
-mod tests;
 
+use gafd_run::{report_want_of_memory, run};
 use project_files::DirFolder;
 use std::process::ExitCode;
 use std::rt::Env;
@@ -47,8 +36,8 @@ fn main(rt: HostRuntime) -> ExitCode {
     let mut out = StdSink::new(rt.stdout());
     let mut err = StdSink::new(rt.stderr());
     let status = match arguments(&rt) {
-        Ok(arguments) => run::run(rt.alloc(), &arguments, &mut folder, &mut out, &mut err),
-        Err(_) => error_lines::report_want_of_memory(&mut err),
+        Ok(arguments) => run(rt.alloc(), &arguments, &mut folder, &mut out, &mut err),
+        Err(_) => report_want_of_memory(&mut err),
     };
     ExitCode::from(status)
 }

@@ -1,7 +1,7 @@
 // The streams of the process. They tell no contents.
 ghost use Rattle.std.specs.Prelude.{None};
 
-use crate::sink::{Sink, SinkFault};
+use gafd_run::{Sink, SinkFault};
 use std::io::Write;
 
 /// A stream of the process, or any writer.
@@ -12,8 +12,12 @@ pub struct StdSink<W: Write + Drop> {
 }
 
 impl<W: Write + Drop> StdSink<W> {
+    ghost use Rattle.std.specs.Prelude.{◌≡◌};
+
     /// A sink that writes to this writer.
-    pub fn new(inner: W) -> StdSink<W> {
+    pub fn new(inner: W) -> StdSink<W>
+        ensures faults { result.faults ≡ 0 }
+    {
         StdSink { inner, faults: 0 }
     }
 }

@@ -22,8 +22,12 @@ fn read_file<R: Files>(rt: &R, alloc: Global, name: &str) -> io::Result<Vec<u8>>
 }
 
 impl<'a, R: Files + AllocGlobal> DirFolder<'a, R> {
+    ghost use Rattle.std.specs.Prelude.{◌≡◌};
+
     /// The folder that the program runs in.
-    pub fn new(rt: &'a R) -> DirFolder<'a, R> {
+    pub fn new(rt: &'a R) -> DirFolder<'a, R>
+        ensures faults { result.faults ≡ 0 }
+    {
         DirFolder { rt, faults: 0 }
     }
 }

@@ -1,0 +1,47 @@
+-- A command comes to one outcome: its files come to one project or matrix, and a project has one net list.
+use Rattle.std.proofs.Common.{◌≡◌, ℕ, true, false, Bool, List, Option, Some, None, Result, Ok, inl, inr, sym, ap, subst, ◌∙◌}
+use Rattle.std.specs.declared.option.Option.{Option}
+use Rattle.geda_defs.specs.Contents.{Files}
+use Rattle.project_model.specs.Projects.{ProjectData}
+use Rattle.geda_grammar.specs.Faults.{sheet_file, symbol_file}
+use Rattle.geda_grammar.proofs.ReadingLaws.{sheet_determined, symbol_determined}
+use Rattle.pin_matrix.specs.declared.level.Level.{Level}
+use Rattle.net_names.specs.declared.nets.Nets.{Nets}
+use Rattle.command_words.specs.declared.command.Command.{Command}
+use Rattle.command_words.specs.declared.command.Command.TheVariants as commands
+use Rattle.project_files.specs.declared.fault.FileFault.{FileFault}
+use Rattle.project_files.specs.FileReads.{Then}
+use Rattle.project_files.specs.Gathering.{ProjectFiles}
+use Rattle.project_files.proofs.OneProject.{IsOne, after_one, file_one, gathers_one, read_one, then_one}
+use Rattle.gafd_run.specs.declared.fault.RunFault.TheVariants as faults
+use Rattle.gafd_run.specs.Answers.{AnswerData, ByNetList, ComesTo, IsFixed, MatrixComesTo, Outcome, SheetsOf, TextOf, as_run, checked, is_symbol_name, listed}
+use Rattle.net_names.proofs.Uniqueness.{same_lists}
+
+-- what a net list comes to
+nets_one : (answer : ProjectData → Nets → AnswerData) (project : ProjectData) → IsOne (ByNetList answer project)
+nets_one answer project first second (inl (crowded, p)) (inl (too, q)) = p ∙ sym q
+nets_one answer project first second (inl (crowded, p)) (inr (room, list)) = absurd (room crowded)
+nets_one answer project first second (inr (room, list)) (inl (crowded, q)) = absurd (room crowded)
+nets_one answer project first second (inr (room, (nets, list, p))) (inr (too, (others, lists, q))) = p ∙ ap (λ (n : Nets). Ok (answer project n)) (same_lists project nets others list lists) ∙ sym q
+
+of_sheets_one : (answer : ProjectData → Nets → AnswerData) (files : ProjectFiles) (names : List (List ℕ)) → IsOne (SheetsOf answer files names)
+of_sheets_one answer files names first second (gathered, come, p) (other, does, q) =
+    then_one (ByNetList answer) (nets_one answer) (as_run other) first second (subst (λ (r : Result ProjectData FileFault). Then (as_run r) (ByNetList answer) first) (gathers_one files names gathered other come does) p) q
+
+-- a matrix
+matrix_one : (files : Files) (file : Option (List ℕ)) → IsOne (MatrixComesTo files file)
+matrix_one files None first second p q = p ∙ sym q
+matrix_one files (Some file) first second p q = file_one (faults.Missing file) _ (λ bytes one other is so. is ∙ sym so) (files file) first second p q
+
+text_one : (is_symbol : Bool) (name bytes : List ℕ) → IsOne (TextOf is_symbol name bytes)
+text_one true name bytes = read_one symbol_file symbol_determined (faults.Refused name) _ (λ value first second p q. p ∙ sym q) bytes
+text_one false name bytes = read_one sheet_file sheet_determined (faults.Refused name) _ (λ value first second p q. p ∙ sym q) bytes
+
+-- so a command comes to one
+pub same_outcomes : (files : Files) (command : Option Command) (first second : Outcome) → IsFixed command → ComesTo (Some files) command first → ComesTo (Some files) command second → first ≡ second
+same_outcomes files None first second fixed p q = p ∙ sym q
+same_outcomes files (Some (commands.Netlist form names)) first second fixed p q = of_sheets_one (listed form) (record { sheets = files; symbols = files }) names first second p q
+same_outcomes files (Some (commands.Drc matrix names)) first second fixed (read, come, p) (other, does, q) =
+    after_one (MatrixComesTo files matrix) (λ (levels : List Level). SheetsOf (checked levels) (record { sheets = files; symbols = files }) names) (matrix_one files matrix) (λ levels. of_sheets_one (checked levels) (record { sheets = files; symbols = files }) names) read other first second come does p q
+same_outcomes files (Some (commands.Export name)) first second fixed p q = file_one (faults.Missing name) _ (text_one (is_symbol_name name) name) (files name) first second p q
+same_outcomes files (Some (commands.Work start count)) first second fixed p q = absurd fixed

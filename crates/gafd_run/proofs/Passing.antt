@@ -1,0 +1,86 @@
+-- How faults are passed on, from the files to the end of a run.
+use Rattle.std.proofs.Common.{◌≡◌, ◌⊎◌, ℕ, ◌≤◌, List, Option, Some, None, Result, Ok, Err, take, inl, inr, refl, sym, subst}
+use Rattle.std.specs.declared.option.Option.{Option}
+use Rattle.geda_defs.specs.Causes.{HasCause}
+use Rattle.geda_defs.specs.Contents.{Files, Writes}
+use Rattle.command_words.specs.declared.command.Command.{Command}
+use Rattle.project_files.specs.declared.fault.FileFault.{FileFault}
+use Rattle.project_files.specs.declared.fault.FileFault.TheVariants as file_faults
+use Rattle.project_files.specs.Counts.{Counts, counts}
+use Rattle.project_files.specs.ProjectFiles.{IsAnswer, IsFolderAnswer}
+use Rattle.project_files.proofs.Passing.{risen}
+use Rattle.gafd_run.specs.declared.fault.RunFault.{RunFault}
+use Rattle.gafd_run.specs.declared.fault.RunFault.TheVariants as faults
+use Rattle.gafd_run.specs.declared.sinks.SinkFault.{SinkFault}
+use Rattle.gafd_run.specs.declared.sinks.SinkFault.TheVariants as sink
+use Rattle.gafd_run.specs.Answers.{AnswerData, ComesTo}
+use Rattle.gafd_run.specs.Faults.{run_fault}
+use Rattle.gafd_run.specs.Runs.{Ends, EndsWith, HoldsAfter, IsQuiet, Stream}
+use Rattle.gafd_run.specs.steps.Passing.{AnswerOf, ComesOf, NamesFile, Reports}
+
+-- what is come to, as an answer of a call that a folder is lent to
+pub answer_from : {A : Type 0} (counts : Counts) (P Q : Result A RunFault → Type 0) (outcome : Result A RunFault) → ((r : Result A RunFault) → P r → Q r) → ComesOf P outcome → AnswerOf counts Q outcome
+answer_from counts P Q (Ok answer) f h = f (Ok answer) h
+answer_from counts P Q (Err (faults.Missing file)) f h = f (Err (faults.Missing file)) h
+answer_from counts P Q (Err (faults.Refused file line kind)) f h = f (Err (faults.Refused file line kind)) h
+answer_from counts P Q (Err (faults.BadToml file)) f h = f (Err (faults.BadToml file)) h
+answer_from counts P Q (Err (faults.BadRows file)) f h = f (Err (faults.BadRows file)) h
+answer_from counts P Q (Err faults.TooManyObjects) f h = f (Err faults.TooManyObjects) h
+answer_from counts P Q (Err faults.ProjectFull) f h = f (Err faults.ProjectFull) h
+answer_from counts P Q (Err faults.TooManyInstances) f h = f (Err faults.TooManyInstances) h
+answer_from counts P Q (Err faults.Usage) f h = f (Err faults.Usage) h
+answer_from counts P Q (Err faults.FolderFault) f h = absurd h
+answer_from counts P Q (Err faults.OutputFault) f h = h
+answer_from counts P Q (Err faults.NoMemory) f h = tt
+
+-- a fault that is met in the bytes of a file, as that of the program
+pub bytes_fault : {A B : Type 0} (P : Result A FileFault → Type 0) (Q : Result B RunFault → Type 0) (e : FileFault) → (P (Err e) → Q (Err (run_fault e))) → IsAnswer P (Err e) → ComesOf Q (Err (run_fault e))
+bytes_fault P Q (file_faults.Missing file) f h = f h
+bytes_fault P Q (file_faults.Refused file line kind) f h = f h
+bytes_fault P Q file_faults.TooManyObjects f h = f h
+bytes_fault P Q file_faults.ProjectFull f h = f h
+bytes_fault P Q file_faults.FolderFault f h = h
+bytes_fault P Q file_faults.NoMemory f h = tt
+
+-- the same of a later call that a folder was lent to, as that of a whole
+pub files_fault : {A B : Type 0} (before between now : ℕ) (P : Result A FileFault → Type 0) (Q : Result B RunFault → Type 0) (e : FileFault) → before ≤ between → (P (Err e) → Q (Err (run_fault e))) → IsFolderAnswer (counts between now) P (Err e) → AnswerOf (counts before now) Q (Err (run_fault e))
+files_fault before between now P Q (file_faults.Missing file) later f h = f h
+files_fault before between now P Q (file_faults.Refused file line kind) later f h = f h
+files_fault before between now P Q file_faults.TooManyObjects later f h = f h
+files_fault before between now P Q file_faults.ProjectFull later f h = f h
+files_fault before between now P Q file_faults.FolderFault later f h = risen before between now later h
+files_fault before between now P Q file_faults.NoMemory later f h = tt
+
+-- what a write that failed left
+first_part : {E : Type 0} (old new : Option (List ℕ)) (piece : List ℕ) (e : E) → Writes old new piece (Err e) → (n : ℕ) × HoldsAfter old new (take n piece)
+first_part None new piece e writes = (0, tt)
+first_part (Some old) None piece e writes = absurd writes
+first_part (Some old) (Some new) piece e writes = writes
+
+-- a run whose answer did not go out whole ends with a fault of the output
+pub failed_write : (files : Option Files) (asked : Option Command) (command : Command) (folder : Counts) (out : Stream) (answer : AnswerData) (piece : List ℕ) (e : SinkFault) → asked ≡ Some command → ComesTo files (Some command) (Ok answer) → piece ≡ answer.text → Writes out.old out.new piece (Err e) → HasCause {T = Unit {0}} out.faults.old out.faults.new (Err e) sink.Failed → EndsWith files asked folder out (Err faults.OutputFault)
+failed_write files asked command folder out answer piece sink.Failed is comes same writes has =
+    (answer, subst (λ (a : Option Command). ComesTo files a (Ok answer)) (sym is) comes, (has.cause refl, subst (λ (text : List ℕ). (n : ℕ) × HoldsAfter out.old out.new (take n text)) same (first_part out.old out.new piece sink.Failed writes)))
+
+module _ (files : Option Files) (command : Option Command) (folder : Counts) (out err : Stream) (fault : RunFault) (status : ℕ) where
+  -- before a line that names a file, nothing went out
+  is_quiet : (f : RunFault) → EndsWith files command folder out (Err f) → NamesFile f → IsQuiet out
+  is_quiet (faults.Missing file) h named = h.1
+  is_quiet (faults.Refused file line kind) h named = h.1
+  is_quiet (faults.BadToml file) h named = h.1
+  is_quiet (faults.BadRows file) h named = h.1
+  is_quiet faults.TooManyObjects h named = absurd named
+  is_quiet faults.ProjectFull h named = absurd named
+  is_quiet faults.TooManyInstances h named = absurd named
+  is_quiet faults.Usage h named = absurd named
+  is_quiet faults.FolderFault h named = absurd named
+  is_quiet faults.OutputFault h named = absurd named
+  is_quiet faults.NoMemory h named = h
+
+  -- a run ends with the fault that is reported
+  pub end_reported : EndsWith files command folder out (Err fault) → Reports err fault status → Ends files command folder out err status
+  end_reported h r = record { outcome = Err r.reported; cause = go r.reported r.same; said = r.said; status_is = r.status_is }
+    where
+      go : (f : RunFault) → (f ≡ fault) ⊎ ((f ≡ faults.NoMemory) × NamesFile fault) → EndsWith files command folder out (Err f)
+      go f (inl same) = subst (λ (g : RunFault). EndsWith files command folder out (Err g)) (sym same) h
+      go f (inr (same, named)) = subst (λ (g : RunFault). EndsWith files command folder out (Err g)) (sym same) (is_quiet fault h named)

@@ -1,0 +1,140 @@
+-- What a command comes to over the files of a folder (own).
+use Rattle.std.specs.Prelude.{◌≡◌, ⊤, ℕ, Bool, true, false, if◌then◌else◌, List, Result, Ok, Err, Some, None, nat_eq, codes}
+use Rattle.std.specs.declared.option.Option.{Option}
+use Rattle.std.specs.List.{ends_with}
+use Rattle.geda_defs.specs.Contents.{Files}
+use Rattle.project_model.specs.Projects.{ProjectData}
+use Rattle.geda_grammar.specs.Faults.{sheet_file, symbol_file}
+use Rattle.geda_grammar.specs.Canonical.{sheet_text, symbol_text}
+use Rattle.hierarchy.specs.declared.fault.ElabFault.{ElabFault}
+use Rattle.hierarchy.specs.declared.fault.ElabFault.TheVariants as elaboration
+use Rattle.net_names.specs.declared.nets.Nets.{Nets}
+use Rattle.backends.specs.declared.form.Form.{Form}
+use Rattle.backends.specs.Forms.{net_text}
+use Rattle.pin_matrix.specs.declared.level.Level.{Level}
+use Rattle.pin_matrix.specs.Matrices.{usual}
+use Rattle.pin_matrix.specs.MatrixFiles.{document_of, matrix_in}
+use Rattle.toml.specs.Data.{Members}
+use Rattle.reports.specs.NetLists.{CheckData, OfNetList, checked as check_of}
+use Rattle.work_run.specs.RunText.{WorkComesTo}
+use Rattle.command_words.specs.declared.command.Command.{Command}
+use Rattle.command_words.specs.declared.command.Command.TheVariants.{Netlist, Drc, Export, Work}
+use Rattle.project_files.specs.declared.fault.FileFault.{FileFault}
+use Rattle.project_files.specs.FileReads.{FileComesTo, ReadAs, Then}
+use Rattle.project_files.specs.Gathering.{ProjectFiles}
+use Rattle.project_files.specs.ProjectFiles.{GathersTo, OfFiles, OfSome}
+use Rattle.gafd_run.specs.Faults.{run_fault}
+use Rattle.gafd_run.specs.declared.fault.RunFault.{RunFault}
+use Rattle.gafd_run.specs.declared.fault.RunFault.TheVariants as faults
+
+-- a text that goes out, and the status with which the program then ends
+pub record AnswerData : Type 0 where
+  pub text : List ℕ
+  pub status : ℕ
+
+-- what a command comes to: an answer, or a fault
+abbrev pub Outcome : Type 0
+Outcome = Result AnswerData RunFault
+
+-- the text goes out, and all is well
+abbrev pub all_well : List ℕ → AnswerData
+all_well text = record { text = text; status = 0 }
+
+abbrev pub done : List ℕ → Outcome
+done text = Ok (all_well text)
+
+-- what a project comes to, given the answer by its net list: its sheets may have too many instances
+abbrev pub ByNetList : (ProjectData → Nets → AnswerData) → ProjectData → Outcome → Type 0
+ByNetList answer project outcome =
+    OfNetList faults.TooManyInstances (answer project) project outcome
+
+-- what files come to, with the faults of the program
+abbrev pub as_run : {A : Type 0} → Result A FileFault → Result A RunFault
+as_run (Ok a) = Ok a
+as_run (Err fault) = Err (run_fault fault)
+
+-- what sheets come to, with those below them and with their symbols, given the answer by a net list
+abbrev pub SheetsOf :
+    (ProjectData → Nets → AnswerData) → ProjectFiles → List (List ℕ) → Outcome → Type 0
+SheetsOf answer files names outcome =
+    (gathered : Result ProjectData FileFault) × GathersTo files names gathered
+    × Then (as_run gathered) (ByNetList answer) outcome
+
+-- the text of a net list in a form
+abbrev pub listed : Form → ProjectData → Nets → AnswerData
+listed form project nets = all_well (net_text form nets)
+
+-- the report of a check; its status is 7 where an error is among what was found
+abbrev pub reported : CheckData → AnswerData
+reported check = record { text = check.text; status = if check.has_error then 7 else 0 }
+
+-- the report of the check under a matrix
+abbrev pub checked : List Level → ProjectData → Nets → AnswerData
+checked matrix project nets = reported (check_of project matrix nets)
+
+-- the matrix of a document, if its rows are those of one
+abbrev pub matrix_or_fault : List ℕ → Option (List Level) → Result (List Level) RunFault
+matrix_or_fault file None = Err (faults.BadRows file)
+matrix_or_fault file (Some matrix) = Ok matrix
+
+-- the matrix of bytes, if they are a document
+abbrev pub matrix_of : List ℕ → Option Members → Result (List Level) RunFault
+matrix_of file None = Err (faults.BadToml file)
+matrix_of file (Some document) = matrix_or_fault file (matrix_in document)
+
+-- what the file of a matrix comes to; where none is named, that is the usual matrix
+abbrev pub MatrixComesTo : Files → Option (List ℕ) → Result (List Level) RunFault → Type 0
+MatrixComesTo files None matrix = matrix ≡ Ok usual
+MatrixComesTo files (Some file) matrix =
+    FileComesTo (faults.Missing file) (λ bytes read. read ≡ matrix_of file (document_of bytes))
+    (files file) matrix
+
+-- a file with this name is a symbol
+abbrev pub is_symbol_name : List ℕ → Bool
+is_symbol_name name = ends_with nat_eq name (codes ".sym")
+
+-- the canonical text of a symbol or of a sheet
+abbrev pub TextOf : Bool → List ℕ → List ℕ → Outcome → Type 0
+TextOf true name =
+    ReadAs symbol_file (faults.Refused name)
+    (λ symbol outcome. outcome ≡ done (symbol_text symbol))
+TextOf false name =
+    ReadAs sheet_file (faults.Refused name) (λ sheet outcome. outcome ≡ done (sheet_text sheet))
+
+-- what the check comes to: the matrix is read before the sheets
+abbrev pub CheckOf : Option Files → Option (List ℕ) → List (List ℕ) → Outcome → Type 0
+CheckOf files matrix names outcome =
+    (read : Result (List Level) RunFault) × OfSome files (λ known. MatrixComesTo known matrix read)
+    × Then read
+    (λ levels end. OfFiles files (λ known. SheetsOf (checked levels) known names end)) outcome
+
+-- the text of the work goes out, or there is none
+abbrev pub worked : Result (List ℕ) ElabFault → Outcome
+worked (Ok text) = done text
+worked (Err elaboration.TooManyInstances) = Err faults.TooManyInstances
+worked (Err elaboration.NoMemory) = Err faults.NoMemory
+
+-- what so many steps of the work from a start come to
+abbrev pub WorkOf : ℕ → ℕ → Outcome → Type 0
+WorkOf start count outcome = (told : Result (List ℕ) ElabFault) × WorkComesTo start count told
+    × (outcome ≡ worked told)
+
+-- what a command comes to over the files that a folder tells
+abbrev pub CommandComesTo : Option Files → Command → Outcome → Type 0
+CommandComesTo files (Netlist form names) outcome =
+    OfFiles files (λ known. SheetsOf (listed form) known names outcome)
+CommandComesTo files (Drc matrix names) outcome = CheckOf files matrix names outcome
+CommandComesTo files (Export name) outcome = OfSome files
+    (λ known. FileComesTo (faults.Missing name) (TextOf (is_symbol_name name) name) (known name)
+    outcome)
+CommandComesTo files (Work start count) outcome = WorkOf start count outcome
+
+-- what the arguments come to: what their command comes to, or a fault of usage
+abbrev pub ComesTo : Option Files → Option Command → Outcome → Type 0
+ComesTo files None outcome = outcome ≡ Err faults.Usage
+ComesTo files (Some command) outcome = CommandComesTo files command outcome
+
+-- the files fix the outcome: the arguments don't ask for the work
+abbrev pub IsFixed : Option Command → Type 0
+IsFixed (Some (Work start count)) = ⊥
+IsFixed other = ⊤

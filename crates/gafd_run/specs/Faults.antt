@@ -1,0 +1,64 @@
+-- The faults that are met in files, and the status and the line of each fault (own).
+use Rattle.std.specs.Prelude.{ℕ, List, ◌++◌, codes}
+use Rattle.std.specs.Fmt.{decimal}
+use Rattle.geda_grammar.specs.declared.kind.ReadKind.{ReadKind}
+use Rattle.geda_grammar.specs.declared.kind.ReadKind.TheVariants as kinds
+use Rattle.project_files.specs.declared.fault.FileFault.{FileFault}
+use Rattle.project_files.specs.declared.fault.FileFault.TheVariants as file_faults
+use Rattle.gafd_run.specs.declared.fault.RunFault.{RunFault}
+use Rattle.gafd_run.specs.declared.fault.RunFault.TheVariants as faults
+
+-- a fault that is met in files, as the program ends with it
+abbrev pub run_fault : FileFault → RunFault
+run_fault (file_faults.Missing file) = faults.Missing file
+run_fault (file_faults.Refused file line kind) = faults.Refused file line kind
+run_fault file_faults.TooManyObjects = faults.TooManyObjects
+run_fault file_faults.ProjectFull = faults.ProjectFull
+run_fault file_faults.FolderFault = faults.FolderFault
+run_fault file_faults.NoMemory = faults.NoMemory
+
+-- the status with which the program ends
+abbrev pub status_of : RunFault → ℕ
+status_of (faults.Missing file) = 1
+status_of (faults.Refused file line kind) = 1
+status_of (faults.BadToml file) = 1
+status_of (faults.BadRows file) = 1
+status_of faults.TooManyObjects = 1
+status_of faults.ProjectFull = 1
+status_of faults.TooManyInstances = 1
+status_of faults.Usage = 2
+status_of faults.FolderFault = 3
+status_of faults.OutputFault = 4
+status_of faults.NoMemory = 71
+
+-- the name of a kind, as it prints
+abbrev pub kind_name : ReadKind → List ℕ
+kind_name kinds.NoVersion = codes "NoVersion"
+kind_name kinds.BadFormat = codes "BadFormat"
+kind_name kinds.UnknownLetter = codes "UnknownLetter"
+kind_name kinds.FieldCount = codes "FieldCount"
+kind_name kinds.BadNumber = codes "BadNumber"
+kind_name kinds.OutOfRange = codes "OutOfRange"
+kind_name kinds.BadAngle = codes "BadAngle"
+kind_name kinds.CutShort = codes "CutShort"
+kind_name kinds.StrayBracket = codes "StrayBracket"
+kind_name kinds.NotAttribute = codes "NotAttribute"
+kind_name kinds.Nested = codes "Nested"
+kind_name kinds.NotUtf8 = codes "NotUtf8"
+kind_name kinds.TooLarge = codes "TooLarge"
+
+-- the line that the fault prints
+abbrev pub error_line : RunFault → List ℕ
+error_line (faults.Missing file) = codes "gafd: " ++ file ++ codes ": missing\n"
+error_line (faults.Refused file line kind) =
+    codes "gafd: " ++ file ++ codes ":" ++ decimal line
+    ++ codes ": " ++ kind_name kind ++ codes "\n"
+error_line (faults.BadToml file) = codes "gafd: " ++ file ++ codes ": BadToml\n"
+error_line (faults.BadRows file) = codes "gafd: " ++ file ++ codes ": BadRows\n"
+error_line faults.TooManyObjects = codes "gafd: TooManyObjects\n"
+error_line faults.ProjectFull = codes "gafd: ProjectFull\n"
+error_line faults.TooManyInstances = codes "gafd: TooManyInstances\n"
+error_line faults.Usage = codes "gafd: usage\n"
+error_line faults.FolderFault = codes "gafd: folder fault\n"
+error_line faults.OutputFault = codes "gafd: output fault\n"
+error_line faults.NoMemory = codes "gafd: out of memory\n"

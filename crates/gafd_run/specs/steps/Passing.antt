@@ -1,0 +1,65 @@
+-- Steps of the code; no public clause cites them.
+-- How faults are passed on from one function to the next (own).
+use Rattle.std.specs.Prelude.{◌≡◌, ◌⊎◌, ℕ, Result, Err, Some, ⊤}
+use Rattle.std.specs.declared.option.Option.{Option}
+use Rattle.geda_defs.specs.Contents.{Files}
+use Rattle.command_words.specs.declared.command.Command.{Command}
+use Rattle.gafd_run.specs.declared.fault.RunFault.{RunFault}
+use Rattle.gafd_run.specs.declared.fault.RunFault.TheVariants as faults
+use Rattle.hierarchy.specs.declared.fault.ElabFault.{ElabFault}
+use Rattle.hierarchy.specs.declared.fault.ElabFault.TheVariants as elaboration
+use Rattle.option_words.specs.declared.fault.WordFault.{WordFault}
+use Rattle.option_words.specs.declared.fault.WordFault.TheVariants as words
+use Rattle.project_files.specs.declared.folder.FolderFault.{FolderFault}
+use Rattle.project_files.specs.declared.folder.FolderFault.TheVariants as folder
+use Rattle.gafd_run.specs.Answers.{Outcome, ComesTo}
+use Rattle.project_files.specs.Counts.{Counts, Failed}
+use Rattle.gafd_run.specs.Runs.{Stream, SaidLine}
+use Rattle.gafd_run.specs.Faults.{error_line, status_of}
+
+-- what a fault of the folder becomes
+abbrev pub FromFolder : FolderFault → RunFault → Type 0
+FromFolder folder.Failed e = e ≡ faults.FolderFault
+FromFolder folder.NoMemory e = e ≡ faults.NoMemory
+
+-- what a fault of the words becomes
+abbrev pub FromWords : WordFault → RunFault → Type 0
+FromWords words.Usage e = e ≡ faults.Usage
+FromWords words.NoMemory e = e ≡ faults.NoMemory
+
+-- what a fault of the hierarchy becomes
+abbrev pub FromElaboration : ElabFault → RunFault → Type 0
+FromElaboration elaboration.TooManyInstances e = e ≡ faults.TooManyInstances
+FromElaboration elaboration.NoMemory e = e ≡ faults.NoMemory
+
+-- what is come to, or want of memory
+abbrev pub ComesOf : {A : Type 0} → (Result A RunFault → Type 0) → Result A RunFault → Type 0
+ComesOf Comes (Err faults.NoMemory) = ⊤
+ComesOf Comes (Err faults.FolderFault) = ⊥
+ComesOf Comes (Err faults.OutputFault) = ⊥
+ComesOf Comes outcome = Comes outcome
+
+-- or a fault of the folder
+abbrev pub AnswerOf : {A : Type 0} →
+    Counts → (Result A RunFault → Type 0) → Result A RunFault → Type 0
+AnswerOf counts Comes (Err faults.FolderFault) = Failed counts
+AnswerOf counts Comes outcome = ComesOf Comes outcome
+
+-- what a command comes to over the files that a folder tells
+abbrev pub Over : Option Files → Command → Outcome → Type 0
+Over files command outcome = ComesTo files (Some command) outcome
+
+-- the line of the fault names a file
+abbrev pub NamesFile : RunFault → Type 0
+NamesFile (faults.Missing file) = ⊤
+NamesFile (faults.Refused file line kind) = ⊤
+NamesFile (faults.BadToml file) = ⊤
+NamesFile (faults.BadRows file) = ⊤
+NamesFile other = ⊥
+
+-- a fault is reported as it is, or as want of memory where its line names a file
+pub record Reports (err : Stream) (fault : RunFault) (status : ℕ) : Type 0 where
+  pub reported : RunFault
+  pub same : (reported ≡ fault) ⊎ ((reported ≡ faults.NoMemory) × NamesFile fault)
+  pub said : SaidLine err (error_line reported)
+  pub status_is : status ≡ status_of reported

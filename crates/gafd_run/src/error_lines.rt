@@ -1,0 +1,126 @@
+// The lines that faults print, and their statuses.
+ghost use Rattle.std.specs.Prelude.{◌≡◌, ◌++◌, IfOk, IsErr, codes, string_bytes};
+ghost use Rattle.std.specs.Fmt.{decimal};
+ghost use Rattle.std.specs.Cow.{cow_str_bytes};
+ghost use Rattle.gafd_run.specs.Faults.{error_line, kind_name, status_of};
+ghost use Rattle.project_files.specs.Counts.{counts};
+ghost use Rattle.gafd_run.specs.Runs.{SaidLine, stream};
+ghost use Rattle.gafd_run.specs.steps.Passing.{NamesFile, Reports};
+
+use crate::fault::RunFault;
+use crate::sinks::Sink;
+use geda_grammar::ReadKind;
+use std::alloc::{AllocError, Global};
+use std::borrow::CowStr;
+
+const OUT_OF_MEMORY: &str = "gafd: out of memory\n";
+
+fn status_of(fault: &RunFault) -> u8
+    ensures { result ≡ status_of fault.now }
+{
+    match fault {
+        RunFault::Missing { .. }
+        | RunFault::Refused { .. }
+        | RunFault::BadToml { .. }
+        | RunFault::BadRows { .. }
+        | RunFault::TooManyObjects
+        | RunFault::ProjectFull
+        | RunFault::TooManyInstances => 1,
+        RunFault::Usage => 2,
+        RunFault::FolderFault => 3,
+        RunFault::OutputFault => 4,
+        RunFault::NoMemory => 71,
+    }
+}
+
+fn kind_name(kind: ReadKind) -> &'static str
+    ensures { result.now ≡ kind_name kind }
+{
+    match kind {
+        ReadKind::NoVersion => "NoVersion",
+        ReadKind::BadFormat => "BadFormat",
+        ReadKind::UnknownLetter => "UnknownLetter",
+        ReadKind::FieldCount => "FieldCount",
+        ReadKind::BadNumber => "BadNumber",
+        ReadKind::OutOfRange => "OutOfRange",
+        ReadKind::BadAngle => "BadAngle",
+        ReadKind::CutShort => "CutShort",
+        ReadKind::StrayBracket => "StrayBracket",
+        ReadKind::NotAttribute => "NotAttribute",
+        ReadKind::Nested => "Nested",
+        ReadKind::NotUtf8 => "NotUtf8",
+        ReadKind::TooLarge => "TooLarge",
+    }
+}
+
+/// The line of a file that is refused.
+fn refused_line(alloc: Global, file: &str, line: u32, kind: &str) -> Result<String, AllocError>
+    ensures { IfOk result (λ text. string_bytes text ≡ codes "gafd: " ++ file.now
+        ++ codes ":" ++ decimal line ++ codes ": " ++ kind.now ++ codes "\n") }
+{
+    format!(in alloc; "gafd: {file}:{line}: {kind}\n")
+}
+
+/// The line of a fault. Only one that names a file takes memory.
+fn error_line(alloc: Global, fault: &RunFault) -> Result<CowStr<'static>, AllocError>
+    ensures line { IfOk result (λ line. cow_str_bytes line ≡ error_line fault.now) }
+    ensures named { IsErr result → NamesFile fault.now }
+{
+    match fault {
+        RunFault::Missing { file } => {
+            let file = file.as_str();
+            Ok(CowStr::Owned(format!(in alloc; "gafd: {file}: missing\n")?))
+        }
+        RunFault::Refused { file, line, kind } => {
+            let text = refused_line(alloc, file.as_str(), *line, kind_name(*kind))?;
+            Ok(CowStr::Owned(text))
+        }
+        RunFault::BadToml { file } => {
+            let file = file.as_str();
+            Ok(CowStr::Owned(format!(in alloc; "gafd: {file}: BadToml\n")?))
+        }
+        RunFault::BadRows { file } => {
+            let file = file.as_str();
+            Ok(CowStr::Owned(format!(in alloc; "gafd: {file}: BadRows\n")?))
+        }
+        RunFault::TooManyObjects => Ok(CowStr::Borrowed("gafd: TooManyObjects\n")),
+        RunFault::ProjectFull => Ok(CowStr::Borrowed("gafd: ProjectFull\n")),
+        RunFault::TooManyInstances => Ok(CowStr::Borrowed("gafd: TooManyInstances\n")),
+        RunFault::Usage => Ok(CowStr::Borrowed("gafd: usage\n")),
+        RunFault::FolderFault => Ok(CowStr::Borrowed("gafd: folder fault\n")),
+        RunFault::OutputFault => Ok(CowStr::Borrowed("gafd: output fault\n")),
+        RunFault::NoMemory => Ok(CowStr::Borrowed(OUT_OF_MEMORY)),
+    }
+}
+
+fn say<E: Sink>(line: &str, err: &mut E)
+    ensures { SaidLine (stream (E.written err.old) (E.written err.new)
+        (counts (E.faults err.old) (E.faults err.new))) line.now }
+{
+    let _ = err.write(line.as_bytes());
+}
+
+/// Prints the line of want of memory and answers its status. It takes no memory.
+pub fn report_want_of_memory<E: Sink>(err: &mut E) -> u8
+    ensures status { result ≡ status_of RunFault.NoMemory }
+    ensures said { SaidLine (stream (E.written err.old) (E.written err.new)
+        (counts (E.faults err.old) (E.faults err.new))) (error_line RunFault.NoMemory) }
+{
+    say(OUT_OF_MEMORY, err);
+    status_of(&RunFault::NoMemory)
+}
+
+/// Prints the line of a fault and answers its status. Where a line that names a file finds no
+/// memory, they are those of want of memory.
+pub fn report<E: Sink>(alloc: Global, fault: &RunFault, err: &mut E) -> u8
+    ensures { Reports (stream (E.written err.old) (E.written err.new)
+        (counts (E.faults err.old) (E.faults err.new))) fault.now result }
+{
+    match error_line(alloc, fault) {
+        Ok(line) => {
+            say(line.as_str(), err);
+            status_of(fault)
+        }
+        Err(AllocError) => report_want_of_memory(err),
+    }
+}

@@ -1,0 +1,128 @@
+// Why the program ends otherwise than with an answer.
+ghost use Rattle.std.specs.Prelude.{◌≡◌};
+ghost use Rattle.gafd_run.specs.Faults.{run_fault};
+ghost use Rattle.gafd_run.specs.steps.Passing.{FromElaboration, FromFolder, FromWords};
+ghost use Rattle.gafd_run.specs.declared.fault.RunFault.TheVariants.{NoMemory, OutputFault};
+
+use crate::sinks::SinkFault;
+use geda_grammar::ReadKind;
+use geda_model::Name;
+use hierarchy::ElabFault;
+use option_words::WordFault;
+use project_files::{FileFault, FolderFault};
+use std::alloc::{AllocError, AllocFailed};
+
+/// Why the program ends otherwise than with an answer (docs/FORMATS.md, "Statuses").
+#[derive(Debug, Drop)]
+pub enum RunFault {
+    /// There is no such file.
+    Missing {
+        /// Its name.
+        file: Name,
+    },
+    /// The file is refused.
+    Refused {
+        /// Its name.
+        file: Name,
+        /// The line of its fault, from 1.
+        line: u32,
+        /// The kind of its fault.
+        kind: ReadKind,
+    },
+    /// The file of the matrix is no TOML document, or too long.
+    BadToml {
+        /// Its name.
+        file: Name,
+    },
+    /// The file of the matrix has other rows than those of a matrix.
+    BadRows {
+        /// Its name.
+        file: Name,
+    },
+    /// The project has more objects than a project may have.
+    TooManyObjects,
+    /// The project has more sheets or symbols, or more text, than a project may have.
+    ProjectFull,
+    /// The sheets of the project have more instances, or heavier ones, than they may have.
+    TooManyInstances,
+    /// The arguments ask for no command.
+    Usage,
+    /// The folder failed.
+    FolderFault,
+    /// The output failed.
+    OutputFault,
+    /// Memory ran out.
+    NoMemory,
+}
+
+impl From<AllocError> for RunFault {
+    ghost from_gives = { λ _ e. e ≡ NoMemory };
+
+    fn from(_: AllocError) -> RunFault {
+        RunFault::NoMemory
+    }
+}
+
+impl<T: Drop> From<AllocFailed<T>> for RunFault {
+    ghost from_gives = { λ _ e. e ≡ NoMemory };
+
+    fn from(_: AllocFailed<T>) -> RunFault {
+        RunFault::NoMemory
+    }
+}
+
+impl From<SinkFault> for RunFault {
+    ghost from_gives = { λ _ e. e ≡ OutputFault };
+
+    fn from(_: SinkFault) -> RunFault {
+        RunFault::OutputFault
+    }
+}
+
+impl From<FolderFault> for RunFault {
+    ghost from_gives = { FromFolder };
+
+    fn from(fault: FolderFault) -> RunFault {
+        match fault {
+            FolderFault::Failed => RunFault::FolderFault,
+            FolderFault::NoMemory => RunFault::NoMemory,
+        }
+    }
+}
+
+impl From<FileFault> for RunFault {
+    ghost from_gives = { λ fault e. e ≡ run_fault fault };
+
+    fn from(fault: FileFault) -> RunFault {
+        match fault {
+            FileFault::Missing { file } => RunFault::Missing { file },
+            FileFault::Refused { file, line, kind } => RunFault::Refused { file, line, kind },
+            FileFault::TooManyObjects => RunFault::TooManyObjects,
+            FileFault::ProjectFull => RunFault::ProjectFull,
+            FileFault::FolderFault => RunFault::FolderFault,
+            FileFault::NoMemory => RunFault::NoMemory,
+        }
+    }
+}
+
+impl From<WordFault> for RunFault {
+    ghost from_gives = { FromWords };
+
+    fn from(fault: WordFault) -> RunFault {
+        match fault {
+            WordFault::Usage => RunFault::Usage,
+            WordFault::NoMemory => RunFault::NoMemory,
+        }
+    }
+}
+
+impl From<ElabFault> for RunFault {
+    ghost from_gives = { FromElaboration };
+
+    fn from(fault: ElabFault) -> RunFault {
+        match fault {
+            ElabFault::TooManyInstances => RunFault::TooManyInstances,
+            ElabFault::NoMemory => RunFault::NoMemory,
+        }
+    }
+}

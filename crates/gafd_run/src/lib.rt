@@ -1,0 +1,15 @@
+//! All of the program `gafd` but its edges: `run` does what the arguments ask for, over any folder
+//! and sinks, and answers the status.
+//!
+//! Commands and statuses: docs/FORMATS.md. Definitions: specs/Answers.antt and specs/Runs.antt.
+#![tactic(auto)]
+
+mod answer;
+mod error_lines;
+mod fault;
+mod sinks;
+mod whole;
+
+pub use error_lines::report_want_of_memory;
+pub use sinks::{MemorySink, Sink, SinkFault};
+pub use whole::{one_outcome, run};
