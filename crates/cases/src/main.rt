@@ -1,0 +1,40 @@
+//! Computes again the cases of the tables that its arguments name, by the whole program over folders
+//! and sinks in memory, and by the public calls on projects. It prints for each table how many cases
+//! there are, and each that came out otherwise.
+//!
+//! The tables are in data/, with what each rule wants; data/README.txt says how they are written.
+//! The first argument has the files that all tables share.
+#![tactic(auto)]
+
+mod answers;
+mod boards;
+mod changes;
+mod hierarchies;
+mod programs;
+mod projects;
+mod texts;
+
+use answers::ProgramAnswers;
+use case_tables::report;
+use std::{env, fs, io};
+
+fn main(rt: HostRuntime) -> io::Result<()> {
+    let mut arguments = env::args(&rt)?.skip(1);
+    let Some(shared) = arguments.next() else {
+        return Ok(());
+    };
+    let shared = fs::read_to_string(&rt, shared.as_str())?;
+    for argument in arguments {
+        let name = argument.as_str();
+        let text = fs::read_to_string(&rt, name)?;
+        let report = report(
+            rt.alloc(),
+            &ProgramAnswers,
+            shared.as_str(),
+            name,
+            text.as_str(),
+        )?;
+        print!(rt; "{}", report.as_str())?;
+    }
+    Ok(())
+}

@@ -1,0 +1,121 @@
+// The whole program on the files of a table.
+use crate::projects::{arguments_of, folder_of};
+use case_tables::{CaseFault, TableFiles, cell, text_in, text_of};
+use gafd_run::{MemorySink, run};
+use project_files::MemoryFolder;
+use std::alloc::{AllocError, Global};
+
+const ROOM: usize = 100_000;
+
+/// What a run comes to.
+#[derive(Drop)]
+struct Ran {
+    status: u8,
+    out: String,
+    err: String,
+}
+
+fn call_of(number: &str) -> Result<u64, CaseFault> {
+    match number.parse::<u64>() {
+        Ok(number) => Ok(number),
+        Err(_) => Err(CaseFault::BadCase),
+    }
+}
+
+/// The numbers of the calls of one of `folder`, `out` and `err` that are to fail, as in `folder:2`.
+fn failing_calls(alloc: Global, failing: &str, whose: &str) -> Result<Vec<u64>, CaseFault> {
+    let mut calls = Vec::new(alloc);
+    for word in failing.split_whitespace() {
+        let (name, number) = word.split_once(':').ok_or(CaseFault::BadCase)?;
+        if name == whose {
+            calls.push(call_of(number)?)?;
+        }
+    }
+    Ok(calls)
+}
+
+fn sink(alloc: Global, failing: &str, whose: &str) -> Result<MemorySink, CaseFault> {
+    let calls = failing_calls(alloc, failing, whose)?;
+    Ok(MemorySink::new(alloc, ROOM, calls)?)
+}
+
+fn outcome(
+    alloc: Global,
+    status: u8,
+    out: &MemorySink,
+    err: &MemorySink,
+) -> Result<Ran, CaseFault> {
+    let out = text_in(alloc, out.written())?;
+    let err = text_in(alloc, err.written())?;
+    Ok(Ran { status, out, err })
+}
+
+fn run_in(
+    alloc: Global,
+    arguments: &[String],
+    folder: &mut MemoryFolder,
+    failing: &str,
+) -> Result<Ran, CaseFault> {
+    let mut out = sink(alloc, failing, "out")?;
+    let mut err = sink(alloc, failing, "err")?;
+    let status = run(alloc, arguments, folder, &mut out, &mut err);
+    outcome(alloc, status, &out, &err)
+}
+
+/// Runs the program. The calls that `failing` names fail.
+fn outcome_of(
+    alloc: Global,
+    words: &str,
+    failing: &str,
+    files: &TableFiles,
+) -> Result<Ran, CaseFault> {
+    let arguments = arguments_of(alloc, words)?;
+    let calls = failing_calls(alloc, failing, "folder")?;
+    let mut folder = folder_of(alloc, files, calls)?;
+    run_in(alloc, &arguments, &mut folder, failing)
+}
+
+fn put_marked(to: &mut String, mark: &str, text: &str) -> Result<(), AllocError> {
+    if text.is_empty() {
+        return Ok(());
+    }
+    let text = text.strip_suffix('\n').unwrap_or("no line feed at the end");
+    write!(to, " {mark} {text}")
+}
+
+/// The status of a command, what goes to the output after `>`, and to the errors after `!`.
+pub fn command(alloc: Global, cells: &[&str], files: &TableFiles) -> Result<String, CaseFault> {
+    let words = text_of(alloc, cell(cells, 0))?;
+    let ran = outcome_of(alloc, words.as_str(), cell(cells, 1), files)?;
+    Ok(ran_text(alloc, &ran)?)
+}
+
+fn ran_text(alloc: Global, ran: &Ran) -> Result<String, AllocError> {
+    let mut text = format!(in alloc; "{}", ran.status)?;
+    put_marked(&mut text, ">", ran.out.as_str())?;
+    put_marked(&mut text, "!", ran.err.as_str())?;
+    Ok(text)
+}
+
+/// Puts each line of a text behind a mark.
+pub fn put_lines(to: &mut String, mark: &str, text: &str) -> Result<(), AllocError> {
+    for line in text.split_inclusive('\n') {
+        let end = if line.ends_with('\n') {
+            ""
+        } else {
+            " (no line feed)\n"
+        };
+        write!(to, "{mark} {line}{end}")?;
+    }
+    Ok(())
+}
+
+/// The output of a command, its errors and its status, a line each.
+pub fn lines(alloc: Global, words: &str, files: &TableFiles) -> Result<String, CaseFault> {
+    let ran = outcome_of(alloc, words, "", files)?;
+    let mut text = String::new(alloc);
+    put_lines(&mut text, ">", ran.out.as_str())?;
+    put_lines(&mut text, "!", ran.err.as_str())?;
+    writeln!(text, "status {}", ran.status)?;
+    Ok(text)
+}
