@@ -1,0 +1,5 @@
+pub mod EntryValues
+pub mod Fields
+pub mod FirstFault
+pub mod Documents
+pub mod steps
