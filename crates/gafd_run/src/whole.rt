@@ -38,8 +38,8 @@ fn answered<F: Folder, O: Sink>(
 /// All of the program: does what the arguments ask for, and answers the status with which it ends
 /// (docs/FORMATS.md, "Command lines" and "Statuses").
 ///
-/// Nothing goes to `out` before all is computed. For each fault one line
-/// goes to `err`; a failing `err` changes no status. All files stay.
+/// Nothing goes to `out` before all is computed. For each fault one line goes to `err`; a failing
+/// `err` changes no status. All files stay.
 #[tactic(auto, using(crate::proofs::Passing::end_reported))]
 pub fn run<F: Folder, O: Sink, E: Sink>(
     alloc: Global,
