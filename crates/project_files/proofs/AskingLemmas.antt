@@ -11,8 +11,7 @@ use Rattle.std.proofs.lemmas.List.Elements.{All-push}
 use Rattle.geda_defs.specs.Contents.{Files, KeepsFiles, ReadsFile, found_bytes}
 use Rattle.std.specs.declared.alloc.Global.{Global}
 use Rattle.std.proofs.lemmas.Bool.{or_cases, or_parts}
-use Rattle.geda_defs.proofs.Bytes.{bytes_true, bytes_same}
-use Rattle.geda_grammar.proofs.FollowLaws.{not_equal}
+use Rattle.geda_defs.proofs.Bytes.{bytes_false, bytes_same, bytes_true}
 use Rattle.geda_model.specs.Names.{is_name}
 use Rattle.geda_model.specs.Shapes.{ComponentData}
 use Rattle.geda_model.specs.Sheets.{ObjectData, SymbolData}
@@ -121,7 +120,7 @@ changed_there : (files : Files) (name : List ℕ) (file : Option (List ℕ)) →
 changed_there files name file = rw (bytes_true name name refl) refl
 
 changed_apart : (files : Files) (name : List ℕ) (file : Option (List ℕ)) (q : List ℕ) → q ≢ name → changed files name file q ≡ files q
-changed_apart files name file q apart = rw (not_equal q name apart) refl
+changed_apart files name file q apart = rw (bytes_false q name apart) refl
 
 -- the same list of asked files, with one more file that is known
 abbrev pub WithSymbol : Option Files → Progress → List ℕ → (Option (List ℕ) → Type 0) → Type 0
@@ -346,7 +345,7 @@ module _ (files : Option Files) (before : AskedData) (name : List ℕ) (named : 
                 ∙ ap (λ (names : List (List ℕ)). words ++ names) (sym (names_push before.waiting sheet)));
             waiting = All-push (IsWaiting now) before.waiting sheet (λ k d lt. waits_on p now (get_or before.waiting k d) follows (fits.waiting k d lt)) (here, more.2);
             absent = λ q asked. (more.3.sheets q (inl asked)).1 ∙ fits.absent q asked;
-            apart = λ q asked. still_false (bytes_eq q) before.queue name (fits.apart q asked) (not_equal q name (λ same. true≢false (sym asked ∙ subst (λ (n : List ℕ). is_in n before.absent ≡ false) (sym same) no_absent)));
+            apart = λ q asked. still_false (bytes_eq q) before.queue name (fits.apart q asked) (bytes_false q name (λ same. true≢false (sym asked ∙ subst (λ (n : List ℕ). is_in n before.absent ≡ false) (sym same) no_absent)));
           };
           holds = λ known f.
               (sym (is_new known.sheets before.queue name named out (ap is_some (f.sheets name here).1 ∙ found_some bytes (more.0.sheets name) more.2)), refl);

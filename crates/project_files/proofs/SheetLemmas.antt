@@ -9,10 +9,9 @@ use Rattle.std.proofs.lemmas.List.Folds.{list_any-append, list_any_none}
 use Rattle.std.proofs.lemmas.Map.Entries.{length-keys_of}
 use Rattle.std.proofs.lemmas.Map.Made.{AllPairs-from_IsDistinct}
 use Rattle.std.proofs.lemmas.Slice.Eq.{bytes_eq-Decides}
-use Rattle.geda_grammar.proofs.FollowLaws.{not_equal}
 use Rattle.std.proofs.lemmas.Option.{slice_get_past}
 use Rattle.std.proofs.lemmas.Bool.{or_parts}
-use Rattle.geda_defs.proofs.Bytes.{bytes_true}
+use Rattle.geda_defs.proofs.Bytes.{bytes_false, bytes_true}
 use Rattle.geda_defs.specs.Contents.{Files, KeepsFiles}
 use Rattle.geda_model.specs.Sheets.{SheetData}
 use Rattle.geda_grammar.specs.Spelling.{Spells}
@@ -241,7 +240,7 @@ starts told names asked sheets start none =
 -- names that stand once
 
 not_in : (name : List ℕ) (names : List (List ℕ)) → ((k : ℕ) (d : List ℕ) → k < length names → name ≡ get_or names k d → ⊥) → is_in name names ≡ false
-not_in name names apart = list_any_none (bytes_eq name) names (λ k d lt. not_equal name (get_or names k d) (apart k d lt))
+not_in name names apart = list_any_none (bytes_eq name) names (λ k d lt. bytes_false name (get_or names k d) (apart k d lt))
 
 -- a name is not among those before it, and not among those behind it
 pub once_before : (names : List (List ℕ)) (i : ℕ) (name : List ℕ) → AllPairs ◌≢◌ names → i < length names → name ≡ get_or names i name → is_in name (take i names) ≡ false
