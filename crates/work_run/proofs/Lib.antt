@@ -1,3 +1,5 @@
 pub mod RunLemmas
+pub mod DrawnLemmas
+pub mod CrowdLemmas
 pub mod GroupRows
 pub mod ToldLemmas

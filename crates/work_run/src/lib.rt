@@ -4,7 +4,9 @@
 //! specs/RunText.antt, which stands on Runs.antt.
 #![tactic(auto)]
 
+mod laws;
 mod run_text;
 mod steps;
 
+pub use laws::one_instance;
 pub use run_text::work_text;
