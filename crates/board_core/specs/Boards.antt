@@ -1,16 +1,21 @@
 -- A board: a project, and what is known of the groups that it keeps (own).
-use Rattle.std.specs.Prelude.{◌≤◌, ◌+◌, ◌⊎◌, ℕ, List, Contains}
+use Rattle.std.specs.Prelude.{◌≤◌, ◌+◌, ◌-◌, ◌^◌, ◌⊎◌, ℕ, List, Contains, min}
 use Rattle.project_model.specs.Items.{Item}
 use Rattle.project_model.specs.Projects.{ProjectData}
 use Rattle.board_core.specs.Bounds.{IsBound}
 use Rattle.board_core.specs.Changed.{TouchesSheet}
 
--- the project, the sheets whose groups are given up for want of memory, and the steps that the
--- groups took since the board was made
+-- the project, the sheets whose groups are given up for want of memory, the steps that groups took
+-- since the board was made, and the sum of those that its present groups have counted
 pub record BoardData : Type 0 where
   pub project : ProjectData
   pub invalidated : List (List ℕ)
   pub asked : ℕ
+  pub counted : ℕ
+
+-- what the present groups have counted is among the steps, as far as these go: to 2^64 - 1
+abbrev pub IsCounted : BoardData → Type 0
+IsCounted board = min board.counted (2 ^ 64 - 1) ≤ board.asked
 
 -- a change touches no sheet whose groups are given up
 abbrev pub AreKept : BoardData → List Item → Type 0

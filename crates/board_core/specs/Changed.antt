@@ -49,7 +49,7 @@ has_symbol_of items o = of_body o.body
 abbrev pub is_changed : List Item → ℕ × Placed → Bool
 is_changed items row = has_thing (is_object row.0) items || has_symbol_of items row.1.object
 
--- an object of a project that a change touches stands on the sheet
+-- an object of a project that a change touches names the sheet, which need not be there itself
 pub record HasChanged (p : ProjectData) (items : List Item) (sheet : List ℕ) : Type 0 where
   pub id : ℕ
   pub placed : Placed
@@ -57,8 +57,8 @@ pub record HasChanged (p : ProjectData) (items : List Item) (sheet : List ℕ) :
   pub on_sheet : placed.sheet ≡ sheet
   pub changed : is_changed items (id, placed) ≡ true
 
--- a change touches a sheet: it has its name, or it touches an object that stands there before it or
--- after it
+-- a change touches a sheet: it has its name, or it touches an object that names it before the change
+-- or after it
 abbrev pub TouchesSheet : ProjectData → List Item → List ℕ → Type 0
 TouchesSheet p items sheet =
     (has_thing (is_sheet sheet) items ≡ true)

@@ -6,7 +6,7 @@ ghost use Rattle.project_model.specs.Changes.{CanApply, put};
 ghost use Rattle.sheet_groups.specs.Conductors.{sheet_conductors};
 ghost use Rattle.sheet_groups.specs.Groups.{AreGroups};
 ghost use Rattle.board_core.specs.Bounds.{IsBound};
-ghost use Rattle.board_core.specs.Boards.{MayGiveUp, RenewsGroups, StaysInBound};
+ghost use Rattle.board_core.specs.Boards.{IsCounted, MayGiveUp, RenewsGroups, StaysInBound};
 
 use crate::bound::bound_of;
 use crate::put_in::put_in;
@@ -31,13 +31,25 @@ impl Model for Board {
     ghost use Rattle.std.specs.Prelude.{[]};
     ghost use Rattle.std.specs.FinMap as map;
     ghost use Rattle.std.specs.Coded.{codes};
-    ghost use Rattle.board_core.specs.Boards.{BoardData};
+    ghost use Rattle.board_core.specs.Boards.{BoardData, IsCounted};
 
     ghost Value = { BoardData };
 
     ghost coded = { Prim.hlevel (codes, map.code) };
 
-    ghost view = { λ b. record { project = b.project.contents; invalidated = []; asked = 0 } };
+    ghost view = { λ b. record {
+      project = b.project.contents;
+      invalidated = [];
+      asked = 0;
+      counted = 0;
+    } };
+
+    ghost invariant = { λ b. IsCounted (record {
+      project = b.project.contents;
+      invalidated = [];
+      asked = 0;
+      counted = 0;
+    }) };
 }
 
 impl Board {
@@ -46,6 +58,7 @@ impl Board {
         ensures project { result.project ≡ empty_project }
         ensures fresh { result.invalidated ≡ [] }
         ensures asked { result.asked ≡ 0 }
+        ensures counted { result.counted ≡ 0 }
     {
         Board {
             project: Project::new(alloc),
@@ -59,6 +72,7 @@ impl Board {
         ensures fresh { IfOk result (λ board. board.invalidated ≡ []) }
         ensures few { IfOk result
             (λ board. board.asked ≤ length (sheet_conductors project.now.contents)) }
+        ensures counted { IfOk result IsCounted }
     {
         Ok(Board {
             project: project.copy(alloc)?,
@@ -92,9 +106,11 @@ impl Board {
     }
 
     /// The steps that its groups took since the board was made, at most 2^64 - 1. One step asks
-    /// which conductors touch a given one. It takes no memory.
+    /// which conductors touch a given one. They are at least those that its present groups have
+    /// counted, or 2^64 - 1. It takes no memory.
     pub fn asked(&self) -> u64
-        ensures { result ≡ self.now.asked }
+        ensures asked { result ≡ self.now.asked }
+        ensures counted { IsCounted self.now }
     {
         let _ = &self.project;
         0
@@ -102,9 +118,10 @@ impl Board {
 
     /// Puts a change in (docs/RULES.md, "Groups").
     ///
-    /// On AllocError the project is as before, and the groups of sheets that the change touches may
-    /// be given up. Otherwise the groups of each sheet that it touches are kept afterwards. Its
-    /// steps stay within `bound`, where the groups of all touched sheets were kept.
+    /// A sheet is known by the name that its objects give, whether or not the project has a version
+    /// line for it. On AllocError the project is as before, and the groups of sheets that the
+    /// change touches may be given up. Otherwise the groups of each sheet that it touches are kept
+    /// afterwards. Its steps stay within `bound`, where the groups of all touched sheets were kept.
     pub fn apply(&mut self, alloc: Global, change: &Change) -> Result<(), AllocError>
         requires { CanApply change.now.items }
         ensures ok { OnOk result (self.new.project ≡ put self.old.project change.now.items) }
@@ -112,6 +129,7 @@ impl Board {
         ensures renewed { OnOk result (RenewsGroups self.old change.now.items self.new) }
         ensures given_up { OnErr result (MayGiveUp self.old change.now.items self.new) }
         ensures later { self.old.asked ≤ self.new.asked }
+        ensures counted { IsCounted self.new }
         ensures few { StaysInBound self.old change.now.items self.new }
     {
         put_in(alloc, &mut self.project, change)
