@@ -12,7 +12,8 @@ use Rattle.link_classes.specs.declared.conductors.FlatConductor.{FlatConductor}
 use Rattle.link_classes.specs.declared.conductors.PortPins.{PortPins}
 use Rattle.link_classes.specs.Links.{AreTied, AtPlaces, LeadsTo}
 use Rattle.link_classes.specs.steps.FirstPlaces.{pair_with}
-use Rattle.link_classes.specs.steps.PortPlaces.{HasPlaces, Joins, Notes, TiesPorts, Way, by_pins, down, found_for, up}
+use Rattle.link_classes.specs.PinOrder.{by_pins}
+use Rattle.link_classes.specs.steps.PortPlaces.{HasPlaces, Joins, Notes, TiesPorts, Way, down, found_for, up}
 use Rattle.pair_classes.specs.Pairs.{IsSameAt, Spans}
 use Rattle.pair_classes.proofs.ListLemmas.{earlier_or_here, none_is_in}
 use Rattle.link_classes.proofs.ListLemmas.{no_conductor}

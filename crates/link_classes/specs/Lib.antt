@@ -1,3 +1,4 @@
 pub mod Links
+pub mod PinOrder
 pub mod InstanceGroups
 pub mod steps

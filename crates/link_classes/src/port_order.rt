@@ -22,7 +22,7 @@ impl PartialEq for PortPins {
     ghost use Rattle.std.proofs.Common.{rules};
     ghost use Rattle.std.specs.Cmp.Rules.{comparing};
     ghost use Rattle.std.specs.Ordering.{eq_by_cmp};
-    ghost use Rattle.link_classes.specs.steps.PortPlaces.{by_pins};
+    ghost use Rattle.link_classes.specs.PinOrder.{by_pins};
 
     ghost eq = { eq_by_cmp by_pins };
 
@@ -46,7 +46,7 @@ impl PartialOrd for PortPins {
     ghost use Rattle.std.specs.Cmp.{partial_order_from_own_ties};
     ghost use Rattle.std.specs.Cmp.Rules.{comparing};
     ghost use Rattle.std.specs.Ordering.{as_partial_cmp};
-    ghost use Rattle.link_classes.specs.steps.PortPlaces.{by_pins};
+    ghost use Rattle.link_classes.specs.PinOrder.{by_pins};
 
     ghost partial_cmp = { as_partial_cmp by_pins };
 
@@ -61,7 +61,7 @@ impl PartialOrd for PortPins {
 impl Ord for PortPins {
     ghost use Rattle.std.proofs.Common.{rules};
     ghost use Rattle.std.specs.Cmp.Rules.{comparing};
-    ghost use Rattle.link_classes.specs.steps.PortPlaces.{by_pins};
+    ghost use Rattle.link_classes.specs.PinOrder.{by_pins};
 
     ghost cmp = { by_pins };
 

@@ -2,19 +2,12 @@
 -- A place of each pins above a port, and of each that a port stands for, and the pairs of places
 -- that ports tie (own).
 use Rattle.std.specs.Prelude.{◌≡◌, ℕ, ◌<◌, List, cond, Option, Some, None, slice_index_or, Contains}
-use Rattle.std.specs.declared.cmp.Ordering.{Ordering}
-use Rattle.std.specs.Ordering.{ordering_then, nat_cmp, is_eq}
-use Rattle.std.specs.Cmp.Lexicographic.{slice_cmp}
+use Rattle.std.specs.Ordering.{is_eq}
 use Rattle.std.specs.BTreeMap.{BTreeMap, get}
 use Rattle.link_classes.specs.Links.{AreTied, AtPlaces}
+use Rattle.link_classes.specs.PinOrder.{by_pins}
 use Rattle.link_classes.specs.declared.conductors.FlatConductor.{FlatConductor}
 use Rattle.link_classes.specs.declared.conductors.PortPins.{PortPins}
-
--- by instance, id and label
-abbrev pub by_pins : PortPins → PortPins → Ordering
-by_pins a b = ordering_then
-    (ordering_then (nat_cmp a.instance b.instance) (nat_cmp a.id b.id))
-    (slice_cmp nat_cmp a.label b.label)
 
 -- what a map has for pins
 abbrev pub place_of : BTreeMap PortPins ℕ → PortPins → Option ℕ
