@@ -1,0 +1,4 @@
+pub mod StemLemmas
+pub mod NumberLemmas
+pub mod UsedLemmas
+pub mod ContentLemmas
