@@ -1,4 +1,5 @@
 pub mod Counts
+pub mod Faults
 pub mod MemoryFolder
 pub mod FileReads
 pub mod Gathering

@@ -1,6 +1,7 @@
 // Why there is no project of the files.
 ghost use Rattle.std.specs.Prelude.{◌≡◌};
-ghost use Rattle.project_files.specs.steps.Passing.{IsFaultOfFolder, IsRefusalOf};
+ghost use Rattle.project_files.specs.Faults.{IsFaultOfFolder};
+ghost use Rattle.project_files.specs.steps.Passing.{IsRefusalOf};
 ghost use Rattle.project_files.specs.declared.fault.FileFault.TheVariants.{NoMemory};
 
 use crate::folder::FolderFault;

@@ -12,7 +12,7 @@ use Rattle.reports.specs.declared.fault.ReportFault.TheVariants as faults
 use Rattle.reports.specs.declared.what.What.TheVariants.{Net, Drc}
 use Rattle.reports.specs.NetLists.{CheckData, Elaborates, OfNetList, checked, seen}
 use Rattle.reports.specs.Reports.{Reports}
-use Rattle.reports.specs.steps.Faults.{FromElaboration}
+use Rattle.reports.specs.Faults.{FromElaboration}
 use Rattle.reports.proofs.NetListLemmas.{further}
 
 -- the fault of a report by a fault of the hierarchy

@@ -1,3 +1,4 @@
+pub mod Faults
 pub mod NetLists
 pub mod SheetTexts
 pub mod Reports

@@ -1,7 +1,7 @@
 // Why there is no report.
 ghost use Rattle.std.specs.Prelude.{◌≡◌};
 ghost use Rattle.reports.specs.declared.fault.ReportFault.TheVariants.{NoMemory};
-ghost use Rattle.reports.specs.steps.Faults.{FromElaboration};
+ghost use Rattle.reports.specs.Faults.{FromElaboration};
 
 use hierarchy::ElabFault;
 use std::alloc::{AllocError, AllocFailed};

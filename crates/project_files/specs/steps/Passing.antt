@@ -3,15 +3,8 @@
 use Rattle.std.specs.Prelude.{◌≡◌, ℕ, List}
 use Rattle.project_files.specs.declared.fault.FileFault.{FileFault}
 use Rattle.geda_read.specs.declared.fault.ReadFault.{ReadFault}
-use Rattle.project_files.specs.declared.folder.FolderFault.{FolderFault}
 use Rattle.geda_read.specs.declared.fault.ReadFault.TheVariants as read
 use Rattle.project_files.specs.declared.fault.FileFault.TheVariants as faults
-use Rattle.project_files.specs.declared.folder.FolderFault.TheVariants as folder
-
--- what a fault of the folder becomes
-abbrev pub IsFaultOfFolder : FolderFault → FileFault → Type 0
-IsFaultOfFolder folder.Failed e = e ≡ faults.FolderFault
-IsFaultOfFolder folder.NoMemory e = e ≡ faults.NoMemory
 
 -- what a fault of the reader becomes
 abbrev pub IsRefusalOf : List ℕ → ReadFault → FileFault → Type 0
