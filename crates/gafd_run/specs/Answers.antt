@@ -6,8 +6,6 @@ use Rattle.geda_defs.specs.Contents.{Files}
 use Rattle.project_model.specs.Projects.{ProjectData}
 use Rattle.geda_grammar.specs.Faults.{sheet_file, symbol_file}
 use Rattle.geda_grammar.specs.Canonical.{sheet_text, symbol_text}
-use Rattle.hierarchy.specs.declared.fault.ElabFault.{ElabFault}
-use Rattle.hierarchy.specs.declared.fault.ElabFault.TheVariants as elaboration
 use Rattle.net_names.specs.declared.nets.Nets.{Nets}
 use Rattle.backends.specs.declared.form.Form.{Form}
 use Rattle.backends.specs.Forms.{net_text}
@@ -108,16 +106,10 @@ CheckOf files matrix names outcome =
     × Then read
     (λ levels end. OfFiles files (λ known. SheetsOf (checked levels) known names end)) outcome
 
--- the text of the work goes out, or there is none
-abbrev pub worked : Result (List ℕ) ElabFault → Outcome
-worked (Ok text) = done text
-worked (Err elaboration.TooManyInstances) = Err faults.TooManyInstances
-worked (Err elaboration.NoMemory) = Err faults.NoMemory
-
--- what so many steps of the work from a start come to
+-- what so many steps of the work from a start come to: their text goes out
 abbrev pub WorkOf : ℕ → ℕ → Outcome → Type 0
-WorkOf start count outcome = (told : Result (List ℕ) ElabFault) × WorkComesTo start count told
-    × (outcome ≡ worked told)
+WorkOf start count outcome =
+    (text : List ℕ) × WorkComesTo start count text × (outcome ≡ done text)
 
 -- what a command comes to over the files that a folder tells
 abbrev pub CommandComesTo : Option Files → Command → Outcome → Type 0

@@ -1,15 +1,13 @@
 -- What is told of a run of the work (own).
-use Rattle.std.specs.Prelude.{◌≤◌, ◌==◌, ◌&&◌, ℕ, Bool, List, ◌∷◌, ◌++◌, Result, length, codes, count_by}
+use Rattle.std.specs.Prelude.{◌≡◌, ◌≤◌, ◌==◌, ◌&&◌, ℕ, Bool, List, ◌∷◌, ◌++◌, length, codes, count_by}
 use Rattle.std.specs.FinMap.{entries}
 use Rattle.std.specs.Fmt.{decimal}
 use Rattle.geda_defs.specs.Lines.{ended}
 use Rattle.geda_geom.specs.declared.conductor.Key.{Key}
 use Rattle.net_names.specs.declared.nets.Nets.{Nets}
+use Rattle.net_names.specs.NetLists.{IsNetListOf}
 use Rattle.sheet_groups.specs.Conductors.{sheet_conductors}
 use Rattle.sheet_groups.specs.Groups.{AreGroups}
-use Rattle.hierarchy.specs.declared.fault.ElabFault.{ElabFault}
-use Rattle.hierarchy.specs.declared.fault.ElabFault.TheVariants as faults
-use Rattle.reports.specs.NetLists.{OfNetList}
 use Rattle.work_run.specs.Runs.{IsRun, RunData}
 
 -- a number under its name
@@ -32,14 +30,14 @@ run_text start count run groups calls nets =
     ++ named_number (codes "bound") run.bound
     ++ named_number (codes "calls") calls
 
--- what is told of the run of so many steps from a start: the steps of its groups are within the sum
--- of the bounds
-pub record WorkComesTo (start count : ℕ) (outcome : Result (List ℕ) ElabFault) : Type 0 where
+-- the text of so many steps from a start: the steps of its groups are within the sum of the bounds
+pub record WorkComesTo (start count : ℕ) (text : List ℕ) : Type 0 where
   pub run : RunData
   pub is_run : IsRun start count run
   pub groups : List (Key × Key)
   pub are_groups : AreGroups (sheet_conductors run.project) groups
+  pub nets : Nets
+  pub is_net_list : IsNetListOf run.project nets
   pub calls : ℕ
   pub few : calls ≤ run.bound
-  pub told : OfNetList faults.TooManyInstances (run_text start count run groups calls)
-      run.project outcome
+  pub told : text ≡ run_text start count run groups calls nets

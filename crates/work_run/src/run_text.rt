@@ -5,7 +5,8 @@ ghost use Rattle.std.specs.Fmt.{decimal};
 ghost use Rattle.std.specs.String.{string_bytes};
 ghost use Rattle.sheet_groups.specs.Conductors.{sheet_conductors};
 ghost use Rattle.sheet_groups.specs.Groups.{AreGroups};
-ghost use Rattle.reports.specs.NetLists.{Elaborates, seen};
+ghost use Rattle.hierarchy.specs.Instances.{IsCrowded};
+ghost use Rattle.net_names.specs.NetLists.{IsNetListOf};
 ghost use Rattle.work_run.specs.RunText.{WorkComesTo, is_first, named_number, run_text};
 ghost use Rattle.work_run.specs.steps.SoundRuns.{run_of};
 
@@ -62,16 +63,27 @@ fn told(
     Ok(text.into_bytes())
 }
 
+/// The net list of a project within the limits of a hierarchy.
+fn nets_of(alloc: Global, project: &Project) -> Result<Nets, AllocError>
+    requires { ¬ (IsCrowded project.now.contents) }
+    ensures { IfOk result (IsNetListOf project.now.contents) }
+{
+    match net_list(alloc, project) {
+        Ok(nets) => Ok(nets),
+        Err(ElabFault::NoMemory) => Err(AllocError),
+        Err(ElabFault::TooManyInstances) => unreachable!(),
+    }
+}
+
 /// Makes so many steps of the work from a start on one board (docs/RULES.md, "Work"), and tells
 /// what they come to (docs/FORMATS.md, "Work text").
-///
-/// `TooManyInstances` exactly where the project that they make exceeds the limits of a hierarchy.
-pub fn work_text(alloc: Global, start: u32, count: u32) -> Result<Vec<u8>, ElabFault>
+#[tactic(auto, using(crate::proofs::CrowdLemmas::run_is_free))]
+pub fn work_text(alloc: Global, start: u32, count: u32) -> Result<Vec<u8>, AllocError>
     requires few { count ≤ 100000 }
-    ensures { Elaborates (WorkComesTo start count) (seen result) }
+    ensures { IfOk result (λ text. WorkComesTo start count text.items) }
 {
     let run = run_from(alloc, start, count)?;
     let groups = run.board.local_groups(alloc)?;
-    let nets = net_list(alloc, run.board.project())?;
-    Ok(told(alloc, (start, count), &run, &groups, &nets)?)
+    let nets = nets_of(alloc, run.board.project())?;
+    told(alloc, (start, count), &run, &groups, &nets)
 }

@@ -1,22 +1,14 @@
 use Rattle.std.proofs.Common.{ap, subst, ◌∙◌}
-use Rattle.std.proofs.lemmas.Result.{err_from_is_err_and}
 use Rattle.sheet_groups.specs.Conductors.{sheet_conductors}
 use Rattle.sheet_groups.specs.Groups.{AreGroups}
 use Rattle.work_run.specs.steps.SoundRuns.{OpenRun}
-use Rattle.work_run.proofs.ToldLemmas.{WorkComesTo-fault, WorkComesTo-text}
+use Rattle.work_run.proofs.ToldLemmas.{WorkComesTo-text}
 use Rattle.work_run.proofs.run_text.work_text.Goals as goal
-
-pub returns-in_err-nets : goal.returns-in_err-nets
-returns-in_err-nets c =
-    let fault = err_from_is_err_and c.from_residual-in_err-nets.result c.from_residual-in_err-nets.ensures.1 in
-    let groups = c.in_ok-groups.groups.entries in
-    let are_groups = subst (λ (run : OpenRun). AreGroups (sheet_conductors run.board.project) groups) c.run.view_is c.in_ok-groups.ensures in
-    let same = c.project.ensures ∙ ap (λ (run : OpenRun). run.board.project) c.run.view_is in
-    rw (fault.1, fault.2) (WorkComesTo-fault c.args.start c.args.count c.in_ok-run.run' c.project.result.now.contents groups c.in_err-nets.field-0.0 same c.in_ok-run.ensures.run are_groups c.in_err-nets.ensures)
 
 pub returns : goal.returns
 returns c =
     let groups = c.in_ok-groups.groups.entries in
     let are_groups = subst (λ (run : OpenRun). AreGroups (sheet_conductors run.board.project) groups) c.run.view_is c.in_ok-groups.ensures in
     let same = c.project.ensures ∙ ap (λ (run : OpenRun). run.board.project) c.run.view_is in
-    WorkComesTo-text c.args.start c.args.count c.in_ok-run.run' c.project.result.now.contents groups c.in_ok-nets.nets c.in_ok-told.field-0.items same c.in_ok-run.ensures.run c.in_ok-run.ensures.sound c.in_ok-told.ensures.calls are_groups c.in_ok-nets.ensures c.in_ok-told.ensures.text
+    WorkComesTo-text c.args.start c.args.count c.in_ok-run.run' c.project.result.now.contents groups c.in_ok-nets.nets c.in_ok-told.field-0.items
+    same c.in_ok-run.ensures.run c.in_ok-run.ensures.sound c.in_ok-told.ensures.calls are_groups c.in_ok-nets.ensures c.in_ok-told.ensures.text
