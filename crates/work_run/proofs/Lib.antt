@@ -3,3 +3,4 @@ pub mod DrawnLemmas
 pub mod CrowdLemmas
 pub mod GroupRows
 pub mod ToldLemmas
+pub mod OneWork

@@ -41,3 +41,11 @@ pub record WorkComesTo (start count : ℕ) (text : List ℕ) : Type 0 where
   pub calls : ℕ
   pub few : calls ≤ run.bound
   pub told : text ≡ run_text start count run groups calls nets
+
+-- two texts are the same but for the number in their last line, that of the calls
+pub record AgreeButForCalls (one other : List ℕ) : Type 0 where
+  pub front : List ℕ
+  pub calls : ℕ
+  pub other_calls : ℕ
+  pub one_is : one ≡ front ++ named_number (codes "calls") calls
+  pub other_is : other ≡ front ++ named_number (codes "calls") other_calls

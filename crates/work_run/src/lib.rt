@@ -8,5 +8,5 @@ mod laws;
 mod run_text;
 mod steps;
 
-pub use laws::one_instance;
+pub use laws::{one_instance, one_work};
 pub use run_text::work_text;
