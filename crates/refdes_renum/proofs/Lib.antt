@@ -2,3 +2,4 @@ pub mod StemLemmas
 pub mod NumberLemmas
 pub mod UsedLemmas
 pub mod ContentLemmas
+pub mod LawLemmas

@@ -1,3 +1,4 @@
 pub mod Numbers
 pub mod Renumbering
 pub mod steps
+pub mod Laws

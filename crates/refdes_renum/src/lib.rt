@@ -5,10 +5,12 @@
 #![tactic(auto)]
 
 mod components;
+mod laws;
 mod place;
 mod places;
 mod renumbering;
 mod stems;
 mod used;
 
+pub use laws::{renumbered_distinct, renumbered_replaced};
 pub use renumbering::renumber;
