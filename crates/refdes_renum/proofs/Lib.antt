@@ -3,3 +3,4 @@ pub mod NumberLemmas
 pub mod UsedLemmas
 pub mod ContentLemmas
 pub mod LawLemmas
+pub mod LeastLemmas

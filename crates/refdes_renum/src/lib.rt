@@ -12,5 +12,5 @@ mod renumbering;
 mod stems;
 mod used;
 
-pub use laws::{renumbered_distinct, renumbered_replaced};
+pub use laws::{least_is_free, renumbered_distinct, renumbered_replaced};
 pub use renumbering::renumber;
