@@ -6,7 +6,11 @@
 #![tactic(auto)]
 
 mod answers;
+mod attributes;
 mod entries;
+mod motions;
+mod numbers;
+mod reading;
 
 use answers::EditAnswers;
 use case_tables::report;
