@@ -77,7 +77,6 @@ fn nets_of(alloc: Global, project: &Project) -> Result<Nets, AllocError>
 
 /// Makes so many steps of the work from a start on one board (docs/RULES.md, "Work"), and tells
 /// what they come to (docs/FORMATS.md, "Work text").
-#[tactic(auto, using(crate::proofs::CrowdLemmas::run_is_free))]
 pub fn work_text(alloc: Global, start: u32, count: u32) -> Result<Vec<u8>, AllocError>
     requires few { count ≤ 100000 }
     ensures { IfOk result (λ text. WorkComesTo start count text.items) }
@@ -85,5 +84,5 @@ pub fn work_text(alloc: Global, start: u32, count: u32) -> Result<Vec<u8>, Alloc
     let run = run_from(alloc, start, count)?;
     let groups = run.board.local_groups(alloc)?;
     let nets = nets_of(alloc, run.board.project())?;
-    told(alloc, (start, count), &run, &groups, &nets)
+    Ok(told(alloc, (start, count), &run, &groups, &nets)?)
 }

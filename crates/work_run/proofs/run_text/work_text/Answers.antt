@@ -1,9 +1,18 @@
-use Rattle.std.proofs.Common.{ap, subst, ◌∙◌}
+use Rattle.std.proofs.Common.{ap, subst, sym, ◌∙◌}
+use Rattle.hierarchy.specs.Instances.{IsCrowded}
+use Rattle.project_model.specs.Projects.{ProjectData}
 use Rattle.sheet_groups.specs.Conductors.{sheet_conductors}
 use Rattle.sheet_groups.specs.Groups.{AreGroups}
-use Rattle.work_run.specs.steps.SoundRuns.{OpenRun}
+use Rattle.work_run.specs.steps.SoundRuns.{OpenRun, run_of}
+use Rattle.work_run.proofs.CrowdLemmas.{run_is_free}
 use Rattle.work_run.proofs.ToldLemmas.{WorkComesTo-text}
 use Rattle.work_run.proofs.run_text.work_text.Goals as goal
+
+pub nets_of-requires : goal.nets_of-requires
+nets_of-requires c =
+    let same = c.project.ensures ∙ ap (λ (run : OpenRun). run.board.project) c.run.view_is in
+    subst (λ (p : ProjectData). IsCrowded p → ⊥) (sym same)
+    (run_is_free c.args.start c.args.count (run_of c.in_ok-run.run') c.requires.few c.in_ok-run.ensures.run)
 
 pub returns : goal.returns
 returns c =
