@@ -1,0 +1,6 @@
+pub mod LongerHistories
+pub mod Weighing
+pub mod EditedThings
+pub mod Accepting
+pub mod FitLemmas
+pub mod NumberLemmas

@@ -1,0 +1,10 @@
+pub mod Naming
+pub mod Altering
+pub mod EditChanges
+pub mod Histories
+pub mod EarlyLines
+pub mod LateLines
+pub mod Verdicts
+pub mod Fitting
+pub mod Weights
+pub mod steps
