@@ -1,23 +1,12 @@
 // Changes of one thing, and projects that are changed and changed back.
-ghost use Rattle.std.specs.Prelude.{◌≡◌, ◌∷◌, [], IfOk};
-ghost use Rattle.project_model.specs.Changes.{CanApply, IsIdInRange};
+ghost use Rattle.std.specs.Prelude.{IfOk};
+ghost use Rattle.project_model.specs.Changes.{CanApply};
 
 use crate::projects::{name_of, project_in, read};
 use case_tables::{CaseFault, TableFiles, number_of};
 use geda_read::read_symbol;
 use project_model::{Change, Project, Thing, Value};
 use std::alloc::{AllocError, Global};
-
-/// The change that gives one thing a value, or takes it out.
-#[tactic(auto, using(crate::proofs::OneChange::one_can_apply))]
-fn one_change(alloc: Global, thing: Thing, value: Option<Value>) -> Result<Change, AllocError>
-    requires { IsIdInRange thing }
-    ensures fits { IfOk result (λ change. CanApply change.items) }
-{
-    let mut change = Change::new(alloc);
-    change.push(thing, value)?;
-    Ok(change)
-}
 
 /// The change that gives the symbol of a name the parts of a file.
 fn symbol_change(
@@ -30,7 +19,7 @@ fn symbol_change(
 {
     let symbol = read(read_symbol(alloc, files.find(file)?))?;
     let thing = Thing::SymbolName(name_of(alloc, name)?);
-    Ok(one_change(alloc, thing, Some(Value::Symbol(symbol)))?)
+    Ok(Change::one(alloc, thing, Some(Value::Symbol(symbol)))?)
 }
 
 /// The change that takes an object out.
@@ -41,7 +30,7 @@ fn object_change(alloc: Global, id: &str) -> Result<Change, CaseFault>
     if id == 4294967295 {
         return Err(CaseFault::BadCase);
     }
-    Ok(one_change(alloc, Thing::Object(id), None)?)
+    Ok(Change::one(alloc, Thing::Object(id), None)?)
 }
 
 /// The change that words ask for: `2` takes that object out, and `a.sym=b.sym` gives a symbol the

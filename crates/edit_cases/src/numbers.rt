@@ -1,6 +1,5 @@
 // Projects whose components get numbers.
-ghost use Rattle.std.specs.Prelude.{IfOk};
-ghost use Rattle.project_model.specs.Changes.{CanApply, IsIdInRange};
+ghost use Rattle.project_model.specs.Changes.{IsIdInRange};
 
 use crate::reading::{name_of, read};
 use case_tables::{CaseFault, TableFiles};
@@ -10,22 +9,11 @@ use project_model::{Change, Placed, Project, Thing, Value};
 use refdes_renum::renumber;
 use std::alloc::{AllocError, Global};
 
-/// The change that gives one thing a value.
-#[tactic(auto, using(crate::proofs::OneChange::one_can_apply))]
-fn one_change(alloc: Global, thing: Thing, value: Value) -> Result<Change, AllocError>
-    requires { IsIdInRange thing }
-    ensures fits { IfOk result (λ change. CanApply change.items) }
-{
-    let mut change = Change::new(alloc);
-    change.push(thing, Some(value))?;
-    Ok(change)
-}
-
 /// Gives a thing of a project a value.
 fn put(alloc: Global, project: &mut Project, thing: Thing, value: Value) -> Result<(), AllocError>
     requires { IsIdInRange thing }
 {
-    let change = one_change(alloc, thing, value)?;
+    let change = Change::one(alloc, thing, Some(value))?;
     project.reserve(alloc, &change)?;
     project.apply(change);
     Ok(())

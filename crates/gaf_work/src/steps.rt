@@ -1,8 +1,8 @@
 // What a step does.
-ghost use Rattle.std.specs.Prelude.{◌≡◌, ◌∷◌, [], ◌<◌, ◌+◌, ◌^◌, ⊤};
+ghost use Rattle.std.specs.Prelude.{◌≡◌, ◌<◌, ◌+◌, ◌^◌, ⊤};
 ghost use Rattle.std.specs.Prelude.{IfOk, MatchOption, map, option_map};
 ghost use Rattle.std.specs.FinMap.{keys};
-ghost use Rattle.project_model.specs.Changes.{CanApply, IsIdInRange};
+ghost use Rattle.project_model.specs.Changes.{CanApply};
 ghost use Rattle.gaf_work.specs.DrawnSteps.{HasRoom, coming, id_at, leaving, step};
 
 use crate::names::sheet_name;
@@ -10,17 +10,6 @@ use crate::objects::{part, wire};
 use geda_model::Object;
 use project_model::{Change, Placed, Project, Thing, Value};
 use std::alloc::{AllocError, Global};
-
-/// The change of one thing.
-#[tactic(auto, using(crate::proofs::ChangeLemmas::one_can_apply))]
-fn change_of(alloc: Global, thing: Thing, value: Option<Value>) -> Result<Change, AllocError>
-    ensures items { IfOk result (λ change. change.items ≡ (thing, value) ∷ []) }
-    ensures can_apply { IsIdInRange thing → IfOk result (λ change. CanApply change.items) }
-{
-    let mut change = Change::new(alloc);
-    change.push(thing, value)?;
-    Ok(change)
-}
 
 /// The change that brings an object onto the sheet, under the next id.
 fn coming(alloc: Global, project: &Project, object: Object) -> Result<Change, AllocError>
@@ -31,7 +20,7 @@ fn coming(alloc: Global, project: &Project, object: Object) -> Result<Change, Al
         sheet: sheet_name(alloc)?,
         object,
     };
-    change_of(
+    Change::one(
         alloc,
         Thing::Object(project.next_id()),
         Some(Value::Object(placed)),
@@ -65,7 +54,7 @@ fn deletion(alloc: Global, project: &Project, q: u32) -> Result<Option<Change>, 
 {
     match id_at(alloc, project, q)? {
         None => Ok(None),
-        Some(id) => Ok(Some(change_of(alloc, Thing::Object(id), None)?)),
+        Some(id) => Ok(Some(Change::one(alloc, Thing::Object(id), None)?)),
     }
 }
 

@@ -14,6 +14,15 @@ use Rattle.project_model.specs.Changes.{IsIdInRange, values_in, value_at, CanApp
 pub CanApply-nil : CanApply []
 CanApply-nil = record { distinct = λ i j d lt end. absurd (omega arith); in_range = All-nil (λ (item : Item). IsIdInRange item.0) }
 
+-- the change of one thing
+pub one_can_apply : (thing : Thing) (value : Option Value) → IsIdInRange thing → CanApply ((thing, value) ∷ [])
+one_can_apply thing value h =
+    let item : Item = (thing, value) in
+    record {
+      distinct = λ i j d lt end. absurd (omega arith);
+      in_range = All-cons (λ (i : Item). IsIdInRange i.0) item [] h (All-nil _);
+    }
+
 -- one more thing, which no item has
 pub CanApply-push : (items : List Item) (thing : Thing) (value : Option Value) → CanApply items → All (λ (item : Item). item.0 ≢ thing) items → IsIdInRange thing → CanApply (items ++ (thing, value) ∷ [])
 CanApply-push items thing value built apart in_range =

@@ -1,6 +1,7 @@
 // Changes: things with their new values.
 ghost use Rattle.std.specs.Prelude.{◌≡◌, ◌≤◌, ◌++◌, ◌∷◌, [], IfOk, OnErr, OnOk, length};
-ghost use Rattle.project_model.specs.Changes.{as_placed, as_head, as_symbol, count_names};
+ghost use Rattle.project_model.specs.Changes.{CanApply, IsIdInRange, as_placed, as_head, as_symbol};
+ghost use Rattle.project_model.specs.Changes.{count_names};
 
 use geda_model::{Head, Items, Name, Object, Symbol};
 use std::alloc::{AllocError, Global};
@@ -51,6 +52,17 @@ impl Change {
         Change {
             items: Items::from_vec(Vec::new(alloc)),
         }
+    }
+
+    /// The change of one thing.
+    #[tactic(auto, using(crate::proofs::BuiltChanges::one_can_apply))]
+    pub fn one(alloc: Global, thing: Thing, value: Option<Value>) -> Result<Change, AllocError>
+        ensures items { IfOk result (λ change. change.items ≡ (thing, value) ∷ []) }
+        ensures can_apply { IsIdInRange thing → IfOk result (λ change. CanApply change.items) }
+    {
+        let mut change = Change::new(alloc);
+        change.push(thing, value)?;
+        Ok(change)
     }
 
     /// Puts an item behind the others. On want of memory they stay as they are.
