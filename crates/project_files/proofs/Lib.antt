@@ -2,7 +2,9 @@ pub mod Passing
 pub mod Reading
 mod AskingLemmas
 mod SheetLemmas
-mod TextLemmas
+pub mod TextLemmas
 mod OpeningLemmas
 mod ProjectLemmas
+pub mod WriteLemmas
+mod MeasureLemmas
 pub mod OneProject

@@ -41,7 +41,7 @@ past_limit most kept all within is =
     ltb_from_iff (λ e. let past = ltb-true most kept e in omega (arith, past, within, is), λ past. lt-ltb most kept (omega (arith, past, within, is)))
 
 -- two sums that stay at the end of their type
-both_sums : (one other kept first second : ℕ) → one ≡ min first (2 ^ 64 - 1) → other ≡ min second (2 ^ 64 - 1) → kept ≡ min (one + other) (2 ^ 64 - 1) → kept ≡ min (first + second) (2 ^ 64 - 1)
+pub both_sums : (one other kept first second : ℕ) → one ≡ min first (2 ^ 64 - 1) → other ≡ min second (2 ^ 64 - 1) → kept ≡ min (one + other) (2 ^ 64 - 1) → kept ≡ min (first + second) (2 ^ 64 - 1)
 both_sums one other kept first second p q r = omega (arith, p, q, r)
 
 -- the objects and the text of what is gathered

@@ -1,8 +1,10 @@
 pub mod Counts
 pub mod Faults
+pub mod FolderWrites
 pub mod MemoryFolder
 pub mod FileReads
 pub mod Gathering
 pub mod Opening
 pub mod ProjectFiles
+pub mod Measures
 pub mod steps

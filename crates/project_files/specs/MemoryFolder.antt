@@ -3,7 +3,8 @@ use Rattle.std.specs.Prelude.{ℕ, if◌then◌else◌, List, [], ◌∷◌, Som
 use Rattle.std.specs.declared.option.Option.{Option}
 use Rattle.std.specs.Str.{bytes_eq}
 use Rattle.std.specs.declared.alloc.Global.{Global}
-use Rattle.std.specs.BTreeMap.{BTreeMap}
+use Rattle.std.specs.BTreeMap.{BTreeMap, insert_entry}
+use Rattle.geda_defs.specs.Order.{by_bytes}
 use Rattle.project_files.specs.Counts.{one_more}
 
 -- files by name, the numbers of the calls that fail, and how many calls there were and failed
@@ -26,10 +27,19 @@ file_in (file ∷ files) name = if bytes_eq file.0 name then Some file.1 else fi
 abbrev pub FolderFails : MemoryFolderData → Type 0
 FolderFails folder = Contains folder.failing (one_more folder.calls)
 
--- the folder after a call that did not fail, whether or not there was memory
+-- the folder after a call that did not fail and wrote nothing, whether or not there was memory
 abbrev pub folder_after_read : MemoryFolderData → MemoryFolderData
 folder_after_read folder = record {
   files = folder.files;
+  failing = folder.failing;
+  calls = one_more folder.calls;
+  faults = folder.faults;
+}
+
+-- the folder after a call that wrote a file
+abbrev pub folder_after_write : MemoryFolderData → List ℕ → List ℕ → MemoryFolderData
+folder_after_write folder name bytes = record {
+  files = insert_entry by_bytes folder.files name bytes;
   failing = folder.failing;
   calls = one_more folder.calls;
   faults = folder.faults;

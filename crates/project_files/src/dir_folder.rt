@@ -2,6 +2,7 @@
 ghost use Rattle.std.specs.Prelude.{None};
 
 use crate::folder::{Folder, FolderFault, MOST_READ_BYTES};
+use crate::replacing::replace_file;
 use std::alloc::Global;
 use std::io::Read;
 use std::rt::Files;
@@ -48,6 +49,17 @@ impl<R: Files + AllocGlobal> Folder for DirFolder<'_, R> {
                     Err(FolderFault::Failed)
                 }
             },
+        }
+    }
+
+    fn write(&mut self, alloc: Global, name: &str, bytes: &[u8]) -> Result<(), FolderFault> {
+        match replace_file(self.rt, alloc, name, bytes) {
+            Ok(()) => Ok(()),
+            Err(fault) if fault.kind() == io::ErrorKind::OutOfMemory => Err(FolderFault::NoMemory),
+            Err(_) => {
+                self.faults = self.faults.saturating_add(1);
+                Err(FolderFault::Failed)
+            }
         }
     }
 }

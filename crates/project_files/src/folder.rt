@@ -1,8 +1,12 @@
 // A folder of files, and one in memory.
-ghost use Rattle.std.specs.Prelude.{◌≡◌, ℕ, Option, take, option_copied};
-ghost use Rattle.project_files.specs.MemoryFolder.{file_in, files_in};
+ghost use Rattle.std.specs.Prelude.{◌≡◌, ℕ, OnErr, OnOk, Option, take, option_copied};
+ghost use Rattle.std.specs.BTreeMap.{insert_entry};
 ghost use Rattle.geda_defs.specs.Causes.{HasCause};
 ghost use Rattle.geda_defs.specs.Contents.{Files, KeepsFiles, ReadsFile};
+ghost use Rattle.geda_defs.specs.Order.{by_bytes};
+ghost use Rattle.geda_model.specs.Names.{IsName};
+ghost use Rattle.project_files.specs.FolderWrites.{WritesFile};
+ghost use Rattle.project_files.specs.MemoryFolder.{file_in, files_in};
 ghost use Rattle.project_files.specs.declared.folder.FolderFault.TheVariants.{NoMemory};
 
 use crate::failing_calls::is_listed;
@@ -48,6 +52,15 @@ pub trait Folder {
         ensures file { ReadsFile (files self.old) name.now (λ v. v.items) result }
         ensures same { KeepsFiles (files self.old) (files self.new) }
         ensures cause { HasCause (faults self.old) (faults self.new) result FolderFault.Failed };
+
+    /// Puts these bytes in the place of a file, or makes it of them where there is none. The name
+    /// is a Name. After a fault nothing is said of that one file; all others stay.
+    ///
+    /// `Failed` only where the count of faults rose.
+    fn write(&mut self, alloc: Global, name: &str, bytes: &[u8]) -> Result<(), FolderFault>
+        requires name { IsName name.now }
+        ensures file { WritesFile (files self.old) (files self.new) name.now bytes.now result }
+        ensures cause { HasCause (faults self.old) (faults self.new) result FolderFault.Failed };
 }
 
 /// A folder in memory that tells its files.
@@ -92,6 +105,25 @@ fn first_bytes(bytes: &[u8]) -> &[u8]
     }
 }
 
+/// Gives the file of a name these bytes. The files stay where memory runs out, or the name is none.
+fn put_file(
+    alloc: Global,
+    files: &mut BTreeMap<Name, Vec<u8>>,
+    name: &str,
+    bytes: &[u8],
+) -> Result<(), AllocError>
+    ensures ok { OnOk result
+        (files_in files.new ≡ insert_entry by_bytes (files_in files.old) name.now bytes.now) }
+    ensures err { OnErr result (files_in files.new ≡ files_in files.old) }
+{
+    let Ok(name) = Name::new(alloc, name) else {
+        return Err(AllocError);
+    };
+    let bytes = bytes.to_vec(alloc)?;
+    files.insert(name, bytes)?;
+    Ok(())
+}
+
 impl MemoryFolder {
     ghost use Rattle.std.specs.Prelude.{◌≡◌, option_copied};
     ghost use Rattle.project_files.specs.MemoryFolder.{file_in, files_in};
@@ -120,11 +152,13 @@ impl MemoryFolder {
 }
 
 impl Folder for MemoryFolder {
-    ghost use Rattle.std.specs.Prelude.{◌≡◌, ◌↔◌, Some, IsErrOf};
+    ghost use Rattle.std.specs.Prelude.{◌≡◌, ◌↔◌, Some, IsErrOf, OnOk};
     ghost use Rattle.geda_defs.specs.Causes.{HasCause};
     ghost use Rattle.geda_defs.specs.Contents.{ReadsFile};
+    ghost use Rattle.geda_model.specs.Names.{IsName};
+    ghost use Rattle.project_files.specs.FolderWrites.{WritesFile};
     ghost use Rattle.project_files.specs.MemoryFolder.{FolderFails, file_in, folder_after_fault};
-    ghost use Rattle.project_files.specs.MemoryFolder.{folder_after_read};
+    ghost use Rattle.project_files.specs.MemoryFolder.{folder_after_read, folder_after_write};
 
     ghost files = { λ m. Some (file_in m.files) };
 
@@ -154,5 +188,32 @@ impl Folder for MemoryFolder {
             None => Ok(None),
             Some(bytes) => Ok(Some(first_bytes(bytes).to_vec(alloc)?)),
         }
+    }
+
+    /// Puts these bytes in the place of a file, or makes it of them where there is none. The name
+    /// is a Name.
+    ///
+    /// `Failed` exactly where the number of the call is in the list of those that fail. The count
+    /// of calls rises by one, with `Failed` the count of faults too. After a fault all files stay.
+    fn write(&mut self, alloc: Global, name: &str, bytes: &[u8]) -> Result<(), FolderFault>
+        requires name { IsName name.now }
+        ensures file { WritesFile (Some (file_in self.old.files)) (Some (file_in self.new.files))
+            name.now bytes.now result }
+        ensures cause { HasCause self.old.faults self.new.faults result FolderFault.Failed }
+        ensures failed { IsErrOf result FolderFault.Failed ↔ FolderFails self.old }
+        ensures after_fault { IsErrOf result FolderFault.Failed →
+            self.new ≡ folder_after_fault self.old }
+        ensures after_want { IsErrOf result FolderFault.NoMemory →
+            self.new ≡ folder_after_read self.old }
+        ensures after_write { OnOk result
+            (self.new ≡ folder_after_write self.old name.now bytes.now) }
+    {
+        self.calls = self.calls.saturating_add(1);
+        if is_listed(&self.failing, self.calls) {
+            self.faults = self.faults.saturating_add(1);
+            return Err(FolderFault::Failed);
+        }
+        put_file(alloc, &mut self.files, name, bytes)?;
+        Ok(())
     }
 }

@@ -98,6 +98,7 @@ pub fn gather<F: Folder>(
     ensures read { IsFolderAnswer (counts (F.faults folder.old) (F.faults folder.new))
         (ReadsFrom (F.files folder.old) names.now) (with_view (λ g. g) result) }
     ensures whole { IfOk result IsWhole }
+    ensures later { F.faults folder.old ≤ F.faults folder.new }
     ensures files { KeepsFiles (F.files folder.old) (F.files folder.new) }
 {
     let (mut asked, mut sheets) = read_words(alloc, names, folder)?;

@@ -17,10 +17,11 @@ mod gathering;
 mod opening;
 mod project;
 mod project_text;
+mod replacing;
 
 pub use dir_folder::DirFolder;
 pub use failing_calls::is_listed;
 pub use fault::FileFault;
 pub use file_reads::{sheet_in, symbol_in};
 pub use folder::{Folder, FolderFault, MemoryFolder};
-pub use project::project_of;
+pub use project::{MeasuredProject, measured_project_of, project_of};

@@ -51,7 +51,8 @@ fn bytes_of_symbol(symbol: &Option<Symbol>) -> u64
     }
 }
 
-fn bytes_of_symbols(symbols: &[(Name, Option<Symbol>)]) -> u64
+/// The bytes of the texts of symbols that were found.
+pub(crate) fn bytes_of_symbols(symbols: &[(Name, Option<Symbol>)]) -> u64
     ensures { result ≡ min (sum_by asked_bytes symbols.now) (2 ^ 64 - 1) }
 {
     let mut bytes: u64 = 0;
