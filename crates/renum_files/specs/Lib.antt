@@ -1,0 +1,2 @@
+pub mod RenumberedFiles
+pub mod steps
