@@ -1,0 +1,9 @@
+pub mod ListLemmas
+pub mod NumberLemmas
+pub mod TextLemmas
+pub mod OrderLemmas
+pub mod OneList
+pub mod FoundLemmas
+pub mod SlotdefLemmas
+pub mod LawLemmas
+pub mod Cases

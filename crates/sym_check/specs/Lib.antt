@@ -1,0 +1,9 @@
+pub mod FreeAttributes
+pub mod CheckedPins
+pub mod Slotdefs
+pub mod CheckedSymbols
+pub mod Findings
+pub mod Order
+pub mod Report
+pub mod Laws
+pub mod steps

@@ -1,0 +1,103 @@
+// One more finding.
+ghost use Rattle.std.specs.Prelude.{◌≡◌, ◌++◌, ◌∷◌, [], IfOk, OnOk};
+ghost use Rattle.std.specs.Fmt.{decimal};
+ghost use Rattle.printed_texts.specs.PrintedTexts.{word};
+ghost use Rattle.sym_check.specs.Findings.{a_warning, an_error, found_if};
+
+use crate::finding::SymFinding;
+use geda_model::Line;
+use printed_texts::{Words, name_words};
+use std::alloc::{AllocError, Global};
+
+/// Adds an error of a rule.
+pub fn push_error(found: &mut Vec<SymFinding>, code: u8, words: Line) -> Result<(), AllocError>
+    ensures { OnOk result (found.new.items ≡ found.old.items ++ an_error code words ∷ []) }
+{
+    let error = true;
+    found.push(SymFinding { code, error, words })?;
+    Ok(())
+}
+
+fn push_warning(found: &mut Vec<SymFinding>, code: u8, words: Line) -> Result<(), AllocError>
+    ensures { OnOk result (found.new.items ≡ found.old.items ++ a_warning code words ∷ []) }
+{
+    let error = false;
+    found.push(SymFinding { code, error, words })?;
+    Ok(())
+}
+
+/// Adds a warning without words, where a rule is broken.
+pub fn warn_if(
+    alloc: Global,
+    found: &mut Vec<SymFinding>,
+    is_broken: bool,
+    code: u8,
+) -> Result<(), AllocError>
+    ensures { OnOk result
+        (found.new.items ≡ found.old.items ++ found_if is_broken (a_warning code [])) }
+{
+    if is_broken {
+        push_warning(found, code, Words::new(alloc).line(alloc)?)?;
+    }
+    Ok(())
+}
+
+/// A number as a line.
+#[tactic(auto, using(printed_texts::proofs::DigitLemmas::number_again))]
+pub fn number_line(alloc: Global, number: u32) -> Result<Line, AllocError>
+    ensures { IfOk result (λ line. line ≡ decimal number) }
+{
+    let text = format!(in alloc; "{number}")?;
+    name_words(alloc, text.as_str())
+}
+
+/// Adds an error on a number, where a rule is broken.
+pub fn error_at(
+    alloc: Global,
+    found: &mut Vec<SymFinding>,
+    is_broken: bool,
+    code: u8,
+    number: u32,
+) -> Result<(), AllocError>
+    ensures { OnOk result
+        (found.new.items ≡ found.old.items ++ found_if is_broken (an_error code (decimal number))) }
+{
+    if is_broken {
+        push_error(found, code, number_line(alloc, number)?)?;
+    }
+    Ok(())
+}
+
+/// Adds a warning on a number, where a rule is broken.
+pub fn warn_at(
+    alloc: Global,
+    found: &mut Vec<SymFinding>,
+    is_broken: bool,
+    code: u8,
+    number: u32,
+) -> Result<(), AllocError>
+    ensures { OnOk result (found.new.items
+        ≡ found.old.items ++ found_if is_broken (a_warning code (decimal number))) }
+{
+    if is_broken {
+        push_warning(found, code, number_line(alloc, number)?)?;
+    }
+    Ok(())
+}
+
+/// Adds an error on a text, where a rule is broken.
+pub fn error_on(
+    alloc: Global,
+    found: &mut Vec<SymFinding>,
+    is_broken: bool,
+    code: u8,
+    text: &str,
+) -> Result<(), AllocError>
+    ensures { OnOk result (found.new.items
+        ≡ found.old.items ++ found_if is_broken (an_error code (word text.now))) }
+{
+    if is_broken {
+        push_error(found, code, name_words(alloc, text)?)?;
+    }
+    Ok(())
+}

@@ -1,0 +1,179 @@
+// The text of a report on symbols.
+ghost use Rattle.std.specs.Prelude.{◌≡◌, ◌++◌, IfOk, OnOk, count_by};
+ghost use Rattle.std.specs.List.{flat_map, list_any};
+ghost use Rattle.sym_check.specs.Report.{all_found, code_name, count_text, file_text};
+ghost use Rattle.sym_check.specs.Report.{finding_text, is_error, is_warning, level_word};
+ghost use Rattle.sym_check.specs.Report.{levels_text, report_text, words_text};
+
+use crate::finding::SymFinding;
+use geda_model::{Items, Name};
+use std::alloc::{AllocError, Global};
+
+/// A file with a symbol that was checked.
+#[derive(Debug, Drop)]
+pub struct CheckedFile {
+    /// The name of the file.
+    pub file: Name,
+    /// What is found in it, in the order of the report.
+    pub findings: Items<SymFinding>,
+}
+
+/// The name of a rule by its number.
+fn code_name(code: u8) -> &'static str
+    ensures { result.now ≡ code_name code }
+{
+    match code {
+        1 => "NoDevice",
+        2 => "NoRefdes",
+        3 => "NoPins",
+        4 => "MissingNumber",
+        5 => "MissingSeq",
+        6 => "DuplicateNumber",
+        7 => "DuplicateSeq",
+        8 => "MissingLabel",
+        9 => "BadPintype",
+        10 => "OffGrid",
+        11 => "BadNumslots",
+        12 => "MissingSlotdef",
+        13 => "DuplicateSlotdef",
+        14 => "BadSlotdef",
+        _ => "BadNet",
+    }
+}
+
+fn level_word(error: bool) -> &'static str
+    ensures { result.now ≡ level_word error }
+{
+    if error { "error" } else { "warning" }
+}
+
+fn put_words(out: &mut Vec<u8>, words: &str) -> Result<(), AllocError>
+    ensures { OnOk result (out.new.items ≡ out.old.items ++ words_text words.now) }
+{
+    let bytes = words.as_bytes();
+    match bytes {
+        [] => Ok(()),
+        [..] => {
+            out.push(b' ')?;
+            out.extend_from_slice(bytes)
+        }
+    }
+}
+
+fn put_finding(out: &mut Vec<u8>, finding: &SymFinding) -> Result<(), AllocError>
+    ensures { OnOk result (out.new.items ≡ out.old.items ++ finding_text finding.now) }
+{
+    out.extend_from_slice(level_word(finding.error).as_bytes())?;
+    out.push(b' ')?;
+    out.extend_from_slice(code_name(finding.code).as_bytes())?;
+    put_words(out, finding.words.as_str())?;
+    out.push(b'\n')?;
+    Ok(())
+}
+
+fn put_findings(out: &mut Vec<u8>, findings: &[SymFinding]) -> Result<(), AllocError>
+    ensures { OnOk result (out.new.items ≡ out.old.items ++ flat_map finding_text findings.now) }
+{
+    for finding in findings {
+        put_finding(out, finding)?;
+    }
+    Ok(())
+}
+
+fn put_count(alloc: Global, out: &mut Vec<u8>, file: &str, count: usize) -> Result<(), AllocError>
+    ensures { OnOk result (out.new.items ≡ out.old.items ++ count_text file.now count) }
+{
+    let line = format!(in alloc; "{file}: findings {count}\n")?;
+    out.extend_from_slice(line.as_bytes())
+}
+
+fn put_file(alloc: Global, out: &mut Vec<u8>, file: &CheckedFile) -> Result<(), AllocError>
+    ensures { OnOk result (out.new.items ≡ out.old.items ++ file_text file.now) }
+{
+    put_count(alloc, out, file.file.as_str(), file.findings.len())?;
+    put_findings(out, file.findings.as_slice())
+}
+
+fn put_files(alloc: Global, out: &mut Vec<u8>, files: &[CheckedFile]) -> Result<(), AllocError>
+    ensures { OnOk result (out.new.items ≡ out.old.items ++ flat_map file_text files.now) }
+{
+    for file in files {
+        put_file(alloc, out, file)?;
+    }
+    Ok(())
+}
+
+fn count_errors(findings: &[SymFinding]) -> usize
+    ensures { result ≡ count_by is_error findings.now }
+{
+    findings.iter().filter(|finding| finding.error).count()
+}
+
+fn count_warnings(findings: &[SymFinding]) -> usize
+    ensures { result ≡ count_by is_warning findings.now }
+{
+    findings.iter().filter(|finding| !finding.error).count()
+}
+
+/// How many errors are found in all files.
+fn all_errors(files: &[CheckedFile]) -> u128
+    ensures { result ≡ count_by is_error (all_found files.now) }
+{
+    let mut errors: u128 = 0;
+    for file in files {
+        errors += count_errors(file.findings.as_slice()) as u128;
+    }
+    errors
+}
+
+/// How many warnings are found in all files.
+fn all_warnings(files: &[CheckedFile]) -> u128
+    ensures { result ≡ count_by is_warning (all_found files.now) }
+{
+    let mut warnings: u128 = 0;
+    for file in files {
+        warnings += count_warnings(file.findings.as_slice()) as u128;
+    }
+    warnings
+}
+
+fn put_levels(
+    alloc: Global,
+    out: &mut Vec<u8>,
+    errors: u128,
+    warnings: u128,
+) -> Result<(), AllocError>
+    ensures { OnOk result (out.new.items ≡ out.old.items ++ levels_text errors warnings) }
+{
+    let line = format!(in alloc; "errors {errors} warnings {warnings}\n")?;
+    out.extend_from_slice(line.as_bytes())
+}
+
+/// The text of a report on these files, in their order (docs/FORMATS.md, "Symbol report").
+pub fn report_text(alloc: Global, files: &[CheckedFile]) -> Result<Vec<u8>, AllocError>
+    ensures { IfOk result (λ text. text.items ≡ report_text files.now) }
+{
+    let mut out = Vec::new(alloc);
+    put_files(alloc, &mut out, files)?;
+    put_levels(alloc, &mut out, all_errors(files), all_warnings(files))?;
+    Ok(out)
+}
+
+fn has_error(findings: &[SymFinding]) -> bool
+    ensures { result ≡ list_any is_error findings.now }
+{
+    findings.iter().any(|finding| finding.error)
+}
+
+/// Whether an error is found in some file. It takes no memory.
+#[tactic(auto, using(crate::proofs::ListLemmas::any_append))]
+pub fn has_errors(files: &[CheckedFile]) -> bool
+    ensures { result ≡ list_any is_error (all_found files.now) }
+{
+    for file in files {
+        if has_error(file.findings.as_slice()) {
+            return true;
+        }
+    }
+    false
+}
