@@ -13,7 +13,7 @@ use Rattle.backends.specs.declared.form.Form.{Form}
 use Rattle.backends.specs.declared.form.Form.TheVariants as forms
 use Rattle.option_words.specs.Words.{Parts, parts_of}
 use Rattle.command_words.specs.declared.command.Command.{Command}
-use Rattle.command_words.specs.declared.command.Command.TheVariants.{Netlist, Drc, Export, Work}
+use Rattle.command_words.specs.declared.command.Command.TheVariants.{Netlist, Drc, Export, Symcheck, Renumber, Work}
 
 -- the greatest number of steps of the work
 abbrev pub most_steps : ℕ
@@ -72,6 +72,14 @@ abbrev pub export_of : List (List ℕ) → Option Command
 export_of (word ∷ []) = option_map Export (file_of word)
 export_of words = None
 
+-- the check of the symbols that are named: one or more files that differ
+abbrev pub symcheck_of : List (List ℕ) → Option Command
+symcheck_of words = option_map Symcheck (sheets_of words)
+
+-- the numbering of the sheets that are named
+abbrev pub renumber_of : List (List ℕ) → Option Command
+renumber_of words = option_map Renumber (sheets_of words)
+
 -- 1 to 10 digits
 abbrev pub is_number : List ℕ → Bool
 is_number word =
@@ -99,6 +107,10 @@ command_with command words =
     then option_and_then drc_of (parts_of (Some (codes "matrix")) words)
     else if bytes_eq command (codes "export")
     then option_and_then (λ parts. export_of parts.words) (parts_of None words)
+    else if bytes_eq command (codes "symcheck")
+    then option_and_then (λ parts. symcheck_of parts.words) (parts_of None words)
+    else if bytes_eq command (codes "renumber")
+    then option_and_then (λ parts. renumber_of parts.words) (parts_of None words)
     else if bytes_eq command (codes "work")
     then option_and_then (λ parts. work_of parts.words) (parts_of None words)
     else None
@@ -108,9 +120,11 @@ abbrev pub command_of : List (String Global) → Option Command
 command_of [] = None
 command_of (command ∷ words) = command_with (string_bytes command) (map string_bytes words)
 
--- the sheets of a command differ, and its steps are not too many
+-- the files of a command differ, and its steps are not too many
 abbrev pub IsAskable : Command → Type 0
 IsAskable (Netlist form sheets) = AllPairs ◌≢◌ sheets
 IsAskable (Drc matrix sheets) = AllPairs ◌≢◌ sheets
 IsAskable (Export file) = ⊤
+IsAskable (Symcheck symbols) = AllPairs ◌≢◌ symbols
+IsAskable (Renumber sheets) = AllPairs ◌≢◌ sheets
 IsAskable (Work start count) = count ≤ most_steps

@@ -4,7 +4,8 @@ ghost use Rattle.std.specs.Prelude.{option_copied, string_bytes};
 ghost use Rattle.option_words.specs.Reads.{Gives, parts_seen};
 ghost use Rattle.option_words.specs.Words.{parts_of};
 ghost use Rattle.command_words.specs.Commands.{IsAskable, command_of, drc_of, export_of, form_of};
-ghost use Rattle.command_words.specs.Commands.{matrix_of, netlist_of, work_of};
+ghost use Rattle.command_words.specs.Commands.{matrix_of, netlist_of, renumber_of, symcheck_of};
+ghost use Rattle.command_words.specs.Commands.{work_of};
 
 use crate::files::{file_of, sheets_of};
 use crate::numbers::{MOST_STEPS, number_of};
@@ -34,6 +35,16 @@ pub enum Command {
     Export {
         /// The file of the sheet or symbol.
         file: Name,
+    },
+    /// Prints what is wrong with symbols.
+    Symcheck {
+        /// The files of the symbols, at least one. Their names differ.
+        symbols: Items<Name>,
+    },
+    /// Gives numbers to the components of sheets that have none, and writes the sheets that change.
+    Renumber {
+        /// The sheets, at least one. Their names differ.
+        sheets: Items<Name>,
     },
     /// Makes steps of the work on a board, and tells what they come to.
     Work {
@@ -105,6 +116,28 @@ fn export_of(alloc: Global, words: &[&str]) -> Result<Command, WordFault>
     Ok(Command::Export { file })
 }
 
+/// The check of the symbols that the words name.
+fn symcheck_of(alloc: Global, words: &[&str]) -> Result<Command, WordFault>
+    ensures asked { Gives (λ command. command) result (symcheck_of (map (λ w. w.now) words.now)) }
+    ensures apart { IfOk result IsAskable }
+{
+    let symbols = sheets_of(alloc, words)?;
+    Ok(Command::Symcheck {
+        symbols: Items::from_vec(symbols),
+    })
+}
+
+/// The numbering of the sheets that the words name.
+fn renumber_of(alloc: Global, words: &[&str]) -> Result<Command, WordFault>
+    ensures asked { Gives (λ command. command) result (renumber_of (map (λ w. w.now) words.now)) }
+    ensures apart { IfOk result IsAskable }
+{
+    let sheets = sheets_of(alloc, words)?;
+    Ok(Command::Renumber {
+        sheets: Items::from_vec(sheets),
+    })
+}
+
 /// The work that the words name: from a start, and so many steps.
 fn work_of(words: &[&str]) -> Option<Command>
     ensures asked { result ≡ work_of (map (λ w. w.now) words.now) }
@@ -149,6 +182,28 @@ fn export(alloc: Global, words: &[String]) -> Result<Command, WordFault>
     export_of(alloc, parts.words.as_slice())
 }
 
+/// The check that the words behind `symcheck` ask for.
+fn symcheck(alloc: Global, words: &[String]) -> Result<Command, WordFault>
+    ensures asked { Gives (λ command. command) result
+        (option_and_then (λ parts. symcheck_of parts.words)
+        (parts_of None (map string_bytes words.now))) }
+    ensures apart { IfOk result IsAskable }
+{
+    let parts = read_parts(alloc, None, words)?;
+    symcheck_of(alloc, parts.words.as_slice())
+}
+
+/// The numbering that the words behind `renumber` ask for.
+fn renumber(alloc: Global, words: &[String]) -> Result<Command, WordFault>
+    ensures asked { Gives (λ command. command) result
+        (option_and_then (λ parts. renumber_of parts.words)
+        (parts_of None (map string_bytes words.now))) }
+    ensures apart { IfOk result IsAskable }
+{
+    let parts = read_parts(alloc, None, words)?;
+    renumber_of(alloc, parts.words.as_slice())
+}
+
 /// The work that the words behind `work` ask for.
 fn work(alloc: Global, words: &[String]) -> Result<Command, WordFault>
     ensures asked { Gives (λ command. command) result
@@ -174,6 +229,8 @@ pub fn command_of(alloc: Global, arguments: &[String]) -> Result<Command, WordFa
         "netlist" => netlist(alloc, words),
         "drc" => drc(alloc, words),
         "export" => export(alloc, words),
+        "symcheck" => symcheck(alloc, words),
+        "renumber" => renumber(alloc, words),
         "work" => work(alloc, words),
         _ => Err(WordFault::Usage),
     }

@@ -1,6 +1,7 @@
 //! `gafd netlist FILE...` prints the net list of gEDA schematics in the folder that it runs in and
 //! of those below them, `gafd drc FILE...` what the check finds on them, and `gafd export FILE` the
-//! canonical text of a schematic or of a symbol.
+//! canonical text of a schematic or of a symbol. `gafd renumber FILE...` gives numbers to components
+//! without one, in the files.
 //!
 //! `gafd_run::run` is all of the program, over any folder and sinks; `main` makes the real ones.
 #![tactic(auto)]

@@ -1,5 +1,5 @@
 -- The matrix of a check, and the sheets that are read after it.
-use Rattle.std.proofs.Common.{◌≡◌, ℕ, ◌≤◌, Bool, true, false, List, Option, Some, None, Result, Ok, length, take, refl, ap, ◌∙◌, subst, arith}
+use Rattle.std.proofs.Common.{◌≡◌, ℕ, ◌≤◌, Bool, true, false, List, Option, Some, None, Result, Ok, inl, inr, length, take, refl, ap, ◌∙◌, subst, arith}
 use Rattle.std.specs.declared.option.Option.{Option}
 use Rattle.std.specs.Prelude.{min, nat_le}
 use Rattle.std.proofs.lemmas.Bool.Decides.{nat_tests}
@@ -13,7 +13,10 @@ use Rattle.gafd_run.specs.declared.fault.RunFault.TheVariants as faults
 use Rattle.project_files.specs.FileReads.{FileComesTo}
 use Rattle.project_files.specs.Gathering.{ProjectFiles}
 use Rattle.project_files.specs.ProjectFiles.{OfFiles}
-use Rattle.gafd_run.specs.Answers.{matrix_of}
+use Rattle.hierarchy.specs.declared.fault.ElabFault.TheVariants as elaboration
+use Rattle.project_model.specs.Projects.{ProjectData}
+use Rattle.reports.specs.NetLists.{CheckData, OfNetList, checked as check_of}
+use Rattle.gafd_run.specs.Answers.{AnswerData, ByNetList, checked, matrix_of, reported}
 use Rattle.gafd_run.specs.steps.Checking.{MatrixFrom}
 use Rattle.project_files.proofs.Reading.{HoldsOfWhole}
 
@@ -51,3 +54,10 @@ of_kept None None P kept p = p
 of_kept None (Some files) P kept p = (record { sheets = files; symbols = files }, p)
 of_kept (Some old) None P kept p = absurd kept
 of_kept (Some old) (Some new) P kept p = subst (λ (files : Files). P (record { sheets = files; symbols = files })) (λ i name. kept name i) p
+
+-- a check that is made is reported
+pub of_check : (p : ProjectData) (matrix : List Level) (found : CheckData) (answer : AnswerData) → OfNetList elaboration.TooManyInstances (check_of p matrix) p (Ok found) → answer ≡ reported found → ByNetList (checked matrix) p (Ok answer)
+of_check p matrix found answer (inl (crowded, is)) made = absurd cc
+of_check p matrix found answer (inr (room, (nets, list, is))) made =
+    let same : found ≡ check_of p matrix nets = cc in
+    inr (room, (nets, list, ap Ok (made ∙ ap reported same)))

@@ -1,5 +1,9 @@
 mod OneOutcome
 mod Passing
 mod ExportLemmas
-mod NetListLemmas
+mod SheetLemmas
 mod CheckLemmas
+mod WritingLemmas
+mod DeliveryLemmas
+mod ReadingLemmas
+mod NumberingLemmas

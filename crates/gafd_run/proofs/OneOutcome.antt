@@ -1,5 +1,5 @@
 -- A command comes to one outcome: its files come to one project or matrix, and a project has one net list.
-use Rattle.std.proofs.Common.{◌≡◌, ℕ, true, false, Bool, List, Option, Some, None, Result, Ok, inl, inr, sym, ap, subst, ◌∙◌}
+use Rattle.std.proofs.Common.{◌≡◌, ℕ, true, false, Bool, List, [], Option, Some, None, Result, Ok, inl, inr, sym, ap, subst, ◌∙◌}
 use Rattle.std.specs.declared.option.Option.{Option}
 use Rattle.geda_defs.specs.Contents.{Files}
 use Rattle.project_model.specs.Projects.{ProjectData}
@@ -14,8 +14,10 @@ use Rattle.project_files.specs.FileReads.{Then}
 use Rattle.project_files.specs.Gathering.{ProjectFiles}
 use Rattle.project_files.proofs.OneProject.{IsOne, after_one, file_one, gathers_one, read_one, then_one}
 use Rattle.gafd_run.specs.declared.fault.RunFault.TheVariants as faults
-use Rattle.gafd_run.specs.Answers.{AnswerData, ByNetList, ComesTo, IsFixed, MatrixComesTo, Outcome, SheetsOf, TextOf, as_run, checked, is_symbol_name, listed}
+use Rattle.gafd_run.specs.Answers.{AnswerData, ByNetList, ComesTo, IsFixed, MatrixComesTo, Outcome, RenumbersTo, SheetsOf, SheetsTo, SymbolsOf, TextOf, as_run, checked, is_symbol_name, listed, symbols_reported}
 use Rattle.net_names.proofs.Uniqueness.{same_lists}
+use Rattle.sym_check.specs.declared.report.CheckedFile.{CheckedFile}
+use Rattle.symbol_files.proofs.OneCheck.{checks_one}
 
 -- what a net list comes to
 nets_one : (answer : ProjectData → Nets → AnswerData) (project : ProjectData) → IsOne (ByNetList answer project)
@@ -24,9 +26,13 @@ nets_one answer project first second (inl (crowded, p)) (inr (room, list)) = abs
 nets_one answer project first second (inr (room, list)) (inl (crowded, q)) = absurd (room crowded)
 nets_one answer project first second (inr (room, (nets, list, p))) (inr (too, (others, lists, q))) = p ∙ ap (λ (n : Nets). Ok (answer project n)) (same_lists project nets others list lists) ∙ sym q
 
+-- what sheets come to
+sheets_one : (Comes : ProjectData → Outcome → Type 0) → ((project : ProjectData) → IsOne (Comes project)) → (files : ProjectFiles) (names : List (List ℕ)) → IsOne (SheetsTo Comes files names)
+sheets_one Comes one files names first second (gathered, come, p) (other, does, q) =
+    then_one Comes one (as_run other) first second (subst (λ (r : Result ProjectData FileFault). Then (as_run r) Comes first) (gathers_one files names gathered other come does) p) q
+
 of_sheets_one : (answer : ProjectData → Nets → AnswerData) (files : ProjectFiles) (names : List (List ℕ)) → IsOne (SheetsOf answer files names)
-of_sheets_one answer files names first second (gathered, come, p) (other, does, q) =
-    then_one (ByNetList answer) (nets_one answer) (as_run other) first second (subst (λ (r : Result ProjectData FileFault). Then (as_run r) (ByNetList answer) first) (gathers_one files names gathered other come does) p) q
+of_sheets_one answer = sheets_one (ByNetList answer) (nets_one answer)
 
 -- a matrix
 matrix_one : (files : Files) (file : Option (List ℕ)) → IsOne (MatrixComesTo files file)
@@ -37,6 +43,12 @@ text_one : (is_symbol : Bool) (name bytes : List ℕ) → IsOne (TextOf is_symbo
 text_one true name bytes = read_one symbol_file symbol_determined (faults.Refused name) _ (λ value first second p q. p ∙ sym q) bytes
 text_one false name bytes = read_one sheet_file sheet_determined (faults.Refused name) _ (λ value first second p q. p ∙ sym q) bytes
 
+-- what symbols come to
+symbols_one : (files : Files) (names : List (List ℕ)) → IsOne (SymbolsOf (Some files) names)
+symbols_one files names first second (read, come, p) (other, does, q) =
+    then_one (λ (checked : List CheckedFile) (end : Outcome). end ≡ Ok (symbols_reported checked)) (λ checked one another is so. is ∙ sym so) (as_run other) first second
+    (subst (λ (r : Result (List CheckedFile) FileFault). Then (as_run r) (λ checked end. end ≡ Ok (symbols_reported checked)) first) (checks_one files [] names read other come does) p) q
+
 -- so a command comes to one
 pub same_outcomes : (files : Files) (command : Option Command) (first second : Outcome) → IsFixed command → ComesTo (Some files) command first → ComesTo (Some files) command second → first ≡ second
 same_outcomes files None first second fixed p q = p ∙ sym q
@@ -44,4 +56,6 @@ same_outcomes files (Some (commands.Netlist form names)) first second fixed p q 
 same_outcomes files (Some (commands.Drc matrix names)) first second fixed (read, come, p) (other, does, q) =
     after_one (MatrixComesTo files matrix) (λ (levels : List Level). SheetsOf (checked levels) (record { sheets = files; symbols = files }) names) (matrix_one files matrix) (λ levels. of_sheets_one (checked levels) (record { sheets = files; symbols = files }) names) read other first second come does p q
 same_outcomes files (Some (commands.Export name)) first second fixed p q = file_one (faults.Missing name) _ (text_one (is_symbol_name name) name) (files name) first second p q
+same_outcomes files (Some (commands.Symcheck names)) first second fixed p q = symbols_one files names first second p q
+same_outcomes files (Some (commands.Renumber names)) first second fixed p q = sheets_one RenumbersTo (λ project one other is so. is ∙ sym so) (record { sheets = files; symbols = files }) names first second p q
 same_outcomes files (Some (commands.Work start count)) first second fixed p q = absurd fixed

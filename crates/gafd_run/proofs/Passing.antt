@@ -2,7 +2,7 @@
 use Rattle.std.proofs.Common.{◌≡◌, ◌⊎◌, ℕ, ◌≤◌, List, Option, Some, None, Result, Ok, Err, take, inl, inr, refl, sym, subst}
 use Rattle.std.specs.declared.option.Option.{Option}
 use Rattle.geda_defs.specs.Causes.{HasCause}
-use Rattle.geda_defs.specs.Contents.{Files, Writes}
+use Rattle.geda_defs.specs.Contents.{Writes}
 use Rattle.command_words.specs.declared.command.Command.{Command}
 use Rattle.project_files.specs.declared.fault.FileFault.{FileFault}
 use Rattle.project_files.specs.declared.fault.FileFault.TheVariants as file_faults
@@ -13,10 +13,11 @@ use Rattle.gafd_run.specs.declared.fault.RunFault.{RunFault}
 use Rattle.gafd_run.specs.declared.fault.RunFault.TheVariants as faults
 use Rattle.gafd_run.specs.declared.sinks.SinkFault.{SinkFault}
 use Rattle.gafd_run.specs.declared.sinks.SinkFault.TheVariants as sink
-use Rattle.gafd_run.specs.Answers.{AnswerData, ComesTo}
+use Rattle.gafd_run.specs.Answers.{AnswerData}
 use Rattle.gafd_run.specs.Faults.{run_fault}
-use Rattle.gafd_run.specs.Runs.{Ends, EndsWith, HoldsAfter, IsQuiet, Stream}
-use Rattle.gafd_run.specs.steps.Passing.{AnswerOf, ComesOf, NamesFile, Reports}
+use Rattle.gafd_run.specs.Runs.{Ends, EndsWith, HoldsAfter, IsQuiet, StopsWriting, Stream}
+use Rattle.gafd_run.specs.Writing.{FolderRun, WroteFiles}
+use Rattle.gafd_run.specs.steps.Passing.{AnswerOf, ComesOf, Delivers, NamesFile, Reports}
 
 -- what is come to, as an answer of a call that a folder is lent to
 pub answer_from : {A : Type 0} (counts : Counts) (P Q : Result A RunFault → Type 0) (outcome : Result A RunFault) → ((r : Result A RunFault) → P r → Q r) → ComesOf P outcome → AnswerOf counts Q outcome
@@ -57,18 +58,18 @@ first_part None new piece e writes = (0, tt)
 first_part (Some old) None piece e writes = absurd writes
 first_part (Some old) (Some new) piece e writes = writes
 
--- a run whose answer did not go out whole ends with a fault of the output
-pub failed_write : (files : Option Files) (asked : Option Command) (command : Command) (folder : Counts) (out : Stream) (answer : AnswerData) (piece : List ℕ) (e : SinkFault) → asked ≡ Some command → ComesTo files (Some command) (Ok answer) → piece ≡ answer.text → Writes out.old out.new piece (Err e) → HasCause {T = Unit {0}} out.faults.old out.faults.new (Err e) sink.Failed → EndsWith files asked folder out (Err faults.OutputFault)
-failed_write files asked command folder out answer piece sink.Failed is comes same writes has =
-    (answer, subst (λ (a : Option Command). ComesTo files a (Ok answer)) (sym is) comes, (has.cause refl, subst (λ (text : List ℕ). (n : ℕ) × HoldsAfter out.old out.new (take n text)) same (first_part out.old out.new piece sink.Failed writes)))
+-- what a write to the output that failed makes of a delivery
+pub failed_write : (folder : FolderRun) (out : Stream) (answer : AnswerData) (piece : List ℕ) (e : SinkFault) → WroteFiles folder answer.files → piece ≡ answer.text → Writes out.old out.new piece (Err e) → HasCause {T = Unit {0}} out.faults.old out.faults.new (Err e) sink.Failed → Delivers folder out answer (Err faults.OutputFault)
+failed_write folder out answer piece sink.Failed wrote same writes has =
+    (wrote, (has.cause refl, subst (λ (text : List ℕ). (n : ℕ) × HoldsAfter out.old out.new (take n text)) same (first_part out.old out.new piece sink.Failed writes)))
 
-module _ (files : Option Files) (command : Option Command) (folder : Counts) (out err : Stream) (fault : RunFault) (status : ℕ) where
-  -- before a line that names a file, nothing went out
-  is_quiet : (f : RunFault) → EndsWith files command folder out (Err f) → NamesFile f → IsQuiet out
-  is_quiet (faults.Missing file) h named = h.1
-  is_quiet (faults.Refused file line kind) h named = h.1
-  is_quiet (faults.BadToml file) h named = h.1
-  is_quiet (faults.BadRows file) h named = h.1
+module _ (folder : FolderRun) (command : Option Command) (out err : Stream) (fault : RunFault) (status : ℕ) where
+  -- before a line that names a file, nothing was written and nothing went out
+  is_quiet : (f : RunFault) → EndsWith folder command out (Err f) → NamesFile f → StopsWriting folder command × IsQuiet out
+  is_quiet (faults.Missing file) h named = (inl h.1, h.2)
+  is_quiet (faults.Refused file line kind) h named = (inl h.1, h.2)
+  is_quiet (faults.BadToml file) h named = (inl h.1, h.2)
+  is_quiet (faults.BadRows file) h named = (inl h.1, h.2)
   is_quiet faults.TooManyObjects h named = absurd named
   is_quiet faults.ProjectFull h named = absurd named
   is_quiet faults.TooManyInstances h named = absurd named
@@ -78,9 +79,9 @@ module _ (files : Option Files) (command : Option Command) (folder : Counts) (ou
   is_quiet faults.NoMemory h named = h
 
   -- a run ends with the fault that is reported
-  pub end_reported : EndsWith files command folder out (Err fault) → Reports err fault status → Ends files command folder out err status
+  pub end_reported : EndsWith folder command out (Err fault) → Reports err fault status → Ends folder command out err status
   end_reported h r = record { outcome = Err r.reported; cause = go r.reported r.same; said = r.said; status_is = r.status_is }
     where
-      go : (f : RunFault) → (f ≡ fault) ⊎ ((f ≡ faults.NoMemory) × NamesFile fault) → EndsWith files command folder out (Err f)
-      go f (inl same) = subst (λ (g : RunFault). EndsWith files command folder out (Err g)) (sym same) h
-      go f (inr (same, named)) = subst (λ (g : RunFault). EndsWith files command folder out (Err g)) (sym same) (is_quiet fault h named)
+      go : (f : RunFault) → (f ≡ fault) ⊎ ((f ≡ faults.NoMemory) × NamesFile fault) → EndsWith folder command out (Err f)
+      go f (inl same) = subst (λ (g : RunFault). EndsWith folder command out (Err g)) (sym same) h
+      go f (inr (same, named)) = subst (λ (g : RunFault). EndsWith folder command out (Err g)) (sym same) (is_quiet fault h named)

@@ -1,7 +1,9 @@
 -- What a command comes to over the files of a folder (own).
-use Rattle.std.specs.Prelude.{◌≡◌, ⊤, ℕ, Bool, true, false, if◌then◌else◌, List, Result, Ok, Err, Some, None, nat_eq, codes}
+use Rattle.std.specs.Prelude.{◌≡◌, ⊤, ℕ, Bool, true, false, if◌then◌else◌, List, [], ◌++◌, Result, Ok, Err, Some, None, nat_eq, codes}
 use Rattle.std.specs.declared.option.Option.{Option}
-use Rattle.std.specs.List.{ends_with}
+use Rattle.std.specs.Fmt.{decimal}
+use Rattle.std.specs.List.{ends_with, list_any}
+use Rattle.std.specs.Result.{result_map_both}
 use Rattle.geda_defs.specs.Contents.{Files}
 use Rattle.project_model.specs.Projects.{ProjectData}
 use Rattle.geda_grammar.specs.Faults.{sheet_file, symbol_file}
@@ -16,19 +18,25 @@ use Rattle.toml.specs.Data.{Members}
 use Rattle.reports.specs.NetLists.{CheckData, OfNetList, checked as check_of}
 use Rattle.work_run.specs.RunText.{WorkComesTo}
 use Rattle.command_words.specs.declared.command.Command.{Command}
-use Rattle.command_words.specs.declared.command.Command.TheVariants.{Netlist, Drc, Export, Work}
+use Rattle.command_words.specs.declared.command.Command.TheVariants.{Netlist, Drc, Export, Symcheck, Renumber, Work}
 use Rattle.project_files.specs.declared.fault.FileFault.{FileFault}
 use Rattle.project_files.specs.FileReads.{FileComesTo, ReadAs, Then}
 use Rattle.project_files.specs.Gathering.{ProjectFiles}
 use Rattle.project_files.specs.ProjectFiles.{GathersTo, OfFiles, OfSome}
-use Rattle.gafd_run.specs.Faults.{run_fault}
+use Rattle.sym_check.specs.declared.report.CheckedFile.{CheckedFile}
+use Rattle.sym_check.specs.Report.{all_found, is_error, report_text}
+use Rattle.symbol_files.specs.CheckedFiles.{ChecksFrom}
+use Rattle.renum_files.specs.RenumberedFiles.{File, RenumberedData, renumbered_files}
+use Rattle.gafd_run.specs.Faults.{renumber_fault, run_fault}
 use Rattle.gafd_run.specs.declared.fault.RunFault.{RunFault}
 use Rattle.gafd_run.specs.declared.fault.RunFault.TheVariants as faults
 
--- a text that goes out, and the status with which the program then ends
+-- a text that goes out, the status with which the program then ends, and the files that are written
+-- before, in order
 pub record AnswerData : Type 0 where
   pub text : List ℕ
   pub status : ℕ
+  pub files : List File
 
 -- what a command comes to: an answer, or a fault
 abbrev pub Outcome : Type 0
@@ -36,7 +44,7 @@ Outcome = Result AnswerData RunFault
 
 -- the text goes out, and all is well
 abbrev pub all_well : List ℕ → AnswerData
-all_well text = record { text = text; status = 0 }
+all_well text = record { text = text; status = 0; files = [] }
 
 abbrev pub done : List ℕ → Outcome
 done text = Ok (all_well text)
@@ -51,12 +59,18 @@ abbrev pub as_run : {A : Type 0} → Result A FileFault → Result A RunFault
 as_run (Ok a) = Ok a
 as_run (Err fault) = Err (run_fault fault)
 
--- what sheets come to, with those below them and with their symbols, given the answer by a net list
+-- what sheets come to, with those below them and with their symbols, given what their project comes
+-- to
+abbrev pub SheetsTo :
+    (ProjectData → Outcome → Type 0) → ProjectFiles → List (List ℕ) → Outcome → Type 0
+SheetsTo ComesTo files names outcome =
+    (gathered : Result ProjectData FileFault) × GathersTo files names gathered
+    × Then (as_run gathered) ComesTo outcome
+
+-- the same, given the answer by a net list
 abbrev pub SheetsOf :
     (ProjectData → Nets → AnswerData) → ProjectFiles → List (List ℕ) → Outcome → Type 0
-SheetsOf answer files names outcome =
-    (gathered : Result ProjectData FileFault) × GathersTo files names gathered
-    × Then (as_run gathered) (ByNetList answer) outcome
+SheetsOf answer = SheetsTo (ByNetList answer)
 
 -- the text of a net list in a form
 abbrev pub listed : Form → ProjectData → Nets → AnswerData
@@ -64,7 +78,8 @@ listed form project nets = all_well (net_text form nets)
 
 -- the report of a check; its status is 7 where an error is among what was found
 abbrev pub reported : CheckData → AnswerData
-reported check = record { text = check.text; status = if check.has_error then 7 else 0 }
+reported check =
+    record { text = check.text; status = if check.has_error then 7 else 0; files = [] }
 
 -- the report of the check under a matrix
 abbrev pub checked : List Level → ProjectData → Nets → AnswerData
@@ -106,6 +121,33 @@ CheckOf files matrix names outcome =
     × Then read
     (λ levels end. OfFiles files (λ known. SheetsOf (checked levels) known names end)) outcome
 
+-- the report on symbols; its status is 7 where an error is among what was found
+abbrev pub symbols_reported : List CheckedFile → AnswerData
+symbols_reported files = record {
+  text = report_text files;
+  status = if list_any is_error (all_found files) then 7 else 0;
+  files = [];
+}
+
+-- what the check of symbols comes to
+abbrev pub SymbolsOf : Option Files → List (List ℕ) → Outcome → Type 0
+SymbolsOf files names outcome =
+    (read : Result (List CheckedFile) FileFault) × ChecksFrom files [] names read
+    × Then (as_run read) (λ checked end. end ≡ Ok (symbols_reported checked)) outcome
+
+-- the line that tells how many components got a number
+abbrev pub renumber_line : ℕ → List ℕ
+renumber_line count = codes "renumbered " ++ decimal count ++ codes "\n"
+
+-- that line goes out after the files are written
+abbrev pub written_down : RenumberedData → AnswerData
+written_down r = record { text = renumber_line r.count; status = 0; files = r.files }
+
+-- what numbering a project comes to
+abbrev pub RenumbersTo : ProjectData → Outcome → Type 0
+RenumbersTo project outcome =
+    outcome ≡ result_map_both written_down renumber_fault (renumbered_files project)
+
 -- what so many steps of the work from a start come to: their text goes out
 abbrev pub WorkOf : ℕ → ℕ → Outcome → Type 0
 WorkOf start count outcome =
@@ -119,12 +161,20 @@ CommandComesTo files (Drc matrix names) outcome = CheckOf files matrix names out
 CommandComesTo files (Export name) outcome = OfSome files
     (λ known. FileComesTo (faults.Missing name) (TextOf (is_symbol_name name) name) (known name)
     outcome)
+CommandComesTo files (Symcheck names) outcome = SymbolsOf files names outcome
+CommandComesTo files (Renumber names) outcome =
+    OfFiles files (λ known. SheetsTo RenumbersTo known names outcome)
 CommandComesTo files (Work start count) outcome = WorkOf start count outcome
 
 -- what the arguments come to: what their command comes to, or a fault of usage
 abbrev pub ComesTo : Option Files → Option Command → Outcome → Type 0
 ComesTo files None outcome = outcome ≡ Err faults.Usage
 ComesTo files (Some command) outcome = CommandComesTo files command outcome
+
+-- the arguments ask for a command that writes no file
+abbrev pub IsReading : Option Command → Type 0
+IsReading (Some (Renumber names)) = ⊥
+IsReading other = ⊤
 
 -- the files fix the outcome: the arguments don't ask for the work
 abbrev pub IsFixed : Option Command → Type 0

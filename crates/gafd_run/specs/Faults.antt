@@ -5,6 +5,8 @@ use Rattle.geda_grammar.specs.declared.kind.ReadKind.{ReadKind}
 use Rattle.geda_grammar.specs.declared.kind.ReadKind.TheVariants as kinds
 use Rattle.project_files.specs.declared.fault.FileFault.{FileFault}
 use Rattle.project_files.specs.declared.fault.FileFault.TheVariants as file_faults
+use Rattle.renum_files.specs.declared.fault.RenumberFault.{RenumberFault}
+use Rattle.renum_files.specs.declared.fault.RenumberFault.TheVariants as renumber_faults
 use Rattle.gafd_run.specs.declared.fault.RunFault.{RunFault}
 use Rattle.gafd_run.specs.declared.fault.RunFault.TheVariants as faults
 
@@ -16,6 +18,11 @@ run_fault file_faults.TooManyObjects = faults.TooManyObjects
 run_fault file_faults.ProjectFull = faults.ProjectFull
 run_fault file_faults.FolderFault = faults.FolderFault
 run_fault file_faults.NoMemory = faults.NoMemory
+
+-- a fault that is met in numbering, as the program ends with it
+abbrev pub renumber_fault : RenumberFault → RunFault
+renumber_fault renumber_faults.ProjectFull = faults.ProjectFull
+renumber_fault renumber_faults.NoMemory = faults.NoMemory
 
 -- the status with which the program ends
 abbrev pub status_of : RunFault → ℕ

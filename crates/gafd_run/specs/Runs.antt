@@ -1,12 +1,13 @@
 -- How a run of the program ends (own).
 use Rattle.std.specs.Prelude.{◌≡◌, ◌⊎◌, ℕ, List, ◌++◌, Ok, Err, Some, None, ⊤, IsSome, take}
 use Rattle.std.specs.declared.option.Option.{Option}
-use Rattle.geda_defs.specs.Contents.{Files}
+use Rattle.geda_defs.specs.Contents.{Files, KeepsFiles}
 use Rattle.command_words.specs.declared.command.Command.{Command}
 use Rattle.project_files.specs.Counts.{Counts, Failed}
 use Rattle.gafd_run.specs.declared.fault.RunFault.TheVariants as faults
 use Rattle.gafd_run.specs.Faults.{error_line, status_of}
-use Rattle.gafd_run.specs.Answers.{AnswerData, Outcome, ComesTo}
+use Rattle.gafd_run.specs.Answers.{AnswerData, Outcome, ComesTo, IsReading}
+use Rattle.gafd_run.specs.Writing.{FolderRun, WroteFiles, WroteSome}
 
 -- what a stream holds, where it tells it, and how often it failed, before a run and after it
 pub record Stream : Type 0 where
@@ -37,17 +38,27 @@ abbrev pub WrotePrefix : Stream → List ℕ → Type 0
 WrotePrefix stream text =
     Failed stream.faults × ((n : ℕ) × HoldsAfter stream.old stream.new (take n text))
 
--- what is then out, and why the run ends with this outcome: the arguments come to it, the folder or
--- the output failed, or memory ran out
-abbrev pub EndsWith : Option Files → Option Command → Counts → Stream → Outcome → Type 0
-EndsWith files command folder out (Ok answer) =
-    ComesTo files command (Ok answer) × WroteWhole out answer.text
-EndsWith files command folder out (Err faults.FolderFault) =
-    IsSome command × Failed folder × IsQuiet out
-EndsWith files command folder out (Err faults.OutputFault) =
-    (answer : AnswerData) × ComesTo files command (Ok answer) × WrotePrefix out answer.text
-EndsWith files command folder out (Err faults.NoMemory) = IsQuiet out
-EndsWith files command folder out (Err fault) = ComesTo files command (Err fault) × IsQuiet out
+-- no file is written, or the command comes to an answer of which not all files are written
+abbrev pub StopsWriting : FolderRun → Option Command → Type 0
+StopsWriting folder command =
+    KeepsFiles folder.old folder.new
+    ⊎ ((answer : AnswerData) × ComesTo folder.old command (Ok answer)
+    × WroteSome folder answer.files)
+
+-- what is then written and out, and why the run ends with this outcome: the arguments come to it,
+-- the folder or the output failed, or memory ran out
+abbrev pub EndsWith : FolderRun → Option Command → Stream → Outcome → Type 0
+EndsWith folder command out (Ok answer) =
+    ComesTo folder.old command (Ok answer) × WroteFiles folder answer.files
+    × WroteWhole out answer.text
+EndsWith folder command out (Err faults.FolderFault) =
+    IsSome command × Failed folder.faults × StopsWriting folder command × IsQuiet out
+EndsWith folder command out (Err faults.OutputFault) =
+    (answer : AnswerData) × ComesTo folder.old command (Ok answer)
+    × WroteFiles folder answer.files × WrotePrefix out answer.text
+EndsWith folder command out (Err faults.NoMemory) = StopsWriting folder command × IsQuiet out
+EndsWith folder command out (Err fault) =
+    ComesTo folder.old command (Err fault) × KeepsFiles folder.old folder.new × IsQuiet out
 
 -- the whole line went to the stream, or the stream failed and a first part of it did
 abbrev pub SaidLine : Stream → List ℕ → Type 0
@@ -63,10 +74,14 @@ abbrev pub outcome_status : Outcome → ℕ
 outcome_status (Ok answer) = answer.status
 outcome_status (Err fault) = status_of fault
 
+-- told files stay, where the arguments ask for a command that writes none
+abbrev pub KeepsUnless : Option Command → Option Files → Option Files → Type 0
+KeepsUnless command old new = IsReading command → KeepsFiles old new
+
 -- a run ends with an outcome: it has its cause, its line and its status
-pub record Ends (files : Option Files) (command : Option Command) (folder : Counts)
-    (out err : Stream) (status : ℕ) : Type 0 where
+pub record Ends (folder : FolderRun) (command : Option Command) (out err : Stream) (status : ℕ)
+    : Type 0 where
   pub outcome : Outcome
-  pub cause : EndsWith files command folder out outcome
+  pub cause : EndsWith folder command out outcome
   pub said : Said err outcome
   pub status_is : status ≡ outcome_status outcome

@@ -1,12 +1,15 @@
 // What each command answers.
-ghost use Rattle.std.specs.Prelude.{◌≡◌, ◌≢◌, ◌≤◌, AllPairs, true, false};
+ghost use Rattle.std.specs.Prelude.{◌≡◌, ◌≢◌, ◌≤◌, ◌-◌, ◌^◌, AllPairs, IfOk, true, false, min, string_bytes};
 ghost use Rattle.pin_matrix.specs.MatrixFiles.{document_of};
 ghost use Rattle.geda_defs.specs.Contents.{KeepsFiles};
 ghost use Rattle.command_words.specs.Commands.{IsAskable, most_steps};
 ghost use Rattle.command_words.specs.declared.command.Command.TheVariants.{Drc, Export, Netlist};
+ghost use Rattle.command_words.specs.declared.command.Command.TheVariants.{Renumber, Symcheck};
 ghost use Rattle.project_files.specs.Counts.{counts};
+ghost use Rattle.project_files.specs.Measures.{LeavesIds, symbols_text};
 ghost use Rattle.gafd_run.specs.Answers.{ByNetList, TextOf, WorkOf, checked, is_symbol_name, listed};
-ghost use Rattle.gafd_run.specs.Answers.{matrix_of, reported};
+ghost use Rattle.gafd_run.specs.Answers.{RenumbersTo, matrix_of, renumber_line, reported};
+ghost use Rattle.gafd_run.specs.Answers.{symbols_reported, written_down};
 ghost use Rattle.gafd_run.specs.steps.Checking.{MatrixFrom};
 ghost use Rattle.gafd_run.specs.steps.Passing.{AnswerOf, ComesOf, Over};
 
@@ -15,20 +18,28 @@ use command_words::Command;
 use drc_rules::{Matrix, MatrixFault};
 use geda_model::{Items, Name};
 use geda_write::{sheet_text, symbol_text};
-use project_files::{Folder, project_of, sheet_in, symbol_in};
+use project_files::{
+    Folder, MeasuredProject, measured_project_of, project_of, sheet_in, symbol_in,
+};
 use project_model::Project;
+use renum_files::{FileText, RenumberedFiles, renumbered_files};
 use reports::{Check, Form, check, net_report};
-use std::alloc::Global;
+use std::alloc::{AllocError, Global};
 use std::marker::Model;
+use sym_check::{CheckedFile, has_errors, report_text};
+use symbol_files::checked_files;
 use work_run::work_text;
 
-/// What goes out, and the status with which the program then ends.
+/// What goes out, the status with which the program then ends, and the files that are written
+/// before.
 #[derive(Debug, Drop)]
 pub struct Answer {
     /// The bytes that go out.
     pub text: Vec<u8>,
     /// The status.
     pub status: u8,
+    /// The files, in the order in which they are written.
+    pub files: Vec<FileText>,
 }
 
 impl Model for Answer {
@@ -36,16 +47,25 @@ impl Model for Answer {
 
     ghost Value = { AnswerData };
 
-    ghost view = { λ a. record { text = a.text.items; status = a.status } };
+    ghost view = { λ a. record {
+      text = a.text.items;
+      status = a.status;
+      files = a.files.items;
+    } };
 }
 
 impl Answer {
     ghost use Rattle.std.specs.Prelude.{◌≡◌};
+    ghost use Rattle.gafd_run.specs.Answers.{all_well};
 
-    fn done(text: Vec<u8>) -> Answer
-        ensures { result ≡ record { text = text.items; status = 0 } }
+    fn done(alloc: Global, text: Vec<u8>) -> Answer
+        ensures { result ≡ all_well text.items }
     {
-        Answer { text, status: 0 }
+        Answer {
+            text,
+            status: 0,
+            files: Vec::new(alloc),
+        }
     }
 }
 
@@ -53,16 +73,17 @@ impl Answer {
 fn listed(alloc: Global, form: Form, project: &Project) -> Result<Answer, RunFault>
     ensures { ComesOf (ByNetList (listed form) project.now.contents) result }
 {
-    Ok(Answer::done(net_report(alloc, form, project)?))
+    Ok(Answer::done(alloc, net_report(alloc, form, project)?))
 }
 
 /// The answer of a check.
-fn reported(check: Check) -> Answer
+fn reported(alloc: Global, check: Check) -> Answer
     ensures { result ≡ reported check }
 {
     Answer {
         text: check.text,
         status: if check.has_error { 7 } else { 0 },
+        files: Vec::new(alloc),
     }
 }
 
@@ -70,7 +91,7 @@ fn reported(check: Check) -> Answer
 fn checked(alloc: Global, matrix: &Matrix, project: &Project) -> Result<Answer, RunFault>
     ensures { ComesOf (ByNetList (checked matrix.now) project.now.contents) result }
 {
-    Ok(reported(check(alloc, matrix, project)?))
+    Ok(reported(alloc, check(alloc, matrix, project)?))
 }
 
 /// The canonical text of the sheet that these bytes spell.
@@ -78,7 +99,7 @@ fn sheet_export(alloc: Global, file: &Name, bytes: &[u8]) -> Result<Answer, RunF
     ensures { ComesOf (TextOf false file.now bytes.now) result }
 {
     let sheet = sheet_in(alloc, file, bytes)?;
-    Ok(Answer::done(sheet_text(alloc, &sheet)?))
+    Ok(Answer::done(alloc, sheet_text(alloc, &sheet)?))
 }
 
 /// The canonical text of the symbol that these bytes spell.
@@ -86,7 +107,7 @@ fn symbol_export(alloc: Global, file: &Name, bytes: &[u8]) -> Result<Answer, Run
     ensures { ComesOf (TextOf true file.now bytes.now) result }
 {
     let symbol = symbol_in(alloc, file, bytes)?;
-    Ok(Answer::done(symbol_text(alloc, &symbol)?))
+    Ok(Answer::done(alloc, symbol_text(alloc, &symbol)?))
 }
 
 fn is_symbol_name(name: &Name) -> bool
@@ -115,6 +136,7 @@ fn netlist<F: Folder>(
     requires { AllPairs ◌≢◌ names }
     ensures answer { AnswerOf (counts (F.faults folder.old) (F.faults folder.new))
         (Over (F.files folder.old) (Netlist form names)) result }
+    ensures later { F.faults folder.old ≤ F.faults folder.new }
     ensures files { KeepsFiles (F.files folder.old) (F.files folder.new) }
 {
     let project = project_of(alloc, names.as_slice(), folder)?;
@@ -162,6 +184,7 @@ fn drc<F: Folder>(
     requires { AllPairs ◌≢◌ names }
     ensures answer { AnswerOf (counts (F.faults folder.old) (F.faults folder.new))
         (Over (F.files folder.old) (Drc matrix names)) result }
+    ensures later { F.faults folder.old ≤ F.faults folder.new }
     ensures files { KeepsFiles (F.files folder.old) (F.files folder.new) }
 {
     let matrix = matrix_of(alloc, matrix, folder)?;
@@ -172,6 +195,7 @@ fn drc<F: Folder>(
 fn export<F: Folder>(alloc: Global, file: Name, folder: &mut F) -> Result<Answer, RunFault>
     ensures answer { AnswerOf (counts (F.faults folder.old) (F.faults folder.new))
         (Over (F.files folder.old) (Export file)) result }
+    ensures later { F.faults folder.old ≤ F.faults folder.new }
     ensures files { KeepsFiles (F.files folder.old) (F.files folder.new) }
 {
     match folder.read(alloc, file.as_str())? {
@@ -180,12 +204,83 @@ fn export<F: Folder>(alloc: Global, file: Name, folder: &mut F) -> Result<Answer
     }
 }
 
+/// The report on symbols.
+fn symbols_reported(alloc: Global, files: &[CheckedFile]) -> Result<Answer, AllocError>
+    ensures { IfOk result (λ answer. answer ≡ symbols_reported files.now) }
+{
+    Ok(Answer {
+        text: report_text(alloc, files)?,
+        status: if has_errors(files) { 7 } else { 0 },
+        files: Vec::new(alloc),
+    })
+}
+
+fn symcheck<F: Folder>(
+    alloc: Global,
+    names: Items<Name>,
+    folder: &mut F,
+) -> Result<Answer, RunFault>
+    ensures answer { AnswerOf (counts (F.faults folder.old) (F.faults folder.new))
+        (Over (F.files folder.old) (Symcheck names)) result }
+    ensures later { F.faults folder.old ≤ F.faults folder.new }
+    ensures files { KeepsFiles (F.files folder.old) (F.files folder.new) }
+{
+    let files = checked_files(alloc, names.as_slice(), folder)?;
+    let answer = symbols_reported(alloc, &files)?;
+    Ok(answer)
+}
+
+fn renumber_line(alloc: Global, count: usize) -> Result<String, AllocError>
+    ensures { IfOk result (λ line. string_bytes line ≡ renumber_line count) }
+{
+    format!(in alloc; "renumbered {count}\n")
+}
+
+/// The answer of a numbering.
+fn written_down(alloc: Global, renumbered: RenumberedFiles) -> Result<Answer, AllocError>
+    ensures { IfOk result (λ answer. answer ≡ written_down renumbered) }
+{
+    let RenumberedFiles { count, files } = renumbered;
+    let line = renumber_line(alloc, count)?;
+    Ok(Answer {
+        text: line.into_bytes(),
+        status: 0,
+        files,
+    })
+}
+
+/// What numbering a project comes to.
+fn renumbered(alloc: Global, measured: MeasuredProject) -> Result<Answer, RunFault>
+    requires symbols { measured.symbol_bytes
+        ≡ min (symbols_text measured.project.contents) (2 ^ 64 - 1) }
+    requires ids { LeavesIds measured.project.contents }
+    ensures { ComesOf (RenumbersTo measured.project.contents) result }
+{
+    let renumbered = renumbered_files(alloc, measured)?;
+    Ok(written_down(alloc, renumbered)?)
+}
+
+fn renumber<F: Folder>(
+    alloc: Global,
+    names: Items<Name>,
+    folder: &mut F,
+) -> Result<Answer, RunFault>
+    requires { AllPairs ◌≢◌ names }
+    ensures answer { AnswerOf (counts (F.faults folder.old) (F.faults folder.new))
+        (Over (F.files folder.old) (Renumber names)) result }
+    ensures later { F.faults folder.old ≤ F.faults folder.new }
+    ensures files { KeepsFiles (F.files folder.old) (F.files folder.new) }
+{
+    let project = measured_project_of(alloc, names.as_slice(), folder)?;
+    renumbered(alloc, project)
+}
+
 /// What so many steps of the work from a start come to.
 fn work(alloc: Global, start: u32, count: u32) -> Result<Answer, RunFault>
     requires { count ≤ most_steps }
     ensures { ComesOf (WorkOf start count) result }
 {
-    Ok(Answer::done(work_text(alloc, start, count)?))
+    Ok(Answer::done(alloc, work_text(alloc, start, count)?))
 }
 
 /// What a command answers, whose sheets differ. All files stay.
@@ -197,12 +292,15 @@ pub fn answer_of<F: Folder>(
     requires { IsAskable command }
     ensures answer { AnswerOf (counts (F.faults folder.old) (F.faults folder.new))
         (Over (F.files folder.old) command) result }
+    ensures later { F.faults folder.old ≤ F.faults folder.new }
     ensures files { KeepsFiles (F.files folder.old) (F.files folder.new) }
 {
     match command {
         Command::Netlist { form, sheets } => netlist(alloc, form, sheets, folder),
         Command::Drc { matrix, sheets } => drc(alloc, matrix, sheets, folder),
         Command::Export { file } => export(alloc, file, folder),
+        Command::Symcheck { symbols } => symcheck(alloc, symbols, folder),
+        Command::Renumber { sheets } => renumber(alloc, sheets, folder),
         Command::Work { start, count } => work(alloc, start, count),
     }
 }

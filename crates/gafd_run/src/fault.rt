@@ -1,6 +1,6 @@
 // Why the program ends otherwise than with an answer.
 ghost use Rattle.std.specs.Prelude.{◌≡◌};
-ghost use Rattle.gafd_run.specs.Faults.{run_fault};
+ghost use Rattle.gafd_run.specs.Faults.{renumber_fault, run_fault};
 ghost use Rattle.gafd_run.specs.steps.Passing.{FromElaboration, FromFolder, FromWords};
 ghost use Rattle.gafd_run.specs.declared.fault.RunFault.TheVariants.{NoMemory, OutputFault};
 
@@ -10,6 +10,7 @@ use geda_model::Name;
 use hierarchy::ElabFault;
 use option_words::WordFault;
 use project_files::{FileFault, FolderFault};
+use renum_files::RenumberFault;
 use std::alloc::{AllocError, AllocFailed};
 
 /// Why the program ends otherwise than with an answer (docs/FORMATS.md, "Statuses").
@@ -123,6 +124,17 @@ impl From<ElabFault> for RunFault {
         match fault {
             ElabFault::TooManyInstances => RunFault::TooManyInstances,
             ElabFault::NoMemory => RunFault::NoMemory,
+        }
+    }
+}
+
+impl From<RenumberFault> for RunFault {
+    ghost from_gives = { λ fault e. e ≡ renumber_fault fault };
+
+    fn from(fault: RenumberFault) -> RunFault {
+        match fault {
+            RenumberFault::ProjectFull => RunFault::ProjectFull,
+            RenumberFault::NoMemory => RunFault::NoMemory,
         }
     }
 }

@@ -1,10 +1,12 @@
 //! All of the program `gafd` but its edges: `run` does what the arguments ask for, over any folder
 //! and sinks, and answers the status.
 //!
-//! Commands and statuses: docs/FORMATS.md. Definitions: specs/Answers.antt and specs/Runs.antt.
+//! Commands and statuses: docs/FORMATS.md. Definitions: specs/Answers.antt, specs/Writing.antt and
+//! specs/Runs.antt.
 #![tactic(auto)]
 
 mod answer;
+mod delivery;
 mod error_lines;
 mod fault;
 mod sinks;

@@ -1,6 +1,6 @@
 -- Steps of the code; no public clause cites them.
 -- How faults are passed on from one function to the next (own).
-use Rattle.std.specs.Prelude.{◌≡◌, ◌⊎◌, ℕ, Result, Err, Some, ⊤}
+use Rattle.std.specs.Prelude.{◌≡◌, ◌⊎◌, ℕ, Result, Ok, Err, Some, ⊤}
 use Rattle.std.specs.declared.option.Option.{Option}
 use Rattle.geda_defs.specs.Contents.{Files}
 use Rattle.command_words.specs.declared.command.Command.{Command}
@@ -12,9 +12,10 @@ use Rattle.option_words.specs.declared.fault.WordFault.{WordFault}
 use Rattle.option_words.specs.declared.fault.WordFault.TheVariants as words
 use Rattle.project_files.specs.declared.folder.FolderFault.{FolderFault}
 use Rattle.project_files.specs.declared.folder.FolderFault.TheVariants as folder
-use Rattle.gafd_run.specs.Answers.{Outcome, ComesTo}
+use Rattle.gafd_run.specs.Answers.{AnswerData, Outcome, ComesTo}
+use Rattle.gafd_run.specs.Writing.{FolderRun, WroteFiles, WroteSome}
 use Rattle.project_files.specs.Counts.{Counts, Failed}
-use Rattle.gafd_run.specs.Runs.{Stream, SaidLine}
+use Rattle.gafd_run.specs.Runs.{IsQuiet, SaidLine, Stream, WrotePrefix, WroteWhole}
 use Rattle.gafd_run.specs.Faults.{error_line, status_of}
 
 -- what a fault of the folder becomes
@@ -44,6 +45,16 @@ abbrev pub AnswerOf : {A : Type 0} →
     Counts → (Result A RunFault → Type 0) → Result A RunFault → Type 0
 AnswerOf counts Comes (Err faults.FolderFault) = Failed counts
 AnswerOf counts Comes outcome = ComesOf Comes outcome
+
+-- what is written and out of an answer
+abbrev pub Delivers : FolderRun → Stream → AnswerData → Result (Unit {0}) RunFault → Type 0
+Delivers folder out answer (Ok _) = WroteFiles folder answer.files × WroteWhole out answer.text
+Delivers folder out answer (Err faults.FolderFault) =
+    Failed folder.faults × WroteSome folder answer.files × IsQuiet out
+Delivers folder out answer (Err faults.OutputFault) =
+    WroteFiles folder answer.files × WrotePrefix out answer.text
+Delivers folder out answer (Err faults.NoMemory) = WroteSome folder answer.files × IsQuiet out
+Delivers folder out answer (Err fault) = ⊥
 
 -- what a command comes to over the files that a folder tells
 abbrev pub Over : Option Files → Command → Outcome → Type 0

@@ -4,7 +4,7 @@ use Rattle.command_words.specs.declared.command.Command.TheVariants.{Netlist}
 use Rattle.gafd_run.specs.Answers.{ByNetList, listed}
 use Rattle.project_files.specs.ProjectFiles.{GathersFrom}
 use Rattle.gafd_run.specs.steps.Passing.{Over}
-use Rattle.gafd_run.proofs.NetListLemmas.{sheets_come, sheets_fail}
+use Rattle.gafd_run.proofs.SheetLemmas.{sheets_come, sheets_fail}
 use Rattle.gafd_run.proofs.Passing.{answer_from, files_fault}
 use Rattle.gafd_run.proofs.answer.netlist.Goals as goal
 
@@ -15,7 +15,7 @@ returns-clause-answer g c =
     let form = c.args.form in
     let project = c.in_ok-project.project.contents in
     let gathers = subst (λ (ns : List (List ℕ)). GathersFrom files ns (Ok project)) c.as_slice.ensures c.in_ok-project.ensures.project in
-    answer_from _ (ByNetList (listed form) project) (Over files (Netlist form names)) c.listed.result (λ r h. sheets_come (listed form) files names project r gathers h) c.listed.ensures
+    answer_from _ (ByNetList (listed form) project) (Over files (Netlist form names)) c.listed.result (λ r h. sheets_come (ByNetList (listed form)) files names project r gathers h) c.listed.ensures
 
 pub returns-in_err-project-clause-answer : goal.returns-in_err-project-clause-answer
 returns-in_err-project-clause-answer g c =
@@ -24,5 +24,5 @@ returns-in_err-project-clause-answer g c =
     let form = c.args.form in
     let e = c.in_err-project.field-0.0 in
     let fault = err_from_is_err_and c.from_residual.result c.from_residual.ensures.1 in
-    let h = files_fault (g.F.Folder.faults c.args.folder.now) _ (g.F.Folder.faults c.project_of.new.folder) (GathersFrom files c.as_slice.result.now) (Over files (Netlist form names)) e (omega arith) (λ came. sheets_fail (listed form) files names e (subst (λ (ns : List (List ℕ)). GathersFrom files ns (Err e)) c.as_slice.ensures came)) c.in_err-project.ensures.project in
+    let h = files_fault (g.F.Folder.faults c.args.folder.now) _ (g.F.Folder.faults c.project_of.new.folder) (GathersFrom files c.as_slice.result.now) (Over files (Netlist form names)) e (omega arith) (λ came. sheets_fail (ByNetList (listed form)) files names e (subst (λ (ns : List (List ℕ)). GathersFrom files ns (Err e)) c.as_slice.ensures came)) c.in_err-project.ensures.project in
     rw (fault.1, fault.2) h

@@ -1,12 +1,23 @@
-use Rattle.std.proofs.Common.{ap, ◌∙◌}
-use Rattle.gafd_run.specs.Answers.{AnswerData}
-use Rattle.project_files.specs.Counts.{counts}
+use Rattle.std.proofs.Common.{refl}
 use Rattle.std.proofs.lemmas.Result.{err_from_is_err_and}
-use Rattle.gafd_run.proofs.Passing.{failed_write}
+use Rattle.project_files.specs.Counts.{counts}
+use Rattle.gafd_run.specs.Runs.{stream}
+use Rattle.gafd_run.specs.Writing.{folder_run}
+use Rattle.gafd_run.proofs.DeliveryLemmas.{answer_failed, delivered, delivery_failed}
 use Rattle.gafd_run.proofs.whole.answered.Goals as goal
 
-pub returns-in_err-write-clause-end : goal.returns-in_err-write-clause-end
-returns-in_err-write-clause-end g c =
-    let fault = err_from_is_err_and c.from_residual-in_err-write.result c.from_residual-in_err-write.ensures.1 in
-    let h = failed_write _ _ _ (counts (g.F.Folder.faults c.args.folder.now) (g.F.Folder.faults c.answer_of.new.folder)) _ _ _ _ c.in_ok-command.ensures.asked c.in_ok-answer.ensures.answer (c.deref.ensures.value ∙ ap (λ (answer : AnswerData). answer.text) c.answer.view_is) c.in_err-write.ensures.bytes c.in_err-write.ensures.cause in
-    rw (fault.1, fault.2) h
+pub returns-in_err-answer : goal.returns-in_err-answer
+returns-in_err-answer g c =
+    let fault = err_from_is_err_and c.from_residual-in_err-answer.result c.from_residual-in_err-answer.ensures.1 in
+    let folder = folder_run (g.F.Folder.files c.args.folder.now) (g.F.Folder.files c.answer_of.new.folder) (counts (g.F.Folder.faults c.args.folder.now) (g.F.Folder.faults c.answer_of.new.folder)) in
+    rw (fault.1, fault.2) (answer_failed folder _ c.in_ok-command.command _ c.in_err-answer.field-0.0 c.in_ok-command.ensures.asked c.in_err-answer.ensures.files refl c.in_err-answer.ensures.answer)
+
+pub returns-in_err-deliver : goal.returns-in_err-deliver
+returns-in_err-deliver g c =
+    let fault = err_from_is_err_and c.from_residual-in_err-deliver.result c.from_residual-in_err-deliver.ensures.1 in
+    rw (fault.1, fault.2) (delivery_failed (g.F.Folder.files c.args.folder.now) (g.F.Folder.files c.answer_of.new.folder) (g.F.Folder.files c.deliver.new.folder) (g.F.Folder.faults c.args.folder.now) (g.F.Folder.faults c.answer_of.new.folder) (g.F.Folder.faults c.deliver.new.folder) _ c.in_ok-command.command _ c.in_ok-answer.answer c.in_ok-command.ensures.asked c.in_ok-answer.ensures.answer c.in_ok-answer.ensures.files c.in_ok-answer.ensures.later c.in_err-deliver.field-0.0 c.in_err-deliver.ensures)
+
+pub returns : goal.returns
+returns g c =
+    let out = stream (g.O.Sink.written c.args.out.now) (g.O.Sink.written c.deliver.new.out) (counts (g.O.Sink.faults c.args.out.now) (g.O.Sink.faults c.deliver.new.out)) in
+    delivered (g.F.Folder.files c.args.folder.now) (g.F.Folder.files c.answer_of.new.folder) (g.F.Folder.files c.deliver.new.folder) (g.F.Folder.faults c.args.folder.now) (g.F.Folder.faults c.answer_of.new.folder) (g.F.Folder.faults c.deliver.new.folder) _ c.in_ok-command.command out c.in_ok-answer.answer c.in_ok-command.ensures.asked c.in_ok-answer.ensures.answer c.in_ok-answer.ensures.files c.in_ok-answer.ensures.later c.in_ok-deliver.ensures
