@@ -1,5 +1,5 @@
 // The kinds of cases.
-use crate::{boards, changes, hierarchies, programs, texts};
+use crate::{boards, changes, hierarchies, programs, rewrites, texts};
 use case_tables::{Answers, CaseFault, TableFiles};
 use std::alloc::Global;
 
@@ -16,6 +16,7 @@ impl Answers for ProgramAnswers {
     ) -> Result<String, CaseFault> {
         match kind {
             "command" => programs::command(alloc, cells, files),
+            "rewritten" => rewrites::rewritten(alloc, cells, files),
             _ => Err(CaseFault::BadCase),
         }
     }
@@ -29,6 +30,7 @@ impl Answers for ProgramAnswers {
     ) -> Result<String, CaseFault> {
         match kind {
             "program" => programs::lines(alloc, words, files),
+            "contents" => rewrites::contents(alloc, words, files),
             "instances" => hierarchies::instances(alloc, words, files),
             "groups" => boards::groups(alloc, words, files),
             "bound" => boards::bound(alloc, words, files),

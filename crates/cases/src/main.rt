@@ -12,6 +12,7 @@ mod changes;
 mod hierarchies;
 mod programs;
 mod projects;
+mod rewrites;
 mod texts;
 
 use answers::ProgramAnswers;

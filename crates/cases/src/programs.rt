@@ -9,7 +9,7 @@ const ROOM: usize = 100_000;
 
 /// What a run comes to.
 #[derive(Drop)]
-struct Ran {
+pub struct Ran {
     status: u8,
     out: String,
     err: String,
@@ -23,7 +23,7 @@ fn call_of(number: &str) -> Result<u64, CaseFault> {
 }
 
 /// The numbers of the calls of one of `folder`, `out` and `err` that are to fail, as in `folder:2`.
-fn failing_calls(alloc: Global, failing: &str, whose: &str) -> Result<Vec<u64>, CaseFault> {
+pub fn failing_calls(alloc: Global, failing: &str, whose: &str) -> Result<Vec<u64>, CaseFault> {
     let mut calls = Vec::new(alloc);
     for word in failing.split_whitespace() {
         let (name, number) = word.split_once(':').ok_or(CaseFault::BadCase)?;
@@ -50,7 +50,8 @@ fn outcome(
     Ok(Ran { status, out, err })
 }
 
-fn run_in(
+/// Runs the program in a folder. Of the calls that `failing` names, those of the sinks fail.
+pub fn run_in(
     alloc: Global,
     arguments: &[String],
     folder: &mut MemoryFolder,
@@ -90,7 +91,8 @@ pub fn command(alloc: Global, cells: &[&str], files: &TableFiles) -> Result<Stri
     Ok(ran_text(alloc, &ran)?)
 }
 
-fn ran_text(alloc: Global, ran: &Ran) -> Result<String, AllocError> {
+/// The status, the output and the errors, in a line.
+pub fn ran_text(alloc: Global, ran: &Ran) -> Result<String, AllocError> {
     let mut text = format!(in alloc; "{}", ran.status)?;
     put_marked(&mut text, ">", ran.out.as_str())?;
     put_marked(&mut text, "!", ran.err.as_str())?;
@@ -113,6 +115,11 @@ pub fn put_lines(to: &mut String, mark: &str, text: &str) -> Result<(), AllocErr
 /// The output of a command, its errors and its status, a line each.
 pub fn lines(alloc: Global, words: &str, files: &TableFiles) -> Result<String, CaseFault> {
     let ran = outcome_of(alloc, words, "", files)?;
+    Ok(ran_lines(alloc, &ran)?)
+}
+
+/// The output, the errors and the status, a line each.
+pub fn ran_lines(alloc: Global, ran: &Ran) -> Result<String, AllocError> {
     let mut text = String::new(alloc);
     put_lines(&mut text, ">", ran.out.as_str())?;
     put_lines(&mut text, "!", ran.err.as_str())?;
