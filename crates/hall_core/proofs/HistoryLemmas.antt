@@ -1,0 +1,157 @@
+-- Histories as a hall keeps them.
+use Rattle.std.proofs.Common.{◌≡◌, ℕ, zero, suc, ◌≤◌, ◌<◌, ◌+◌, Bool, true, false, cond, List, [], ◌∷◌, ◌++◌, length, take, All, Some, None, Option, IfSome, Result, Ok, Err, IfOk, refl, ap, sym, ◌∙◌, subst, arith}
+use Rattle.std.specs.List.{slice_get}
+use Rattle.std.specs.declared.alloc.AllocError.{AllocError}
+use Rattle.std.proofs.lemmas.List.Elements.{All-nil, All-push, All-take}
+use Rattle.std.proofs.Math.Seq.{take-append_seam}
+use mathlib.Core.List.{IsPrefix}
+use Rattle.project_model.specs.declared.change.Change.{Change}
+use Rattle.project_model.specs.Items.{Item}
+use Rattle.project_model.specs.Projects.{ProjectData}
+use Rattle.project_model.specs.Changes.{CanApply, put}
+use Rattle.edit_entries.specs.Entries.{EntryData, EntryIsInRange}
+use Rattle.edit_entries.specs.declared.fault.EditFault.{EditFault}
+use Rattle.edit_rules.specs.EarlyLines.{is_same_at, numbered, repeated, repeated_at}
+use Rattle.edit_rules.specs.EditChanges as histories
+use Rattle.edit_rules.specs.Fitting.{Fits}
+use Rattle.edit_rules.specs.Histories.{changes, project}
+use Rattle.edit_rules.specs.Naming.{is_numbered}
+use Rattle.edit_rules.specs.Verdicts.{Legal, first_of, lines, verdict, verdict_by}
+use Rattle.edit_rules.specs.declared.verdict.Verdict.{Verdict}
+use Rattle.edit_rules.specs.declared.verdict.Verdict.TheVariants as verdicts
+use Rattle.edit_rules.proofs.Accepting.{accepted}
+use Rattle.edit_rules.proofs.FitLemmas.{fits}
+use Rattle.edit_rules.proofs.LongerHistories.{last_within, legal_push, legal_take, project_push}
+use Rattle.hall_core.specs.Histories.{IsHistory, IsJudged, IsNextChange, MayFollow, first_id_at}
+use Rattle.hall_core.proofs.Prefixes.{prefix_whole}
+
+-- the empty history
+pub no_history : IsHistory []
+no_history = record { legal = λ k e at. absurd (none_at k e at); in_range = All-nil EntryIsInRange }
+  where
+    none_at : (k : ℕ) (e : EntryData) → slice_get [] k ≡ Some e → ⊥
+    none_at zero e at = absurd (cc at)
+    none_at (suc k) e at = absurd (cc at)
+
+-- a history grows by an entry that may follow
+pub history_push : (h : List EntryData) (e : EntryData) → IsHistory h → MayFollow h e → EntryIsInRange e → IsHistory (h ++ e ∷ [])
+history_push h e history may range = record {
+  legal = legal_push h e history.legal may.is;
+  in_range = All-push EntryIsInRange h e history.in_range range;
+}
+
+-- each prefix of a history is one
+pub history_prefix : (p h : List EntryData) → IsPrefix p h → IsHistory h → IsHistory p
+history_prefix p h begins history =
+    let front : take (length p) h ≡ p = ap (take (length p)) (sym begins.1) ∙ take-append_seam p begins.0 in
+    subst IsHistory front (record { legal = legal_take h (length p) history.legal; in_range = All-take EntryIsInRange (length p) h history.in_range })
+
+get_last : (xs : List EntryData) (e : EntryData) → slice_get (xs ++ e ∷ []) (length xs) ≡ Some e
+get_last [] e = refl
+get_last (x ∷ xs) e = get_last xs e
+
+range_last : (xs : List EntryData) (e : EntryData) → All EntryIsInRange (xs ++ e ∷ []) → EntryIsInRange e
+range_last [] e all = all 0 e (omega arith)
+range_last (x ∷ xs) e all = range_last xs e (λ i d lt. all (suc i) d (omega (arith, lt)))
+
+-- the last entry of a history was accepted
+pub last_accepted : (xs : List EntryData) (e : EntryData) → IsHistory (xs ++ e ∷ []) → MayFollow xs e × EntryIsInRange e
+last_accepted xs e history = (
+  record {
+    is = subst (λ (l : List EntryData). verdict l e ≡ verdicts.Accept (record { items = changes l e.edit })) (take-append_seam xs (e ∷ [])) (history.legal (length xs) e (get_last xs e));
+  },
+  range_last xs e history.in_range,
+)
+
+-- a verdict that was given
+pub judged : (h : List EntryData) (e : EntryData) (r : Result Verdict AllocError) → IfOk r (λ v. v ≡ verdict h e) → IfOk r (λ v. IsJudged h e v)
+judged h e (Ok v) is = record { is = sym is }
+judged h e (Err x) is = tt
+
+-- what is accepted may follow
+pub may_follow : (h : List EntryData) (e : EntryData) (c : Change) → IsJudged h e (verdicts.Accept c) → MayFollow h e
+may_follow h e c judged = record { is = (accepted h e c judged.is).follows }
+
+pub change_is : (h : List EntryData) (e : EntryData) (c : Change) → IsJudged h e (verdicts.Accept c) → c.items ≡ changes h e.edit
+change_is h e c judged = sym (accepted h e c judged.is).is_change
+
+pub follow_short : (h : List EntryData) (e : EntryData) → MayFollow h e → length h < 200000
+follow_short h e may = (accepted h e (record { items = changes h e.edit }) may.is).short
+
+-- what the next entry changes can be put in
+pub next_can : (before after : List EntryData) (items : List Item) → IsNextChange before after items → IsHistory after → CanApply items
+next_can before after items next history =
+    let e : EntryData = next.entry in
+    let whole : IsHistory (before ++ e ∷ []) = subst IsHistory next.grown history in
+    let last = last_accepted before e whole in
+    let first : IsHistory before = history_prefix before (before ++ e ∷ []) (e ∷ [], refl) whole in
+    let fit : Fits (project before) (changes before e.edit) = fits before e (record { items = changes before e.edit }) first.legal first.in_range last.1 last.0.is in
+    subst CanApply (sym next.made) (record { distinct = fit.distinct; in_range = fit.in_range })
+
+-- the project then is that of the longer list
+pub next_project : (before after : List EntryData) (items : List Item) → IsNextChange before after items → put (project before) items ≡ project after
+next_project before after items next =
+    ap (put (project before)) next.made ∙ sym (project_push before next.entry) ∙ ap project (sym next.grown)
+
+-- a copy that stands for the entries before takes the change
+pub step_project : (p : ProjectData) (prefix before after : List EntryData) (items : List Item) → p ≡ project prefix → length prefix ≡ length before → IsPrefix prefix before
+    → IsNextChange before after items → put p items ≡ project after
+step_project p prefix before after items is len begins next =
+    let same : prefix ≡ before = prefix_whole prefix before begins (omega (arith, len)) in
+    ap (λ (q : ProjectData). put q items) (is ∙ ap project same) ∙ next_project before after items next
+
+repeat_by : (a : Option ℕ) (f : Option EditFault) (c : histories.Change) (k : ℕ) → verdict_by a f c ≡ verdicts.Repeat k → a ≡ Some k
+repeat_by (Some j) f c k e = let same : j ≡ k = cc e in ap Some same
+repeat_by None (Some f) c k e = absurd (cc e)
+repeat_by None None c k e = absurd (cc e)
+
+at_found : (h : List EntryData) (e : EntryData) (found : Option ℕ) (k : ℕ) → repeated_at h e found ≡ Some k → found ≡ Some k
+at_found h e None k at = absurd (cc at)
+at_found h e (Some j) k at = go (is_same_at (slice_get h j) e) at
+  where
+    go : (b : Bool) → cond b (Some j) None ≡ Some k → Some j ≡ Some k
+    go true is = is
+    go false is = absurd (cc is)
+
+-- what is repeated stands in the history
+pub repeat_within : (h : List EntryData) (e : EntryData) (k : ℕ) → IsJudged h e (verdicts.Repeat k) → k < length h
+repeat_within h e k judged =
+    let found : numbered h e ≡ Some k = at_found h e (numbered h e) k (repeat_by (repeated h e) (first_of (lines h e)) (changes h e.edit) k judged.is) in
+    subst (λ (o : Option ℕ). IfSome o (λ j. j < length h)) found (last_within (is_numbered e.session e.number) h)
+
+-- the id before the last entry
+pub first_id_last : (h new : List EntryData) (e : EntryData) (serial : ℕ) → new ≡ h ++ e ∷ [] → serial ≡ length h → (project h).next_id ≡ first_id_at new serial
+first_id_last h new e serial grown is =
+    ap (λ (l : List EntryData). (project l).next_id) (sym (ap (λ (k : ℕ). take k new) is ∙ (ap (take (length h)) grown ∙ take-append_seam h (e ∷ []))))
+
+last_of : (x : EntryData) (xs : List EntryData) → (e : EntryData) × (slice_get (x ∷ xs) (length xs) ≡ Some e)
+last_of x [] = (x, refl)
+last_of x (y ∷ ys) = last_of y ys
+
+take_length : (h : List EntryData) (k : ℕ) → k ≤ length h → length (take k h) ≡ k
+take_length h zero le = refl
+take_length [] (suc k) le = absurd (omega (arith, le))
+take_length (x ∷ h) (suc k) le = ap suc (take_length h k (omega (arith, le)))
+
+-- a history has at most so many entries
+pub history_short : (h : List EntryData) → IsHistory h → length h ≤ 200000
+history_short [] history = omega arith
+history_short (x ∷ xs) history =
+    let last = last_of x xs in
+    let may : MayFollow (take (length xs) (x ∷ xs)) last.0 = record { is = history.legal (length xs) last.0 last.1 } in
+    let short = follow_short (take (length xs) (x ∷ xs)) last.0 may in
+    let len = take_length (x ∷ xs) (length xs) (omega arith) in
+    omega (arith, short, len)
+
+take_next : (h : List EntryData) (k : ℕ) (e : EntryData) → slice_get h k ≡ Some e → take (suc k) h ≡ take k h ++ e ∷ []
+take_next [] k e at = absurd (cc at)
+take_next (x ∷ h) zero e at = let same : x ≡ e = cc at in ap (λ y. y ∷ []) same
+take_next (x ∷ h) (suc k) e at = ap (λ l. x ∷ l) (take_next h k e at)
+
+-- one more entry
+pub take_one_more : (h : List EntryData) (k : ℕ) (e : EntryData) → slice_get h k ≡ Some e → take (k + 1) h ≡ take k h ++ e ∷ []
+take_one_more h k e at = let one : suc k ≡ k + 1 = omega arith in subst (λ n. take n h ≡ take k h ++ e ∷ []) one (take_next h k e at)
+
+-- an entry of a legal history was accepted after those before it
+pub follows_at : (h : List EntryData) (k : ℕ) (e : EntryData) → Legal h → slice_get h k ≡ Some e → MayFollow (take k h) e
+follows_at h k e legal at = record { is = legal k e at }

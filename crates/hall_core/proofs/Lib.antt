@@ -1,0 +1,8 @@
+pub mod Prefixes
+pub mod HistoryLemmas
+pub mod Adding
+pub mod Showing
+pub mod Reading
+pub mod Closing
+pub mod Opening
+pub mod Editing

@@ -1,0 +1,20 @@
+-- What a change does to a board that is published, and what a look at it is answered (own).
+use Rattle.std.specs.Prelude.{◌≡◌, ◌==◌, List, length, cond}
+use Rattle.edit_entries.specs.Entries.{EntryData}
+use Rattle.edit_rules.specs.Histories.{project}
+use Rattle.board_core.specs.Boards.{BoardData}
+
+-- the entries before a change, and those with the entry of the change
+pub record StepData : Type 0 where
+  pub before : List EntryData
+  pub after : List EntryData
+
+-- the entry comes in where the list is as long as the one that it is to follow
+abbrev pub applied_to : List EntryData → StepData → List EntryData
+applied_to list op = cond (length list == length op.before) op.after list
+
+-- this was answered on a board of these entries' project
+pub record IsAnswered (h : List EntryData) (answered : BoardData → Type 0) : Type 0 where
+  pub board : BoardData
+  pub shows : board.project ≡ project h
+  pub answer : answered board

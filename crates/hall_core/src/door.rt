@@ -1,0 +1,134 @@
+// Where readers get their places, and their entry to the board. Both count how often they were
+// refused. These counts are trusted: no clause of the board shows that it refused.
+ghost use Rattle.std.specs.Prelude.{◌≡◌, ◌≤◌, IfSome, IfNone, MatchBool};
+ghost use Rattle.std.specs.Fn.{FnOnceReturnsAt};
+ghost use mathlib.Core.List.{IsPrefix};
+ghost use Rattle.geda_defs.specs.Causes.{HasRisen};
+ghost use Rattle.hall_core.specs.BoardSteps.{IsAnswered};
+
+use crate::board_copy::ShowsBoard;
+use crate::log::{HallName, Prefix};
+use crate::published::PublishedDesk;
+use board_core::Board;
+use left_right::ReadHandle;
+use std::marker::PhantomData;
+use std::sync::Wait;
+
+/// Where readers get their places. It counts how often one was refused.
+#[derive(Drop)]
+pub struct Places {
+    /// How often a place was refused. The count stays at the end of its type.
+    pub refused: u64,
+}
+
+impl Places {
+    /// Where no place was refused yet. It takes no memory.
+    pub fn new() -> Places
+        ensures { result.refused ≡ 0 }
+    {
+        Places { refused: 0 }
+    }
+
+    /// The door of a new reader.
+    ///
+    /// `None` only where the count of refusals rose.
+    pub(crate) fn door<B: HallName, S: ShowsBoard<B>, R: Wait + Drop>(
+        &mut self,
+        desk: &PublishedDesk<B, S, R>,
+    ) -> Option<Door<B, S>>
+        ensures some { IfSome result (λ door. door.refusals ≡ 0) }
+        ensures none { IfNone result (HasRisen self.old.refused self.new.refused) }
+        ensures later { self.old.refused ≤ self.new.refused }
+    {
+        match desk.door() {
+            Some(door) => Some(door),
+            None => {
+                self.refused = self.refused.saturating_add(1);
+                None
+            }
+        }
+    }
+}
+
+/// The way of one reader to the board. It counts how often it was refused.
+#[derive(Drop)]
+pub struct Door<B: HallName, S: ShowsBoard<B>> {
+    reader: ReadHandle<S>,
+    /// How often the reader was refused. The count stays at the end of its type.
+    pub refusals: u64,
+    of: PhantomData<B>,
+}
+
+fn read_from<B: HallName, S: ShowsBoard<B>, T, F: FnOnce(&Board) -> T + Drop>(
+    reader: &mut ReadHandle<S>,
+    seen: &Prefix<B>,
+    f: F,
+) -> Option<(Prefix<B>, T)>
+    requires { F.IsAlwaysCallable f }
+    ensures { IfSome result (λ read. IsPrefix seen.now read.0
+        × IsAnswered read.0 (λ board. FnOnceReturnsAt F.FnOnce f board read.1)) }
+{
+    let guard = reader.enter()?;
+    let shown: &S = &guard;
+    let prefix = shown.prefix();
+    if !seen.begins(prefix) {
+        return None;
+    }
+    let answer = f(shown.board());
+    Some((prefix.again(), answer))
+}
+
+impl<B: HallName, S: ShowsBoard<B>> Door<B, S> {
+    /// The door of a reader that was not refused yet. It takes no memory.
+    pub(crate) fn new(reader: ReadHandle<S>) -> Door<B, S>
+        ensures { result.refusals ≡ 0 }
+    {
+        Door {
+            reader,
+            refusals: 0,
+            of: PhantomData,
+        }
+    }
+
+    fn refuse(&mut self)
+        ensures risen { HasRisen self.old.refusals self.new.refusals }
+        ensures later { self.old.refusals ≤ self.new.refusals }
+    {
+        self.refusals = self.refusals.saturating_add(1);
+    }
+
+    // Shows the board to a closure, where it holds all that was seen, with its prefix.
+    pub(crate) fn read<T, F: FnOnce(&Board) -> T + Drop>(
+        &mut self,
+        seen: &Prefix<B>,
+        f: F,
+    ) -> Option<(Prefix<B>, T)>
+        requires { F.IsAlwaysCallable f }
+        ensures some { IfSome result (λ read. IsPrefix seen.now read.0
+            × IsAnswered read.0 (λ board. FnOnceReturnsAt F.FnOnce f board read.1)) }
+        ensures none { IfNone result (HasRisen self.old.refusals self.new.refusals) }
+        ensures later { self.old.refusals ≤ self.new.refusals }
+    {
+        match read_from(&mut self.reader, seen, f) {
+            Some(read) => Some(read),
+            None => {
+                self.refuse();
+                None
+            }
+        }
+    }
+
+    // Whether what is told holds all that was seen.
+    pub(crate) fn admits(&mut self, seen: &Prefix<B>, told: &Prefix<B>) -> bool
+        ensures admits { MatchBool result
+            (IsPrefix seen.now told.now × (self.new.refusals ≡ self.old.refusals))
+            (HasRisen self.old.refusals self.new.refusals) }
+        ensures later { self.old.refusals ≤ self.new.refusals }
+    {
+        if seen.begins(told) {
+            return true;
+        }
+        self.refuse();
+        false
+    }
+}

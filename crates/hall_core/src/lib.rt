@@ -1,0 +1,28 @@
+//! Many callers at one history of edits: the pen behind a lock, a seat for each caller, and the
+//! board that they read without the lock.
+//!
+//! Serials and lengths of histories count entries, from 0. The main types are `Hall` and `Seat`;
+//! who opens a hall names it once (`HallName`). Rules: docs/RULES.md, "Histories that are shared"
+//! and "Seats". Definitions: specs/Steps.antt (the pen, and edits), specs/Seats.antt,
+//! specs/Rows.antt, specs/Closings.antt, and those that they cite.
+#![tactic(auto)]
+
+mod board_copy;
+mod door;
+mod hall;
+pub mod laws;
+mod log;
+mod losses;
+mod pen;
+mod published;
+mod rows;
+mod seat;
+
+pub use board_copy::{NextChange, PrefixBoard, ShowsBoard};
+pub use door::{Door, Places};
+pub use hall::{BoardHall, BoardSeat, Hall, close_hall, edit, open_hall};
+pub use keeper_core::Reply;
+pub use log::{HallName, NamedLog, NewLog, Prefix};
+pub use pen::Pen;
+pub use rows::OpenFault;
+pub use seat::Seat;

@@ -1,0 +1,105 @@
+// What a connection holds of the hall.
+ghost use Rattle.std.specs.Prelude.{◌≡◌, ◌≤◌, ◌^◌, ◌<◌, length, IfSome, IfNone, MatchBool};
+ghost use Rattle.std.specs.Fn.{FnOnceReturnsAt};
+ghost use mathlib.Core.List.{IsPrefix};
+ghost use Rattle.geda_defs.specs.Causes.{HasRisen};
+ghost use Rattle.hall_core.specs.Histories.{IsHistory};
+ghost use Rattle.hall_core.specs.BoardSteps.{IsAnswered};
+ghost use Rattle.hall_core.specs.Seats.{Learns, SeatData};
+
+use crate::board_copy::ShowsBoard;
+use crate::door::Door;
+use crate::log::{HallName, Prefix};
+use crate::losses::Allowance;
+use board_core::Board;
+use std::marker::Model;
+
+/// The read handle of one connection (docs/RULES.md, "Seats"). Contracts see the entries that it
+/// has seen, its losses, which are the faults of the keeper that it was told, at most
+/// 4,294,967,295, and its refusals, which are how often it was refused its entry to the board, at
+/// most 2^64 - 1.
+#[derive(Drop)]
+pub struct Seat<B: HallName, S: ShowsBoard<B>> {
+    door: Door<B, S>,
+    seen: Prefix<B>,
+    pub(crate) allowance: Allowance<B>,
+}
+
+impl<B: HallName, S: ShowsBoard<B>> Model for Seat<B, S> {
+    ghost use Rattle.hall_core.specs.Seats.{SeatData};
+
+    ghost Value = { SeatData };
+
+    ghost view = { λ s. record {
+      seen = s.seen;
+      losses = s.allowance.losses;
+      refusals = s.door.refusals;
+    } };
+}
+
+impl<B: HallName, S: ShowsBoard<B>> Seat<B, S> {
+    pub(crate) fn new(door: Door<B, S>, seen: Prefix<B>, allowance: Allowance<B>) -> Seat<B, S>
+        ensures seen { result.seen ≡ seen }
+        ensures losses { result.losses ≡ allowance.losses }
+        ensures refusals { result.refusals ≡ door.refusals }
+    {
+        Seat {
+            door,
+            seen,
+            allowance,
+        }
+    }
+
+    /// How many entries it has seen, which are a legal history. It takes no memory.
+    pub fn front(&self) -> u32
+        ensures length { result ≡ length self.now.seen }
+        ensures history { IsHistory self.now.seen }
+    {
+        self.seen.len() as u32
+    }
+
+    /// Shows the board to a closure, with how many entries the board has. It holds all that this
+    /// seat had seen, and has the project of just what the seat has then seen. It takes no lock,
+    /// does not wait, and takes no memory of its own.
+    ///
+    /// `None` only where the count of refusals rose; what it has seen is then as before.
+    pub fn look<T, F: FnOnce(&Board) -> T + Drop>(&mut self, f: F) -> Option<(u32, T)>
+        requires { F.IsAlwaysCallable f }
+        ensures seen { IfSome result (λ look. IsPrefix self.old.seen self.new.seen) }
+        ensures front { IfSome result (λ look. look.0 ≡ length self.new.seen) }
+        ensures answered { IfSome result (λ look.
+            IsAnswered self.new.seen (λ board. FnOnceReturnsAt F.FnOnce f board look.1)) }
+        ensures history { IfSome result (λ look. IsHistory self.new.seen) }
+        ensures none { IfNone result
+            ((self.new.seen ≡ self.old.seen) × HasRisen self.old.refusals self.new.refusals) }
+        ensures losses { self.new.losses ≡ self.old.losses }
+        ensures later { self.old.refusals ≤ self.new.refusals }
+    {
+        let (seen, answer) = self.door.read(&self.seen, f)?;
+        let front = seen.len() as u32;
+        self.seen = seen;
+        Some((front, answer))
+    }
+
+    // Sees what it is told, where that holds all that it had seen.
+    pub(crate) fn learn(&mut self, told: &Prefix<B>) -> bool
+        ensures learned { Learns self.old told.now result self.new }
+    {
+        if !self.door.admits(&self.seen, told) {
+            return false;
+        }
+        self.seen = told.again();
+        true
+    }
+
+    // Whether these entries hold all that it has seen.
+    pub(crate) fn is_held(&mut self, listed: &Prefix<B>) -> bool
+        ensures held { MatchBool result
+            (IsPrefix self.new.seen listed.now)
+            (HasRisen self.old.refusals self.new.refusals) }
+        ensures same { (self.new.seen ≡ self.old.seen) × (self.new.losses ≡ self.old.losses) }
+        ensures later { self.old.refusals ≤ self.new.refusals }
+    {
+        self.door.admits(&self.seen, listed)
+    }
+}
