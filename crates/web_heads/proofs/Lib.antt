@@ -1,0 +1,7 @@
+pub mod Fronts
+mod Memories
+mod DigitLemmas
+mod Lengths
+pub mod Cutting
+pub mod Once
+mod Nexts

@@ -1,0 +1,7 @@
+pub mod Links
+pub mod MemoryLinks
+pub mod Digits
+pub mod Heads
+pub mod Cuts
+pub mod Messages
+pub mod steps

@@ -1,0 +1,26 @@
+//! The messages of an HTTP connection: what a connection does, where each message ends, and why none
+//! follows.
+//!
+//! The main call is `next_message`, over a `Link`; `MemoryLink` is one in memory. Profile:
+//! docs/FORMATS.md, "HTTP". Rule: docs/RULES.md, "Messages". Definitions: specs/Cuts.antt and those
+//! that it cites.
+#![tactic(auto)]
+
+mod buffer;
+mod cut_end;
+mod digits;
+mod heads;
+mod laws;
+mod link;
+mod memory_link;
+mod message;
+mod next;
+
+pub use buffer::Buffer;
+pub use cut_end::CutEnd;
+pub use digits::short_number;
+pub use laws::{first_law, one_list_law};
+pub use link::{Link, LinkFault};
+pub use memory_link::MemoryLink;
+pub use message::Message;
+pub use next::{Next, next_message};
