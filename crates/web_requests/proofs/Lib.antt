@@ -1,0 +1,6 @@
+mod Mins
+mod Prefixes
+mod Walks
+mod Tables
+mod Adding
+pub mod OneRequest
