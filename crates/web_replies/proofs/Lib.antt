@@ -1,0 +1,3 @@
+mod BodyTexts
+mod ReplyBytes
+pub mod Held
