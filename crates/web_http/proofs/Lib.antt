@@ -1,0 +1,6 @@
+mod Counting
+mod Replying
+mod Completing
+mod EndTexts
+mod Served
+mod Responses

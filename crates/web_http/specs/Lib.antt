@@ -1,0 +1,5 @@
+pub mod Services
+pub mod Transcripts
+pub mod Serving
+pub mod Completeness
+pub mod steps
