@@ -1,0 +1,12 @@
+-- What is shown of a report that was made (own).
+use Rattle.std.specs.Prelude.{ℕ, List, Result, Ok, Err}
+use Rattle.reports.specs.declared.fault.ReportFault.{ReportFault}
+use Rattle.reports.specs.declared.fault.ReportFault.TheVariants as faults
+use Rattle.web_http.specs.declared.shown.Shown.{Shown}
+use Rattle.web_http.specs.declared.shown.Shown.TheVariants as shown
+
+-- what is shown of a report on a history of so many entries
+abbrev pub shown_of : ℕ → Result (List ℕ) ReportFault → Shown
+shown_of front (Ok text) = shown.Text front text
+shown_of front (Err faults.NoMemory) = shown.NoMemory
+shown_of front (Err fault) = shown.Fault front fault

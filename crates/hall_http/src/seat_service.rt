@@ -1,0 +1,88 @@
+// A seat of a hall, as what answers the requests of a connection.
+ghost use Rattle.std.specs.Prelude.{◌≡◌};
+ghost use Rattle.hall_http.specs.steps.Looks.{shown_of};
+ghost use Rattle.reports.specs.NetLists.{seen};
+ghost use Rattle.web_replies.specs.Answers.{is_behind};
+
+use edit_entries::Entry;
+use hall_core::{Hall, HallName, Seat, ShowsBoard, edit};
+use keeper_core::{Keeper, Reply};
+use pin_matrix::Matrix;
+use reports::{ReportFault, What, report};
+use std::alloc::Global;
+use std::sync::Wait;
+use web_http::{Bytes, Service, Shown};
+
+/// A seat of a hall, with the hall that its edits go to.
+#[derive(Drop)]
+pub struct SeatService<'a, W: Wait, K: Keeper, B: HallName, S: ShowsBoard<B>, R: Wait + Drop> {
+    pub rt: &'a W,
+    pub hall: &'a Hall<K, B, S, R>,
+    pub seat: &'a mut Seat<B, S>,
+}
+
+/// Whether more entries are wanted than there are.
+fn wants_more(least: Option<u64>, front: u32) -> bool
+    ensures { result ≡ is_behind least front }
+{
+    match least {
+        Some(least) => least > u64::from(front),
+        None => false,
+    }
+}
+
+/// What a report comes to, of a history of so many entries.
+fn shown(front: u32, told: Result<Vec<u8>, ReportFault>) -> Shown
+    ensures { result ≡ shown_of front (seen told) }
+{
+    match told {
+        Ok(text) => Shown::Text {
+            front,
+            body: Bytes::from_vec(text),
+        },
+        Err(ReportFault::NoMemory) => Shown::NoMemory,
+        Err(fault) => Shown::Fault { front, fault },
+    }
+}
+
+impl<W: Wait, K: Keeper, B: HallName, S: ShowsBoard<B>, R: Wait + Drop> Service
+    for SeatService<'_, W, K, B, S, R> {
+    ghost use Rattle.std.specs.Prelude.{Some};
+
+    ghost seen = { λ s. s.seat.now.seen };
+
+    ghost losses = { λ s. s.seat.now.losses };
+
+    ghost refusals = { λ s. s.seat.now.refusals };
+
+    ghost reference = { λ s. Some s.seat.ghost_name };
+
+    fn edit(&mut self, _alloc: Global, entry: Entry) -> Reply {
+        let reply = edit(self.rt, self.hall, self.seat, entry);
+        // The call shows the proof that what was seen is legal.
+        let _history = self.seat.front();
+        reply
+    }
+
+    fn front(&mut self) -> u32 {
+        match self.seat.look(|_board| ()) {
+            Some((front, ())) => front,
+            None => self.seat.front(),
+        }
+    }
+
+    fn report(&mut self, alloc: Global, least: Option<u64>, what: &What) -> Shown {
+        match self
+            .seat
+            .look(|board| report(alloc, board, what, &Matrix::usual()))
+        {
+            Some((front, told)) => {
+                if wants_more(least, front) {
+                    return Shown::Behind { front };
+                }
+                shown(front, told)
+            }
+            None => Shown::NoEntry,
+        }
+    }
+}
