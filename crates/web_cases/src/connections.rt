@@ -1,0 +1,120 @@
+// Connections in memory, served by a service with no entries.
+use crate::empty_service::EmptyService;
+use case_tables::{CaseFault, bytes_of, cell, number_of, text_in};
+use std::alloc::Global;
+use web_http::{LinkEnd, MemoryLink, serve};
+
+const ROOM: usize = 2_000_000;
+
+/// What a connection came to.
+#[derive(Drop)]
+pub struct Served {
+    /// How it ended.
+    pub end: LinkEnd,
+    link: MemoryLink,
+}
+
+impl Served {
+    /// What went out.
+    pub fn written(&self) -> &[u8] {
+        self.link.written()
+    }
+
+    /// The name of the end.
+    pub fn end_name(&self) -> &'static str {
+        match self.end {
+            LinkEnd::Closed => "Closed",
+            LinkEnd::CutShort => "CutShort",
+            LinkEnd::BadHead => "BadHead",
+            LinkEnd::TooLarge => "TooLarge",
+            LinkEnd::Unsupported => "Unsupported",
+            LinkEnd::ReadFault => "ReadFault",
+            LinkEnd::WriteFault => "WriteFault",
+            LinkEnd::Spent => "Spent",
+            LinkEnd::NoMemory => "NoMemory",
+        }
+    }
+
+    /// The end, and all that went out.
+    fn told(&self, alloc: Global) -> Result<String, CaseFault> {
+        let text = text_in(alloc, self.written())?;
+        Ok(format!(in alloc; "{} {}", self.end_name(), text.as_str())?)
+    }
+}
+
+/// Serves an input. The calls of these numbers fail, and so many looks are refused.
+fn connect(
+    alloc: Global,
+    input: Vec<u8>,
+    failing: Vec<u64>,
+    refusing: u64,
+) -> Result<Served, CaseFault> {
+    let mut service = EmptyService::new(alloc, refusing);
+    let mut link = MemoryLink::new(alloc, input, ROOM, failing)?;
+    let end = serve(alloc, &mut service, &mut link);
+    Ok(Served { end, link })
+}
+
+/// Serves an input where nothing fails.
+pub fn answered(alloc: Global, input: Vec<u8>) -> Result<Served, CaseFault> {
+    connect(alloc, input, Vec::new(alloc), 0)
+}
+
+/// Bytes that come in: the end, and what goes out.
+pub fn whole(alloc: Global, cells: &[&str]) -> Result<String, CaseFault> {
+    let input = bytes_of(alloc, cell(cells, 0))?;
+    answered(alloc, input)?.told(alloc)
+}
+
+/// The same where so many looks are refused.
+pub fn refused(alloc: Global, cells: &[&str]) -> Result<String, CaseFault> {
+    let input = bytes_of(alloc, cell(cells, 1))?;
+    let refusing = u64::from(number_of(cell(cells, 0))?);
+    connect(alloc, input, Vec::new(alloc), refusing)?.told(alloc)
+}
+
+/// How an input ends that is cut behind so many bytes, and how many bytes go out; a line where that
+/// is not as one byte before.
+pub fn cuts(alloc: Global, cells: &[&str]) -> Result<String, CaseFault> {
+    let input = bytes_of(alloc, cell(cells, 0))?;
+    let mut front = Vec::new(alloc);
+    let mut out = first_cut(alloc)?;
+    let mut last = answered(alloc, Vec::new(alloc))?;
+    for byte in input.as_slice() {
+        front.push(*byte)?;
+        let now = answered(alloc, front.clone()?)?;
+        if now.end != last.end || now.written() != last.written() {
+            put_cut(&mut out, front.len(), &now)?;
+        }
+        last = now;
+    }
+    Ok(out)
+}
+
+fn first_cut(alloc: Global) -> Result<String, CaseFault> {
+    let mut out = String::new(alloc);
+    let now = answered(alloc, Vec::new(alloc))?;
+    write!(out, "0 {} {}", now.end_name(), now.written().len())?;
+    Ok(out)
+}
+
+fn put_cut(out: &mut String, count: usize, now: &Served) -> Result<(), CaseFault> {
+    write!(out, "\n{count} {} {}", now.end_name(), now.written().len())?;
+    Ok(())
+}
+
+/// How an input ends where the first call fails, and how many bytes go out; the same of the second
+/// call, and so on, as far as one fails.
+pub fn failing(alloc: Global, cells: &[&str]) -> Result<String, CaseFault> {
+    let input = bytes_of(alloc, cell(cells, 0))?;
+    let mut out = String::new(alloc);
+    for call in 1..1000u64 {
+        let failing = Vec::from_slice(alloc, &[call])?;
+        let now = connect(alloc, input.clone()?, failing, 0)?;
+        writeln!(out, "{call} {} {}", now.end_name(), now.written().len())?;
+        if now.end == LinkEnd::Closed {
+            return Ok(out);
+        }
+    }
+    Ok(out)
+}
