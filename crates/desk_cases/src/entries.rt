@@ -1,0 +1,57 @@
+// The entries of a file, of which each line is one as JSON.
+ghost use Rattle.std.specs.Prelude.{IfOk};
+ghost use Rattle.edit_entries.specs.Entries.{EditIsInRange};
+
+use case_tables::{CaseFault, TableFiles, text_in};
+use edit_entries::{Edit, Entry};
+use edit_json::{EntryFault, read_entry};
+use geda_model::Block;
+use std::alloc::Global;
+
+/// A text, or that of the file which it names behind `@`.
+fn text_of(alloc: Global, text: Block, files: &TableFiles) -> Result<Block, CaseFault> {
+    let Some(name) = text.as_str().strip_prefix('@') else {
+        return Ok(text);
+    };
+    let text = text_in(alloc, files.find(name)?)?;
+    Ok(Block::new(alloc, text.as_str())?)
+}
+
+fn edit_of(alloc: Global, edit: Edit, files: &TableFiles) -> Result<Edit, CaseFault>
+    requires { EditIsInRange edit }
+    ensures { IfOk result EditIsInRange }
+{
+    match edit {
+        Edit::AddSheet { name, text } => Ok(Edit::AddSheet {
+            name,
+            text: text_of(alloc, text, files)?,
+        }),
+        Edit::AddSymbol { name, text } => Ok(Edit::AddSymbol {
+            name,
+            text: text_of(alloc, text, files)?,
+        }),
+        Edit::AddObject { sheet, text } => Ok(Edit::AddObject {
+            sheet,
+            text: text_of(alloc, text, files)?,
+        }),
+        Edit::Replace { id, text } => Ok(Edit::Replace {
+            id,
+            text: text_of(alloc, text, files)?,
+        }),
+        edit => Ok(edit),
+    }
+}
+
+/// The entry of a line.
+pub fn entry_of(alloc: Global, line: &str, files: &TableFiles) -> Result<Entry, CaseFault> {
+    match read_entry(alloc, line.as_bytes()) {
+        Ok(entry) => Ok(Entry {
+            session: entry.session,
+            number: entry.number,
+            base: entry.base,
+            edit: edit_of(alloc, entry.edit, files)?,
+        }),
+        Err(EntryFault::BadEdit { .. }) => Err(CaseFault::BadCase),
+        Err(EntryFault::NoMemory) => Err(CaseFault::NoMemory),
+    }
+}

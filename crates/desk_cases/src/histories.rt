@@ -1,0 +1,85 @@
+// Histories of entries, and what a desk says of each.
+ghost use Rattle.std.specs.Prelude.{◌≡◌};
+ghost use Rattle.edit_rules.specs.Verdicts.{verdict};
+ghost use Rattle.edit_rules.specs.declared.verdict.Verdict.TheVariants.{Accept};
+
+use crate::entries::entry_of;
+use case_tables::{CaseFault, TableFiles, number_of, text_in};
+use edit_desk::Desk;
+use edit_entries::Entry;
+use edit_rules::Verdict;
+use project_model::Change;
+use std::alloc::{AllocError, Global};
+
+/// Takes an accepted entry, and puts its serial and the first id that was free before it.
+fn accept(
+    alloc: Global,
+    out: &mut String,
+    desk: &mut Desk,
+    entry: Entry,
+    change: Change,
+) -> Result<(), AllocError>
+    requires { verdict desk.old.history entry ≡ Accept change }
+{
+    desk.reserve(alloc, &change)?;
+    let serial = desk.commit(entry, change);
+    put_serial(out, desk, "Accept", serial)
+}
+
+fn put_serial(out: &mut String, desk: &Desk, word: &str, serial: u32) -> Result<(), AllocError> {
+    match desk.first_id(serial) {
+        Some(id) => writeln!(out, "> {word} {{ serial: {serial}, first_id: {id} }}"),
+        None => writeln!(out, "> {word} {{ serial: {serial} }}"),
+    }
+}
+
+/// Judges an entry, takes it where it is accepted, and puts the verdict.
+fn take(alloc: Global, out: &mut String, desk: &mut Desk, entry: Entry) -> Result<(), AllocError> {
+    match desk.judge(alloc, &entry)? {
+        Verdict::Accept { change } => accept(alloc, out, desk, entry, change),
+        Verdict::Repeat { serial } => put_serial(out, desk, "Repeat", serial),
+        Verdict::Refused { fault } => writeln!(out, "> {fault:?}"),
+    }
+}
+
+/// Judges the entries of a file in their order, and puts the verdicts, a line each.
+pub fn play(
+    alloc: Global,
+    out: &mut String,
+    file: &str,
+    files: &TableFiles,
+) -> Result<Desk, CaseFault> {
+    let mut desk = Desk::new(alloc);
+    let text = text_in(alloc, files.find(file)?)?;
+    for line in text.lines() {
+        let entry = entry_of(alloc, line, files)?;
+        take(alloc, out, &mut desk, entry)?;
+    }
+    Ok(desk)
+}
+
+/// So many lines at the end of a text.
+fn last_lines(alloc: Global, text: &str, count: usize) -> Result<String, AllocError> {
+    let before = text.lines().count().saturating_sub(count);
+    let mut out = String::new(alloc);
+    for line in text.lines().skip(before) {
+        writeln!(out, "{line}")?;
+    }
+    Ok(out)
+}
+
+/// The verdicts on the entries of a file, or so many at the end: `h`, `h last 2`.
+pub fn verdicts(alloc: Global, words: &str, files: &TableFiles) -> Result<String, CaseFault> {
+    let mut out = String::new(alloc);
+    match words.split_once(" last ") {
+        None => {
+            play(alloc, &mut out, words, files)?;
+            Ok(out)
+        }
+        Some((file, count)) => {
+            let count = number_of(count)?;
+            play(alloc, &mut out, file, files)?;
+            Ok(last_lines(alloc, out.as_str(), count as usize)?)
+        }
+    }
+}

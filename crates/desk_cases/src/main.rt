@@ -1,0 +1,27 @@
+//! Computes again the cases of the tables that its arguments name: histories of entries, each of
+//! which a desk judges, and takes where it is accepted. It prints for each table how many cases there
+//! are, and each that came out otherwise.
+//!
+//! The tables are in data/, with what each rule wants; how they are written stands in
+//! crates/cases/data/README.txt. An entry stands as JSON in a line of a file. Where the text of its
+//! edit is `@NAME`, the text is that of the file NAME.
+#![tactic(auto)]
+
+mod answers;
+mod entries;
+mod histories;
+mod texts;
+
+use answers::DeskAnswers;
+use case_tables::report;
+use std::{env, fs, io};
+
+fn main(rt: HostRuntime) -> io::Result<()> {
+    for argument in env::args(&rt)?.skip(1) {
+        let name = argument.as_str();
+        let text = fs::read_to_string(&rt, name)?;
+        let report = report(rt.alloc(), &DeskAnswers, "", name, text.as_str())?;
+        print!(rt; "{}", report.as_str())?;
+    }
+    Ok(())
+}
