@@ -57,7 +57,7 @@ pub record HasChanged (p : ProjectData) (items : List Item) (sheet : List ℕ) :
   pub on_sheet : placed.sheet ≡ sheet
   pub changed : is_changed items (id, placed) ≡ true
 
--- a change touches a sheet: it has its name, or it touches an object that names it before the change
+-- a change touches a sheet: it has its name, or touches an object that names it before the change
 -- or after it
 abbrev pub TouchesSheet : ProjectData → List Item → List ℕ → Type 0
 TouchesSheet p items sheet =

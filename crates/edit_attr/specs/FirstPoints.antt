@@ -10,7 +10,7 @@ use Rattle.geda_model.specs.declared.object.Body.TheVariants as bodies
 abbrev pub at : ℤ → ℤ → Point
 at across up = record { x = across; y = up }
 
--- a line's first end, a box's corner, a centre, or where a text or a picture stands; (0,0) of a path
+-- a line's first end, a box's corner, a centre, where a text or a picture stands; (0,0) of a path
 abbrev pub first_of_shape : Shape → Point
 first_of_shape (shapes.Straight x1 y1 x2 y2 color stroke) = at x1 y1
 first_of_shape (shapes.Picture x y width height angle mirrored file embedded) = at x y

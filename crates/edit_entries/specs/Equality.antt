@@ -16,13 +16,15 @@ is_same_flag false false = true
 abbrev pub is_same_edit : Edit → Edit → Bool
 is_same_edit (edits.AddSheet name text) (edits.AddSheet n t) = bytes_eq name n && bytes_eq text t
 is_same_edit (edits.AddSymbol name text) (edits.AddSymbol n t) = bytes_eq name n && bytes_eq text t
-is_same_edit (edits.AddObject sheet text) (edits.AddObject n t) = bytes_eq sheet n && bytes_eq text t
+is_same_edit (edits.AddObject sheet text) (edits.AddObject n t) =
+    bytes_eq sheet n && bytes_eq text t
 is_same_edit (edits.Replace id text) (edits.Replace i t) = (id == i) && bytes_eq text t
 is_same_edit (edits.Delete ids) (edits.Delete i) = bytes_eq ids i
 is_same_edit (edits.Move ids dx dy) (edits.Move i x y) =
     bytes_eq ids i && (int_eq dx x && int_eq dy y)
 is_same_edit (edits.Turn ids x y quarter mirror) (edits.Turn i across up q m) =
-    bytes_eq ids i && (int_eq x across && (int_eq y up && ((quarter == q) && is_same_flag mirror m)))
+    bytes_eq ids i && (int_eq x across
+    && (int_eq y up && ((quarter == q) && is_same_flag mirror m)))
 is_same_edit (edits.SetAttr id name value) (edits.SetAttr i n v) =
     (id == i) && (bytes_eq name n && bytes_eq value v)
 is_same_edit (edits.DropAttr id name) (edits.DropAttr i n) = (id == i) && bytes_eq name n

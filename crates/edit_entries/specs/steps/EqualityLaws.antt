@@ -98,7 +98,8 @@ edit_itself (edits.Delete ids) = text_itself ids
 edit_itself (edits.Move ids dx dy) =
     rw (text_itself ids, signed_itself dx, signed_itself dy) refl
 edit_itself (edits.Turn ids x y quarter mirror) =
-    rw (text_itself ids, signed_itself x, signed_itself y, number_itself quarter) (flag_itself mirror)
+    rw (text_itself ids, signed_itself x, signed_itself y, number_itself quarter)
+    (flag_itself mirror)
 edit_itself (edits.SetAttr id name value) =
     rw (number_itself id, text_itself name, text_itself value) refl
 edit_itself (edits.DropAttr id name) = rw (number_itself id, text_itself name) refl
@@ -106,7 +107,8 @@ edit_itself edits.Renumber = refl
 edit_itself (edits.Undo serial) = number_itself serial
 
 made : (s t : List ℕ) (m n c d : ℕ) (e f : Edit) → s ≡ t → m ≡ n → c ≡ d → e ≡ f
-    → (let x : EntryData = record { session = s; number = m; base = c; edit = e } in x) ≡ (record { session = t; number = n; base = d; edit = f })
+    → (let x : EntryData = record { session = s; number = m; base = c; edit = e } in x)
+    ≡ (record { session = t; number = n; base = d; edit = f })
 made s t m n c d e f p0 p1 p2 p3 = rw (p0, p1, p2, p3) refl
 
 -- entries that pass the test are one
@@ -115,7 +117,8 @@ entry_is a b e =
     let p0 = both (bytes_eq a.session b.session) _ e in
     let p1 = both (a.number == b.number) _ p0.1 in
     let p2 = both (a.base == b.base) _ p1.1 in
-    made a.session b.session a.number b.number a.base b.base a.edit b.edit (same_text _ _ p0.0) (same_number _ _ p1.0) (same_number _ _ p2.0) (edit_is a.edit b.edit p2.1)
+    made a.session b.session a.number b.number a.base b.base a.edit b.edit
+    (same_text _ _ p0.0) (same_number _ _ p1.0) (same_number _ _ p2.0) (edit_is a.edit b.edit p2.1)
 
 -- an entry passes the test with itself
 pub entry_itself : (a : EntryData) → is_same_entry a a ≡ true
