@@ -47,27 +47,16 @@ fn stroke_and_fill(rest: &mut Fields) -> Result<(Stroke, Fill), LineFault>
     ensures { Gives (λ p. (stroke_fields p.0 ++ fill_fields p.1, rest.new)) result
         (numbers_at 11 rest.old) }
 {
-    let width = number(rest, GREATEST_NUMBER)?;
-    let cap = number(rest, GREATEST_NUMBER)?;
-    let dash = number(rest, GREATEST_NUMBER)?;
-    let dash_length = number(rest, GREATEST_NUMBER)?;
-    let dash_space = number(rest, GREATEST_NUMBER)?;
+    let stroke = stroke(rest)?;
     let sort = number(rest, GREATEST_NUMBER)?;
-    let fill_width = number(rest, GREATEST_NUMBER)?;
+    let width = number(rest, GREATEST_NUMBER)?;
     let angle1 = number(rest, GREATEST_NUMBER)?;
     let pitch1 = number(rest, GREATEST_NUMBER)?;
     let angle2 = number(rest, GREATEST_NUMBER)?;
     let pitch2 = number(rest, GREATEST_NUMBER)?;
-    let stroke = Stroke {
-        width,
-        cap,
-        dash,
-        dash_length,
-        dash_space,
-    };
     let fill = Fill {
         sort,
-        width: fill_width,
+        width,
         angle1,
         pitch1,
         angle2,
@@ -278,39 +267,14 @@ fn text(alloc: Global, rest: &mut Fields) -> Result<Pending, LineFault>
     Ok(Pending::Text(text, Content::new(alloc, lines)))
 }
 
-#[tactic(auto, unfolding(crate::specs::steps::Letters::line_at))]
+#[tactic(auto, unfolding(crate::specs::steps::Letters::line_at, crate::specs::steps::Letters::numbers_at))]
 fn path(alloc: Global, rest: &mut Fields) -> Result<Pending, LineFault>
     ensures { Gives (λ p. (reading.Begins (pending_of p), rest.new)) result
         (line_at letters.Path rest.old) }
 {
     let color = number(rest, GREATEST_NUMBER)?;
-    let width = number(rest, GREATEST_NUMBER)?;
-    let cap = number(rest, GREATEST_NUMBER)?;
-    let dash = number(rest, GREATEST_NUMBER)?;
-    let dash_length = number(rest, GREATEST_NUMBER)?;
-    let dash_space = number(rest, GREATEST_NUMBER)?;
-    let sort = number(rest, GREATEST_NUMBER)?;
-    let fill_width = number(rest, GREATEST_NUMBER)?;
-    let angle1 = number(rest, GREATEST_NUMBER)?;
-    let pitch1 = number(rest, GREATEST_NUMBER)?;
-    let angle2 = number(rest, GREATEST_NUMBER)?;
-    let pitch2 = number(rest, GREATEST_NUMBER)?;
+    let (stroke, fill) = stroke_and_fill(rest)?;
     let lines = line_count(rest)?;
-    let stroke = Stroke {
-        width,
-        cap,
-        dash,
-        dash_length,
-        dash_space,
-    };
-    let fill = Fill {
-        sort,
-        width: fill_width,
-        angle1,
-        pitch1,
-        angle2,
-        pitch2,
-    };
     let path = PathLine {
         color,
         stroke,
