@@ -8,7 +8,7 @@ ghost use Rattle.geda_grammar.specs.declared.kind.ReadKind.TheVariants.{OutOfRan
 ghost use Rattle.geda_read.specs.steps.Expecting.{rows_expect};
 ghost use Rattle.geda_grammar.specs.steps.Reading.{Amid};
 ghost use Rattle.geda_read.specs.steps.Rows.{is_symbol_file};
-ghost use Rattle.geda_read.specs.steps.Files.{IsReadBy, end_rows, go_on, reader_of, refused_kind, start_of, state_of, take_amid, take_between, take_line, take_row, take_shape, take_version};
+ghost use Rattle.geda_read.specs.steps.Files.{IsReadBy, end_rows, go_on, map_ok, reader_of, refused_kind, start_of, state_of, take_amid, take_between, take_line, take_row, take_shape, take_version};
 
 use crate::kinds::{Expected, version_kind};
 use crate::refusal::Refusal;
@@ -18,6 +18,7 @@ use geda_grammar::{ReadKind, Row};
 use geda_model::Head;
 use sheet_lines::{LineFault, Pending, Progress, SheetLine, sheet_line};
 use std::alloc::Global;
+use std::mem;
 
 /// Where a file stands between two lines.
 #[derive(Drop)]
@@ -179,11 +180,12 @@ impl Stage {
         let Some(head) = version(line) else {
             return Err(LineFault::Refused(version_kind(line)));
         };
-        *self = Stage {
+        let begun = Stage {
             head: Some(head),
             rows: OpenRows::new(alloc, mode),
             pending: None,
         };
+        drop(mem::replace(self, begun));
         Ok(())
     }
 
@@ -219,14 +221,30 @@ impl Stage {
         Ok(())
     }
 
+    /// What the version line says, behind the last line, or why a line is missing.
+    fn head_at_end(&self) -> Result<Head, LineFault>
+        ensures { Gives (λ head. head) result
+            (map_ok (λ ended. ended.0) (end_rows (state_of self.now))) }
+    {
+        let Some(head) = self.head else {
+            return Err(LineFault::Refused(ReadKind::NoVersion));
+        };
+        if self.pending.is_some() {
+            return Err(LineFault::Refused(ReadKind::CutShort));
+        }
+        Ok(head)
+    }
+
     /// What is there behind the last line, or why one is missing. It takes no memory.
     pub fn end(self) -> Result<(Head, OpenRows), LineFault>
         ensures { Gives (λ p. p) result (end_rows (state_of self)) }
     {
-        match (self.head, self.pending) {
-            (None, _) => Err(LineFault::Refused(ReadKind::NoVersion)),
-            (Some(head), None) => Ok((head, self.rows)),
-            (Some(_), Some(_)) => Err(LineFault::Refused(ReadKind::CutShort)),
+        match self.head_at_end() {
+            Ok(head) => Ok((head, self.rows)),
+            Err(fault) => {
+                drop(self);
+                Err(fault)
+            }
         }
     }
 }

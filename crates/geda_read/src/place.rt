@@ -176,9 +176,13 @@ impl OpenSheet {
     pub fn close(self, alloc: Global) -> Result<Objects, Refusal>
         ensures { Takes (λ v. v) result (sheet_end self) }
     {
-        match self.symbol {
-            None => self.objects.close(alloc),
-            Some(_) => Err(Refusal::Stray),
+        let OpenSheet { objects, symbol } = self;
+        if symbol.is_some() {
+            drop(objects);
+            drop(symbol);
+            return Err(Refusal::Stray);
         }
+        drop(symbol);
+        objects.close(alloc)
     }
 }

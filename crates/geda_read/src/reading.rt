@@ -26,6 +26,26 @@ fn fault_at(fault: LineFault, line: u32) -> ReadFault
     }
 }
 
+/// Takes the lines that are left.
+fn take_rest(
+    alloc: Global,
+    mode: FileMode,
+    cutter: &mut Cutter,
+    stage: &mut Stage,
+) -> Result<(), ReadFault>
+    ensures given { Answers (λ _. state_of stage.new) result
+        (take_lines mode (state_of stage.old) cutter.old.number cutter.old.lines) }
+    ensures number { IfOk result
+        (λ _. cutter.new.number ≡ cutter.old.number + length cutter.old.lines) }
+{
+    while let Some(line) = cutter.next() {
+        if let Err(fault) = stage.take(alloc, mode, line) {
+            return Err(fault_at(fault, cutter.line()));
+        }
+    }
+    Ok(())
+}
+
 /// Takes all lines.
 fn take_lines(alloc: Global, mode: FileMode, cutter: &mut Cutter) -> Result<Stage, ReadFault>
     requires { cutter.old.number ≡ 0 }
@@ -34,12 +54,13 @@ fn take_lines(alloc: Global, mode: FileMode, cutter: &mut Cutter) -> Result<Stag
     ensures number { IfOk result (λ _. cutter.new.number ≡ length cutter.old.lines) }
 {
     let mut stage = Stage::new(alloc, mode);
-    while let Some(line) = cutter.next() {
-        if let Err(fault) = stage.take(alloc, mode, line) {
-            return Err(fault_at(fault, cutter.line()));
+    match take_rest(alloc, mode, cutter, &mut stage) {
+        Ok(()) => Ok(stage),
+        Err(fault) => {
+            drop(stage);
+            Err(fault)
         }
     }
-    Ok(stage)
 }
 
 /// What is there of a sheet behind the last line.

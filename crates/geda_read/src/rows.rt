@@ -80,7 +80,10 @@ impl OpenRows {
     {
         match self {
             OpenRows::Sheet(sheet) => sheet.close(alloc),
-            OpenRows::Symbol(_) => Err(Refusal::Stray),
+            OpenRows::Symbol(parts) => {
+                drop(parts);
+                Err(Refusal::Stray)
+            }
         }
     }
 
@@ -90,7 +93,10 @@ impl OpenRows {
     {
         match self {
             OpenRows::Symbol(parts) => parts.close(alloc),
-            OpenRows::Sheet(_) => Err(Refusal::Stray),
+            OpenRows::Sheet(sheet) => {
+                drop(sheet);
+                Err(Refusal::Stray)
+            }
         }
     }
 
