@@ -106,16 +106,14 @@ fn content_length(bytes: &[u8], headers: &[HeaderSpan]) -> Result<usize, CutEnd>
 {
     let mut found: Option<&[u8]> = None;
     for header in headers {
-        if has_name(bytes, header, b"content-length") {
-            let value = header.value.of(bytes);
-            match found {
-                None => found = Some(value),
-                Some(first) => {
-                    if first != value {
-                        return Err(CutEnd::BadHead);
-                    }
-                }
-            }
+        if !has_name(bytes, header, b"content-length") {
+            continue;
+        }
+        let value = header.value.of(bytes);
+        match found {
+            None => found = Some(value),
+            Some(first) if first != value => return Err(CutEnd::BadHead),
+            Some(_) => {}
         }
     }
     match found {
