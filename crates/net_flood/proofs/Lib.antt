@@ -1,0 +1,9 @@
+pub mod Outcomes
+pub mod RelationLemmas
+pub mod KeyLemmas
+pub mod SetLemmas
+pub mod ConductorLemmas
+pub mod PartitionLemmas
+pub mod SearchLemmas
+pub mod GroupLemmas
+pub mod KeptLemmas
