@@ -1,0 +1,2 @@
+pub mod RowFiles
+pub mod steps

@@ -1,0 +1,34 @@
+-- What a row file holds (own).
+use Rattle.std.specs.Prelude.{◌≡◌, ⊤, ℕ, List, Option, Some, None, Result, Ok, Err}
+use Rattle.geda_defs.specs.Lines.{ended}
+use Rattle.edit_entries.specs.Entries.{EntryData, EntryIsInRange}
+use Rattle.edit_json.specs.Documents.{IsEntryText}
+use Rattle.keeper_core.specs.declared.keeper.KeepFault.{KeepFault}
+use Rattle.keeper_core.specs.declared.keeper.KeepFault.TheVariants as fault
+
+-- the bytes are the row of this entry: a text that is the entry, and LF
+abbrev pub IsRow : List ℕ → EntryData → Type 0
+IsRow bytes entry = (text : List ℕ) × (bytes ≡ ended text) × IsEntryText text entry
+
+-- the bytes do not end in LF
+abbrev pub IsCut : List ℕ → Type 0
+IsCut bytes = (text : List ℕ) → ¬ (bytes ≡ ended text)
+
+-- the bytes end in LF, and are the row of no entry
+pub record HoldsNoEntry (bytes : List ℕ) : Type 0 where
+  pub text : List ℕ
+  pub whole : bytes ≡ ended text
+  pub no_entry : (entry : EntryData) → EntryIsInRange entry → ¬ (IsEntryText text entry)
+
+-- what a reader of a row file answers: there is no row where it is cut
+abbrev pub ReadsRow : List ℕ → Result (Option EntryData) KeepFault → Type 0
+ReadsRow bytes (Ok None) = IsCut bytes
+ReadsRow bytes (Ok (Some entry)) = IsRow bytes entry
+ReadsRow bytes (Err fault.Failed) = HoldsNoEntry bytes
+ReadsRow bytes (Err fault.NoMemory) = ⊤
+
+-- this is answered, or there was no memory
+abbrev pub IsLoaded : {X : Type 0} → X → Result X KeepFault → Type 0
+IsLoaded x (Ok y) = y ≡ x
+IsLoaded x (Err fault.Failed) = ⊥
+IsLoaded x (Err fault.NoMemory) = ⊤
