@@ -7,9 +7,9 @@ use mathlib.Core.List.{IsPrefix}
 use Rattle.edit_entries.specs.Entries.{EntryData}
 use Rattle.edit_rules.specs.Verdicts.{Legal}
 use Rattle.geda_defs.specs.Causes.{HasRisen}
-use Rattle.hall_core.proofs.Prefixes.{prefix_trans}
+use Rattle.hall_log.proofs.Prefixes.{prefix_trans}
 use Rattle.hall_core.specs.Seats.{SeatData}
-use Rattle.hall_core.specs.Steps.{rows_of, faults_of}
+use Rattle.hall_core.specs.Pens.{rows_of, faults_of}
 use Rattle.hall_core.specs.Closings.{IsSettled, Settles, HoldsSeats, Closes}
 
 pub none_settled : (listed : List EntryData) → Settles listed true [] []

@@ -9,9 +9,10 @@ use Rattle.edit_rules.specs.declared.verdict.Verdict.{Verdict}
 use Rattle.edit_rules.specs.declared.verdict.Verdict.TheVariants as verdicts
 use Rattle.keeper_core.specs.declared.reply.Reply.{Reply}
 use Rattle.keeper_core.specs.declared.reply.Reply.TheVariants as replies
-use Rattle.hall_core.specs.Histories.{IsJudged, MayFollow, first_id_at}
+use Rattle.hall_log.specs.Histories.{MayFollow}
+use Rattle.hall_core.specs.Histories.{IsJudged, first_id_at}
 use Rattle.hall_core.specs.Seats.{SeatData}
-use Rattle.hall_core.specs.Steps.{Edits, IsSameButShown, PenData, Steps, TellsNoFault}
+use Rattle.hall_core.specs.Pens.{Edits, IsSameButShown, PenData, Steps, TellsNoFault}
 
 -- a verdict after one list is one after an equal list
 pub judged_at : (h l : List EntryData) (e : EntryData) (v w : Verdict) → h ≡ l → v ≡ w → IsJudged h e v → IsJudged l e w

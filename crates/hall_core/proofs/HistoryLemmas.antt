@@ -1,8 +1,8 @@
 -- Histories as a hall keeps them.
-use Rattle.std.proofs.Common.{◌≡◌, ℕ, zero, suc, ◌≤◌, ◌<◌, ◌+◌, Bool, true, false, cond, List, [], ◌∷◌, ◌++◌, length, take, All, Some, None, Option, IfSome, Result, Ok, Err, IfOk, refl, ap, sym, ◌∙◌, subst, arith}
+use Rattle.std.proofs.Common.{◌≡◌, ℕ, suc, ◌<◌, Bool, true, false, cond, List, [], ◌∷◌, ◌++◌, length, take, All, Some, None, Option, IfSome, Result, Ok, Err, IfOk, refl, ap, sym, ◌∙◌, subst, arith}
 use Rattle.std.specs.List.{slice_get}
 use Rattle.std.specs.declared.alloc.AllocError.{AllocError}
-use Rattle.std.proofs.lemmas.List.Elements.{All-nil, All-push, All-take}
+use Rattle.std.proofs.lemmas.List.Elements.{All-take}
 use Rattle.std.proofs.Math.Seq.{take-append_seam}
 use mathlib.Core.List.{IsPrefix}
 use Rattle.project_model.specs.declared.change.Change.{Change}
@@ -16,29 +16,15 @@ use Rattle.edit_rules.specs.EditChanges as histories
 use Rattle.edit_rules.specs.Fitting.{Fits}
 use Rattle.edit_rules.specs.Histories.{changes, project}
 use Rattle.edit_rules.specs.Naming.{is_numbered}
-use Rattle.edit_rules.specs.Verdicts.{Legal, first_of, lines, verdict, verdict_by}
+use Rattle.edit_rules.specs.Verdicts.{first_of, lines, verdict, verdict_by}
 use Rattle.edit_rules.specs.declared.verdict.Verdict.{Verdict}
 use Rattle.edit_rules.specs.declared.verdict.Verdict.TheVariants as verdicts
 use Rattle.edit_rules.proofs.Accepting.{accepted}
 use Rattle.edit_rules.proofs.FitLemmas.{fits}
-use Rattle.edit_rules.proofs.LongerHistories.{last_within, legal_push, legal_take, project_push}
-use Rattle.hall_core.specs.Histories.{IsHistory, IsJudged, IsNextChange, MayFollow, first_id_at}
-use Rattle.hall_core.proofs.Prefixes.{prefix_whole}
-
--- the empty history
-pub no_history : IsHistory []
-no_history = record { legal = λ k e at. absurd (none_at k e at); in_range = All-nil EntryIsInRange }
-  where
-    none_at : (k : ℕ) (e : EntryData) → slice_get [] k ≡ Some e → ⊥
-    none_at zero e at = absurd (cc at)
-    none_at (suc k) e at = absurd (cc at)
-
--- a history grows by an entry that may follow
-pub history_push : (h : List EntryData) (e : EntryData) → IsHistory h → MayFollow h e → EntryIsInRange e → IsHistory (h ++ e ∷ [])
-history_push h e history may range = record {
-  legal = legal_push h e history.legal may.is;
-  in_range = All-push EntryIsInRange h e history.in_range range;
-}
+use Rattle.edit_rules.proofs.LongerHistories.{last_within, legal_take, project_push}
+use Rattle.hall_log.specs.Histories.{IsHistory, MayFollow}
+use Rattle.hall_core.specs.Histories.{IsJudged, IsNextChange, first_id_at}
+use Rattle.hall_log.proofs.Prefixes.{prefix_whole}
 
 -- each prefix of a history is one
 pub history_prefix : (p h : List EntryData) → IsPrefix p h → IsHistory h → IsHistory p
@@ -74,9 +60,6 @@ may_follow h e c judged = record { is = (accepted h e c judged.is).follows }
 
 pub change_is : (h : List EntryData) (e : EntryData) (c : Change) → IsJudged h e (verdicts.Accept c) → c.items ≡ changes h e.edit
 change_is h e c judged = sym (accepted h e c judged.is).is_change
-
-pub follow_short : (h : List EntryData) (e : EntryData) → MayFollow h e → length h < 200000
-follow_short h e may = (accepted h e (record { items = changes h e.edit }) may.is).short
 
 -- what the next entry changes can be put in
 pub next_can : (before after : List EntryData) (items : List Item) → IsNextChange before after items → IsHistory after → CanApply items
@@ -123,35 +106,3 @@ repeat_within h e k judged =
 pub first_id_last : (h new : List EntryData) (e : EntryData) (serial : ℕ) → new ≡ h ++ e ∷ [] → serial ≡ length h → (project h).next_id ≡ first_id_at new serial
 first_id_last h new e serial grown is =
     ap (λ (l : List EntryData). (project l).next_id) (sym (ap (λ (k : ℕ). take k new) is ∙ (ap (take (length h)) grown ∙ take-append_seam h (e ∷ []))))
-
-last_of : (x : EntryData) (xs : List EntryData) → (e : EntryData) × (slice_get (x ∷ xs) (length xs) ≡ Some e)
-last_of x [] = (x, refl)
-last_of x (y ∷ ys) = last_of y ys
-
-take_length : (h : List EntryData) (k : ℕ) → k ≤ length h → length (take k h) ≡ k
-take_length h zero le = refl
-take_length [] (suc k) le = absurd (omega (arith, le))
-take_length (x ∷ h) (suc k) le = ap suc (take_length h k (omega (arith, le)))
-
--- a history has at most so many entries
-pub history_short : (h : List EntryData) → IsHistory h → length h ≤ 200000
-history_short [] history = omega arith
-history_short (x ∷ xs) history =
-    let last = last_of x xs in
-    let may : MayFollow (take (length xs) (x ∷ xs)) last.0 = record { is = history.legal (length xs) last.0 last.1 } in
-    let short = follow_short (take (length xs) (x ∷ xs)) last.0 may in
-    let len = take_length (x ∷ xs) (length xs) (omega arith) in
-    omega (arith, short, len)
-
-take_next : (h : List EntryData) (k : ℕ) (e : EntryData) → slice_get h k ≡ Some e → take (suc k) h ≡ take k h ++ e ∷ []
-take_next [] k e at = absurd (cc at)
-take_next (x ∷ h) zero e at = let same : x ≡ e = cc at in ap (λ y. y ∷ []) same
-take_next (x ∷ h) (suc k) e at = ap (λ l. x ∷ l) (take_next h k e at)
-
--- one more entry
-pub take_one_more : (h : List EntryData) (k : ℕ) (e : EntryData) → slice_get h k ≡ Some e → take (k + 1) h ≡ take k h ++ e ∷ []
-take_one_more h k e at = let one : suc k ≡ k + 1 = omega arith in subst (λ n. take n h ≡ take k h ++ e ∷ []) one (take_next h k e at)
-
--- an entry of a legal history was accepted after those before it
-pub follows_at : (h : List EntryData) (k : ℕ) (e : EntryData) → Legal h → slice_get h k ≡ Some e → MayFollow (take k h) e
-follows_at h k e legal at = record { is = legal k e at }

@@ -1,6 +1,4 @@
-pub mod Prefixes
 pub mod HistoryLemmas
-pub mod Adding
 pub mod Showing
 pub mod Reading
 pub mod Closing

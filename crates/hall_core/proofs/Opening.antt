@@ -1,15 +1,9 @@
 -- A hall that was just opened.
-use Rattle.std.proofs.Common.{◌≡◌, ℕ, List, All, Option, Some, None, IfSome, Result, Ok, Err, IfOk, MatchResult, true, false, ap, sym, ◌∙◌, subst, arith}
-use Rattle.std.specs.Result.{is_ok}
+use Rattle.std.proofs.Common.{◌≡◌, ℕ, List, All, Option, Some, None, IfSome, sym, ◌∙◌, subst, arith}
 use Rattle.edit_entries.specs.Entries.{EntryData}
 use Rattle.edit_rules.specs.Verdicts.{Legal}
-use Rattle.hall_core.specs.Steps.{IsPen}
+use Rattle.hall_core.specs.Pens.{IsPen}
 use Rattle.hall_core.specs.Seats.{SeatData, IsNew}
-
--- what is known of an answer is known of it with other errors
-pub ok_mapped : {T E D : Type 0} (P : T → Type 0) (R : E → Type 0) (r : Result T E) (s : Result T D) (x : T) → MatchResult r (λ y. s ≡ Ok y) R → is_ok s ≡ is_ok r → s ≡ Ok x → IfOk r P → P x
-ok_mapped P R (Ok y) s x m same is p = let both : Ok y ≡ Ok x = sym m ∙ is in subst P (cc both) p
-ok_mapped P R (Err e) s x m same is p = let clash : true ≡ false = sym (ap is_ok is) ∙ same in absurd (cc clash)
 
 kept_at : (rows : Option (List EntryData)) (h h' : List EntryData) → IfSome rows (λ all. all ≡ h) → h' ≡ h → IfSome rows (λ all. all ≡ h')
 kept_at None h h' kept same = tt

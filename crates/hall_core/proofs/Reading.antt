@@ -6,7 +6,7 @@ use Rattle.std.proofs.lemmas.Option.{slice_get_within}
 use mathlib.Core.List.{IsPrefix}
 use Rattle.edit_entries.specs.Entries.{EntryData}
 use Rattle.edit_rules.specs.Verdicts.{Legal}
-use Rattle.hall_core.specs.Histories.{MayFollow}
+use Rattle.hall_log.specs.Histories.{MayFollow}
 use Rattle.hall_core.specs.Rows.{IsRefusedAt, NeverFaults}
 use Rattle.hall_core.specs.declared.rows.OpenFault.{OpenFault}
 use Rattle.hall_core.specs.declared.rows.OpenFault.TheVariants as faults

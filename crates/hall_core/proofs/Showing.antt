@@ -6,11 +6,13 @@ use mathlib.Core.List.{IsPrefix}
 use Rattle.project_model.specs.declared.change.Change.{Change}
 use Rattle.edit_entries.specs.Entries.{EntryData, EntryIsInRange}
 use Rattle.edit_rules.specs.declared.verdict.Verdict.TheVariants.{Accept}
-use Rattle.hall_core.specs.Histories.{IsHistory, IsJudged, IsNextChange, MayFollow}
+use Rattle.hall_log.specs.Histories.{IsHistory, MayFollow}
+use Rattle.hall_core.specs.Histories.{IsJudged, IsNextChange}
 use Rattle.hall_core.specs.BoardSteps.{StepData, applied_to}
-use Rattle.hall_core.specs.Publishing.{IsPublished, MakesHistory}
-use Rattle.hall_core.proofs.HistoryLemmas.{change_is, history_push, last_accepted, may_follow}
-use Rattle.hall_core.proofs.Prefixes.{prefix_self, prefix_more}
+use Rattle.hall_core.specs.steps.Publishing.{IsPublished, MakesHistory}
+use Rattle.hall_log.proofs.HistoryLemmas.{history_push}
+use Rattle.hall_core.proofs.HistoryLemmas.{change_is, last_accepted, may_follow}
+use Rattle.hall_log.proofs.Prefixes.{prefix_self, prefix_more}
 
 whole_next : (f h : List EntryData) (e : EntryData) → IsPrefix f h → length h ≤ length f + 1 → slice_get h (length f) ≡ Some e → f ++ e ∷ [] ≡ h
 whole_next [] [] e p le at = absurd (cc at)

@@ -1,5 +1,5 @@
 -- What a change does to a board that is published, and what a look at it is answered (own).
-use Rattle.std.specs.Prelude.{◌≡◌, ◌==◌, List, length, cond}
+use Rattle.std.specs.Prelude.{◌≡◌, ◌==◌, ◌<◌, ◌≤◌, ℕ, List, length, cond, Option, None, Some}
 use Rattle.edit_entries.specs.Entries.{EntryData}
 use Rattle.edit_rules.specs.Histories.{project}
 use Rattle.board_core.specs.Boards.{BoardData}
@@ -18,3 +18,10 @@ pub record IsAnswered (h : List EntryData) (answered : BoardData → Type 0) : T
   pub board : BoardData
   pub shows : board.project ≡ project h
   pub answer : answered board
+
+-- the same, where there are so many entries; else there is no answer
+abbrev pub IsAnsweredFrom : {A : Type 0} → ℕ → List EntryData → (A → BoardData → Type 0)
+    → Option A → Type 0
+IsAnsweredFrom least h answered None = length h < least
+IsAnsweredFrom least h answered (Some answer) =
+    (least ≤ length h) × IsAnswered h (answered answer)

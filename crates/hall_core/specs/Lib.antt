@@ -1,8 +1,7 @@
 pub mod Histories
-pub mod Logs
 pub mod BoardSteps
-pub mod Publishing
 pub mod Seats
-pub mod Steps
+pub mod Pens
 pub mod Rows
 pub mod Closings
+pub mod steps

@@ -1,11 +1,10 @@
 -- What a keeper's rows make of a history (own).
-use Rattle.std.specs.Prelude.{◌≡◌, ◌<◌, ◌+◌, ℕ, Bool, true, false, List, length, take, Option, Some, IfSome, Result, Ok, Err, IsErrOf}
+use Rattle.std.specs.Prelude.{◌≡◌, ◌<◌, ℕ, List, length, take, Option, Some, IfSome, Result, Ok, Err, IsErrOf}
 use Rattle.std.specs.List.{slice_get}
-use mathlib.Core.List.{IsPrefix}
 use Rattle.edit_entries.specs.Entries.{EntryData}
 use Rattle.edit_rules.specs.Verdicts.{Legal}
 use Rattle.edit_desk.specs.Desks.{DeskView}
-use Rattle.hall_core.specs.Histories.{MayFollow}
+use Rattle.hall_log.specs.Histories.{MayFollow}
 use Rattle.hall_core.specs.declared.rows.OpenFault.{OpenFault}
 use Rattle.hall_core.specs.declared.rows.OpenFault.TheVariants as faults
 
@@ -19,18 +18,6 @@ pub record IsRefusedAt (all : List EntryData) (serial : ℕ) : Type 0 where
 pub record NeverFaults {X : Type 0} (now : Type 0) (result : Result X OpenFault) : Type 0 where
   pub still : now
   pub no_fault : ¬ (IsErrOf result faults.KeeperFault)
-
--- the history takes one more row, or has them all
-abbrev pub TakesRow : Option (List EntryData) → List EntryData → Result Bool OpenFault
-    → List EntryData → Type 0
-TakesRow rows old (Ok true) new =
-    (length new ≡ length old + 1) × (length old < 200000)
-    × IfSome rows (λ all. IsPrefix old all → IsPrefix new all)
-TakesRow rows old (Ok false) new =
-    (new ≡ old) × IfSome rows (λ all. IsPrefix old all → all ≡ old)
-TakesRow rows old (Err (faults.RowRefused serial)) new =
-    IfSome rows (λ all. IsPrefix old all → IsRefusedAt all serial)
-TakesRow rows old (Err _) new = Unit {0}
 
 -- where a row is refused, it is the first that the rules do not accept
 abbrev pub Refuses : Option (List EntryData) → OpenFault → Type 0

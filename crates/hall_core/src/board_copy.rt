@@ -5,9 +5,9 @@ ghost use Rattle.edit_rules.specs.Histories.{project};
 ghost use Rattle.hall_core.specs.Histories.{IsNextChange};
 ghost use Rattle.hall_core.specs.BoardSteps.{StepData, applied_to};
 
-use crate::log::{HallName, Prefix};
 use board_core::Board;
 use edit_entries::Entry;
+use hall_log::{HallName, Prefix};
 use left_right::Absorb;
 use project_model::Change;
 use std::alloc::{AllocError, Global};

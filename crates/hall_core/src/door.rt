@@ -4,12 +4,12 @@ ghost use Rattle.std.specs.Prelude.{◌≡◌, ◌≤◌, IfSome, IfNone, MatchB
 ghost use Rattle.std.specs.Fn.{FnOnceReturnsAt};
 ghost use mathlib.Core.List.{IsPrefix};
 ghost use Rattle.geda_defs.specs.Causes.{HasRisen};
-ghost use Rattle.hall_core.specs.BoardSteps.{IsAnswered};
+ghost use Rattle.hall_core.specs.BoardSteps.{IsAnsweredFrom};
 
 use crate::board_copy::ShowsBoard;
-use crate::log::{HallName, Prefix};
 use crate::published::PublishedDesk;
 use board_core::Board;
+use hall_log::{HallName, Prefix};
 use left_right::ReadHandle;
 use std::marker::PhantomData;
 use std::sync::Wait;
@@ -59,14 +59,16 @@ pub struct Door<B: HallName, S: ShowsBoard<B>> {
     of: PhantomData<B>,
 }
 
+// Shows the board to a closure, where it holds all that was seen and has so many entries.
 fn read_from<B: HallName, S: ShowsBoard<B>, T, F: FnOnce(&Board) -> T + Drop>(
     reader: &mut ReadHandle<S>,
     seen: &Prefix<B>,
+    least: u64,
     f: F,
-) -> Option<(Prefix<B>, T)>
+) -> Option<(Prefix<B>, Option<T>)>
     requires { F.IsAlwaysCallable f }
-    ensures { IfSome result (λ read. IsPrefix seen.now read.0
-        × IsAnswered read.0 (λ board. FnOnceReturnsAt F.FnOnce f board read.1)) }
+    ensures { IfSome result (λ read. IsPrefix seen.now read.0 × IsAnsweredFrom least read.0
+        (λ answer board. FnOnceReturnsAt F.FnOnce f board answer) read.1) }
 {
     let guard = reader.enter()?;
     let shown: &S = &guard;
@@ -74,8 +76,11 @@ fn read_from<B: HallName, S: ShowsBoard<B>, T, F: FnOnce(&Board) -> T + Drop>(
     if !seen.begins(prefix) {
         return None;
     }
+    if prefix.len() < least {
+        return Some((prefix.again(), None));
+    }
     let answer = f(shown.board());
-    Some((prefix.again(), answer))
+    Some((prefix.again(), Some(answer)))
 }
 
 impl<B: HallName, S: ShowsBoard<B>> Door<B, S> {
@@ -97,19 +102,21 @@ impl<B: HallName, S: ShowsBoard<B>> Door<B, S> {
         self.refusals = self.refusals.saturating_add(1);
     }
 
-    // Shows the board to a closure, where it holds all that was seen, with its prefix.
+    // Shows the board to a closure, where it holds all that was seen and has so many entries, with
+    // its prefix.
     pub(crate) fn read<T, F: FnOnce(&Board) -> T + Drop>(
         &mut self,
         seen: &Prefix<B>,
+        least: u64,
         f: F,
-    ) -> Option<(Prefix<B>, T)>
+    ) -> Option<(Prefix<B>, Option<T>)>
         requires { F.IsAlwaysCallable f }
-        ensures some { IfSome result (λ read. IsPrefix seen.now read.0
-            × IsAnswered read.0 (λ board. FnOnceReturnsAt F.FnOnce f board read.1)) }
+        ensures some { IfSome result (λ read. IsPrefix seen.now read.0 × IsAnsweredFrom least read.0
+            (λ answer board. FnOnceReturnsAt F.FnOnce f board answer) read.1) }
         ensures none { IfNone result (HasRisen self.old.refusals self.new.refusals) }
         ensures later { self.old.refusals ≤ self.new.refusals }
     {
-        match read_from(&mut self.reader, seen, f) {
+        match read_from(&mut self.reader, seen, least, f) {
             Some(read) => Some(read),
             None => {
                 self.refuse();

@@ -1,16 +1,15 @@
 // The hall: the pen behind a lock, and the seats.
-ghost use Rattle.std.specs.Prelude.{◌≡◌, ◌≤◌, ◌<◌, ◌+◌, ◌*◌, [], All, length, IfSome, IfOk, IfErr, IsErrOf, Option, List};
+ghost use Rattle.std.specs.Prelude.{◌≡◌, ◌≤◌, ◌<◌, ◌+◌, ◌*◌, [], All, length, IfSome, IfOk, IfErr, IsErrOf, None, Option, List};
 ghost use Rattle.geda_defs.specs.Causes.{HasRisen};
 ghost use Rattle.edit_entries.specs.Entries.{EntryData};
 ghost use Rattle.edit_rules.specs.Verdicts.{Legal};
 ghost use Rattle.hall_core.specs.Closings.{Closes};
 ghost use Rattle.hall_core.specs.Rows.{Refuses};
 ghost use Rattle.hall_core.specs.Seats.{IsNew};
-ghost use Rattle.hall_core.specs.Steps.{Edits};
+ghost use Rattle.hall_core.specs.Pens.{Edits};
 
 use crate::board_copy::{PrefixBoard, ShowsBoard};
 use crate::door::Places;
-use crate::log::{HallName, NamedLog, Prefix};
 use crate::losses::{Allowance, LossTotal};
 use crate::pen::Pen;
 use crate::published::PublishedDesk;
@@ -19,6 +18,7 @@ use crate::seat::Seat;
 use board_core::Board;
 use edit_desk::Desk;
 use edit_entries::Entry;
+use hall_log::{HallName, LogLength, NamedLog, Prefix};
 use keeper_core::{Keeper, Reply};
 use std::alloc::Global;
 use std::sync::ledger::Share;
@@ -109,6 +109,53 @@ fn first_board<B: HallName>(
     Ok(PrefixBoard::new(alloc, board, prefix.again()))
 }
 
+fn first_boards<B: HallName>(
+    alloc: Global,
+    desk: &Desk,
+    prefix: &Prefix<B>,
+) -> Result<(PrefixBoard<B>, PrefixBoard<B>), OpenFault>
+    requires { prefix.now ≡ desk.now.history }
+    ensures shown { IfOk result
+        (λ boards. (boards.0 ≡ desk.now.history) × (boards.1 ≡ desk.now.history)) }
+    ensures other { IfErr result (λ e. e ≡ OpenFault.NoMemory) }
+{
+    let first = first_board(alloc, desk, prefix)?;
+    match first_board(alloc, desk, prefix) {
+        Ok(second) => Ok((first, second)),
+        Err(fault) => {
+            drop(first);
+            Err(fault)
+        }
+    }
+}
+
+// The history, published whole. Each exit gives what goes away to `drop`, by its type.
+fn published_at_first<B: HallName, R: Wait + Drop>(
+    alloc: Global,
+    rt: R,
+    desk: Desk,
+    log: (LogLength<B>, Prefix<B>),
+    seats: u32,
+) -> Result<PublishedDesk<B, PrefixBoard<B>, R>, OpenFault>
+    requires listed { log.1 ≡ desk.history }
+    requires seats { 0 < seats }
+    ensures published { IfOk result (λ d. (d.history ≡ desk.history) × (d.shown ≡ desk.history)
+        × (d.waiting ≡ []) × (d.change ≡ None)) }
+    ensures other { IfErr result (λ e. e ≡ OpenFault.NoMemory) }
+{
+    let (first, second) = match first_boards(alloc, &desk, &log.1) {
+        Ok(boards) => boards,
+        Err(fault) => {
+            drop(desk);
+            return Err(fault);
+        }
+    };
+    match PublishedDesk::new(alloc, rt, desk, log, first, second, seats as usize) {
+        Ok(published) => Ok(published),
+        Err(_) => Err(OpenFault::NoMemory),
+    }
+}
+
 /// Opens a hall over a keeper's rows, which are the history, with so many seats, which have seen
 /// them all (docs/RULES.md, "Histories that are shared"). The seats have lost nothing and were
 /// refused nothing.
@@ -135,23 +182,20 @@ pub fn open_hall<K: Keeper, B: HallName, R: Wait + Drop>(
 {
     let mut keeper = keeper;
     let desk = read_rows(alloc, &mut keeper)?;
-    let NamedLog {
-        log_length,
-        mut seen,
-        mut owed,
-        mut rest,
-    } = named;
+    let (log_length, mut seen, mut owed, mut rest) = named.into_parts();
     // The list is new, so that it takes all entries; no clause says so.
     if !seen.add_all(&log_length, &desk) {
+        drop(desk);
         return Err(OpenFault::NoMemory);
     }
-    let first = first_board(alloc, &desk, &seen)?;
-    let second = first_board(alloc, &desk, &seen)?;
-    let log = (log_length, seen);
-    let published = PublishedDesk::new(alloc, rt, desk, log, first, second, seats as usize).map_err(
-        |_| OpenFault::NoMemory,
-    )?;
-    let taken = seats_at(alloc, &published, &mut owed, &mut rest, seats, places)?;
+    let published = published_at_first(alloc, rt, desk, (log_length, seen), seats)?;
+    let taken = match seats_at(alloc, &published, &mut owed, &mut rest, seats, places) {
+        Ok(taken) => taken,
+        Err(fault) => {
+            drop(published);
+            return Err(fault);
+        }
+    };
     let pen = Pen {
         desk: published,
         keeper: Some(keeper),

@@ -1,12 +1,12 @@
 //! The step on the lent pen, and the history of a keeper's rows.
 ghost use Rattle.std.specs.Prelude.{◌≡◌};
-ghost use Rattle.hall_core.specs.Steps.{Steps};
+ghost use Rattle.hall_core.specs.Pens.{Steps};
 
 use crate::board_copy::ShowsBoard;
-use crate::log::HallName;
 use crate::pen::Pen;
 pub use crate::rows::read_rows;
 use edit_entries::Entry;
+use hall_log::HallName;
 use keeper_core::{Keeper, Reply};
 use std::sync::Wait;
 

@@ -3,7 +3,7 @@
 //!
 //! Serials and lengths of histories count entries, from 0. The main types are `Hall` and `Seat`;
 //! who opens a hall names it once (`HallName`). Rules: docs/RULES.md, "Histories that are shared"
-//! and "Seats". Definitions: specs/Steps.antt (the pen, and edits), specs/Seats.antt,
+//! and "Seats". Definitions: specs/Pens.antt (the pen, and edits), specs/Seats.antt,
 //! specs/Rows.antt, specs/Closings.antt, and those that they cite.
 #![tactic(auto)]
 
@@ -11,7 +11,6 @@ mod board_copy;
 mod door;
 mod hall;
 pub mod laws;
-mod log;
 mod losses;
 mod pen;
 mod published;
@@ -21,8 +20,8 @@ mod seat;
 pub use board_copy::{NextChange, PrefixBoard, ShowsBoard};
 pub use door::{Door, Places};
 pub use hall::{BoardHall, BoardSeat, Hall, close_hall, edit, open_hall};
+pub use hall_log::{HallName, NamedLog, NewLog, Prefix};
 pub use keeper_core::Reply;
-pub use log::{HallName, NamedLog, NewLog, Prefix};
 pub use pen::Pen;
 pub use rows::OpenFault;
 pub use seat::Seat;

@@ -2,7 +2,7 @@
 // fault of the keeper that it is told.
 ghost use Rattle.std.specs.Prelude.{◌≡◌, ℕ, ◌+◌, ◌-◌, ◌*◌, ◌^◌, ◌<◌, ◌≤◌, min, false};
 
-use crate::log::HallName;
+use hall_log::HallName;
 use std::sync::ledger;
 use std::sync::ledger::Share;
 

@@ -6,16 +6,16 @@ ghost use Rattle.std.specs.Option.{option_map};
 ghost use Rattle.geda_defs.specs.Causes.{HasCause, HasRisen};
 ghost use Rattle.edit_rules.specs.declared.verdict.Verdict.TheVariants.{Accept};
 ghost use Rattle.hall_core.specs.Histories.{IsJudged};
-ghost use Rattle.hall_core.specs.Steps.{Edits, IsSameButShown, Steps, faults_of, rows_of};
+ghost use Rattle.hall_core.specs.Pens.{Edits, IsSameButShown, Steps, faults_of, rows_of};
 ghost use Rattle.hall_core.specs.Closings.{Closes, Settles};
 
 use crate::board_copy::ShowsBoard;
-use crate::log::{HallName, Prefix};
 use crate::losses::{Allowance, LossTotal};
 use crate::published::PublishedDesk;
 use crate::seat::Seat;
 use edit_entries::Entry;
 use edit_rules::Verdict;
+use hall_log::{HallName, Prefix};
 use keeper_core::{KeepFault, Keeper, Reply};
 use project_model::Change;
 use std::alloc::AllocError;
@@ -43,7 +43,7 @@ impl<K: Keeper, B: HallName, S: ShowsBoard<B>, R: Wait + Drop> Drop for Pen<K, B
 }
 
 impl<K: Keeper, B: HallName, S: ShowsBoard<B>, R: Wait + Drop> Model for Pen<K, B, S, R> {
-    ghost use Rattle.hall_core.specs.Steps.{PenData, IsPen, rows_of, faults_of};
+    ghost use Rattle.hall_core.specs.Pens.{PenData, IsPen, rows_of, faults_of};
 
     ghost Value = { PenData };
 
@@ -145,15 +145,20 @@ impl<K: Keeper, B: HallName, S: ShowsBoard<B>, R: Wait + Drop> Pen<K, B, S, R> {
         ensures { Steps self.old entry result self.new }
     {
         let Ok(kept) = change.copy(self.desk.alloc()) else {
+            drop((entry, change));
             return Reply::NoMemory;
         };
         if self.desk.reserve(&change).is_err() {
+            drop((entry, change, kept));
             return Reply::NoMemory;
         }
         let front = self.desk.front();
         match keep(&mut self.keeper, front, &entry) {
             Ok(()) => {}
-            Err(KeepFault::Failed) => return Reply::KeeperFault { front },
+            Err(KeepFault::Failed) => {
+                drop((entry, change, kept));
+                return Reply::KeeperFault { front };
+            }
             Err(KeepFault::NoMemory) => return Reply::NoMemory,
         }
         let first_id = self.desk.next_id();
@@ -173,18 +178,28 @@ impl<K: Keeper, B: HallName, S: ShowsBoard<B>, R: Wait + Drop> Pen<K, B, S, R> {
         ensures { Steps self.old entry result self.new }
     {
         if self.catch_up().is_err() {
+            drop(entry);
             return Reply::NoMemory;
         }
         let front = self.desk.front();
         match self.desk.judge(&entry) {
             Ok(Verdict::Accept { change }) => self.put(entry, change),
-            Ok(Verdict::Repeat { serial }) => Reply::Repeat {
-                serial,
-                first_id: self.desk.first_id(serial),
-                front,
-            },
-            Ok(Verdict::Refused { fault }) => Reply::Refused { fault, front },
-            Err(_) => Reply::NoMemory,
+            Ok(Verdict::Repeat { serial }) => {
+                drop(entry);
+                Reply::Repeat {
+                    serial,
+                    first_id: self.desk.first_id(serial),
+                    front,
+                }
+            }
+            Ok(Verdict::Refused { fault }) => {
+                drop(entry);
+                Reply::Refused { fault, front }
+            }
+            Err(_) => {
+                drop(entry);
+                Reply::NoMemory
+            }
         }
     }
 
@@ -204,9 +219,11 @@ impl<K: Keeper, B: HallName, S: ShowsBoard<B>, R: Wait + Drop> Pen<K, B, S, R> {
         ensures later { seat.old.refusals ≤ seat.new.refusals }
     {
         if self.catch_up().is_err() {
+            drop(entry);
             return Reply::NoMemory;
         }
         if !seat.learn(self.desk.told()) {
+            drop(entry);
             return Reply::NoEntry;
         }
         match self.step(entry) {

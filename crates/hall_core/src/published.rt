@@ -4,16 +4,17 @@ ghost use mathlib.Core.List.{IsPrefix};
 ghost use Rattle.edit_rules.specs.Histories.{project};
 ghost use Rattle.edit_rules.specs.declared.verdict.Verdict.TheVariants.{Accept};
 ghost use Rattle.edit_desk.specs.Desks.{IsRoomForEntry};
-ghost use Rattle.hall_core.specs.Histories.{IsHistory, IsJudged, IsNextChange, first_id_at};
+ghost use Rattle.hall_log.specs.Histories.{IsHistory};
+ghost use Rattle.hall_core.specs.Histories.{IsJudged, IsNextChange, first_id_at};
 ghost use Rattle.hall_core.specs.BoardSteps.{applied_to};
-ghost use Rattle.hall_core.specs.Publishing.{IsCaughtUp, IsSameHistory, IsSameShown};
+ghost use Rattle.hall_core.specs.steps.Publishing.{IsCaughtUp, IsSameHistory, IsSameShown};
 
 use crate::board_copy::{NextChange, ShowsBoard};
 use crate::door::Door;
-use crate::log::{HallName, LogLength, Prefix};
 use edit_desk::Desk;
 use edit_entries::Entry;
 use edit_rules::Verdict;
+use hall_log::{HallName, LogLength, Prefix};
 use left_right::WriteHandle;
 use project_model::Change;
 use std::alloc::{AllocError, Global};
@@ -34,7 +35,7 @@ pub(crate) struct PublishedDesk<B: HallName, S: ShowsBoard<B>, R: Wait + Drop> {
 
 impl<B: HallName, S: ShowsBoard<B>, R: Wait + Drop> Model for PublishedDesk<B, S, R> {
     ghost use Rattle.left_right.specs.Handles.{published, pending};
-    ghost use Rattle.hall_core.specs.Publishing.{PublishedData, IsPublished};
+    ghost use Rattle.hall_core.specs.steps.Publishing.{PublishedData, IsPublished};
 
     ghost Value = { PublishedData };
 

@@ -1,11 +1,14 @@
 // The history of a keeper's rows.
 ghost use Rattle.std.specs.Prelude.{◌≡◌, ◌≤◌, [], IsErrOf};
 ghost use Rattle.geda_defs.specs.Causes.{HasRisen};
-ghost use Rattle.hall_core.specs.Rows.{NeverFaults, ReadsRows, TakesRow};
+ghost use Rattle.hall_core.specs.Rows.{NeverFaults, ReadsRows};
+ghost use Rattle.hall_core.specs.steps.NextRows.{FindsRow, TakesRow};
 
 use edit_desk::Desk;
+use edit_entries::Entry;
 use edit_rules::Verdict;
 use keeper_core::{KeepFault, Keeper};
+use project_model::Change;
 use std::alloc::Global;
 
 /// Why a hall does not open.
@@ -24,6 +27,41 @@ pub enum OpenFault {
     NoMemory,
 }
 
+// The next row with its change, where the rules accept it after the history; none where there is no
+// row left.
+fn next_row<K: Keeper>(
+    alloc: Global,
+    keeper: &mut K,
+    desk: &Desk,
+) -> Result<Option<(Entry, Change)>, OpenFault>
+    ensures rows { K.rows keeper.new ≡ K.rows keeper.old }
+    ensures later { K.faults keeper.old ≤ K.faults keeper.new }
+    ensures cause { IsErrOf result OpenFault.KeeperFault →
+        HasRisen (K.faults keeper.old) (K.faults keeper.new) }
+    ensures never { K.never_fails keeper.old → NeverFaults (K.never_fails keeper.new) result }
+    ensures other { ¬ (IsErrOf result OpenFault.NoPlace) }
+    ensures finds { FindsRow (K.rows keeper.old) desk.now.history result }
+{
+    let serial = desk.front();
+    match keeper.load(serial) {
+        Ok(None) => Ok(None),
+        Ok(Some(entry)) => match desk.judge(alloc, &entry) {
+            Ok(Verdict::Accept { change }) => Ok(Some((entry, change))),
+            Ok(Verdict::Repeat { serial: _ }) => {
+                drop(entry);
+                Err(OpenFault::RowRefused { serial })
+            }
+            Ok(Verdict::Refused { fault: _ }) => Err(OpenFault::RowRefused { serial }),
+            Err(_) => {
+                drop(entry);
+                Err(OpenFault::NoMemory)
+            }
+        },
+        Err(KeepFault::Failed) => Err(OpenFault::KeeperFault),
+        Err(KeepFault::NoMemory) => Err(OpenFault::NoMemory),
+    }
+}
+
 // Takes the next row into the history, and says whether there was one.
 fn take_row<K: Keeper>(alloc: Global, keeper: &mut K, desk: &mut Desk) -> Result<bool, OpenFault>
     ensures rows { K.rows keeper.new ≡ K.rows keeper.old }
@@ -34,23 +72,17 @@ fn take_row<K: Keeper>(alloc: Global, keeper: &mut K, desk: &mut Desk) -> Result
     ensures other { ¬ (IsErrOf result OpenFault.NoPlace) }
     ensures takes { TakesRow (K.rows keeper.old) desk.old.history result desk.new.history }
 {
-    let serial = desk.front();
-    match keeper.load(serial) {
+    match next_row(alloc, keeper, desk) {
         Ok(None) => Ok(false),
-        Ok(Some(entry)) => match desk.judge(alloc, &entry) {
-            Ok(Verdict::Accept { change }) => {
-                if desk.reserve(alloc, &change).is_err() {
-                    return Err(OpenFault::NoMemory);
-                }
-                desk.commit(entry, change);
-                Ok(true)
+        Ok(Some((entry, change))) => {
+            if desk.reserve(alloc, &change).is_err() {
+                drop((entry, change));
+                return Err(OpenFault::NoMemory);
             }
-            Ok(Verdict::Repeat { serial: _ }) => Err(OpenFault::RowRefused { serial }),
-            Ok(Verdict::Refused { fault: _ }) => Err(OpenFault::RowRefused { serial }),
-            Err(_) => Err(OpenFault::NoMemory),
-        },
-        Err(KeepFault::Failed) => Err(OpenFault::KeeperFault),
-        Err(KeepFault::NoMemory) => Err(OpenFault::NoMemory),
+            desk.commit(entry, change);
+            Ok(true)
+        }
+        Err(fault) => Err(fault),
     }
 }
 

@@ -3,15 +3,15 @@ ghost use Rattle.std.specs.Prelude.{◌≡◌, ◌≤◌, ◌^◌, ◌<◌, leng
 ghost use Rattle.std.specs.Fn.{FnOnceReturnsAt};
 ghost use mathlib.Core.List.{IsPrefix};
 ghost use Rattle.geda_defs.specs.Causes.{HasRisen};
-ghost use Rattle.hall_core.specs.Histories.{IsHistory};
-ghost use Rattle.hall_core.specs.BoardSteps.{IsAnswered};
+ghost use Rattle.hall_log.specs.Histories.{IsHistory};
+ghost use Rattle.hall_core.specs.BoardSteps.{IsAnswered, IsAnsweredFrom};
 ghost use Rattle.hall_core.specs.Seats.{Learns, SeatData};
 
 use crate::board_copy::ShowsBoard;
 use crate::door::Door;
-use crate::log::{HallName, Prefix};
 use crate::losses::Allowance;
 use board_core::Board;
+use hall_log::{HallName, Prefix};
 use std::marker::Model;
 
 /// The read handle of one connection (docs/RULES.md, "Seats"). Contracts see the entries that it
@@ -75,7 +75,29 @@ impl<B: HallName, S: ShowsBoard<B>> Seat<B, S> {
         ensures losses { self.new.losses ≡ self.old.losses }
         ensures later { self.old.refusals ≤ self.new.refusals }
     {
-        let (seen, answer) = self.door.read(&self.seen, f)?;
+        let (front, answer) = self.look_from(0, f)?;
+        Some((front, answer?))
+    }
+
+    /// Shows the board as `look` does, where the board has `least` entries or more. Where it has
+    /// fewer, the closure is not called, and what it would answer is `None`.
+    pub fn look_from<T, F: FnOnce(&Board) -> T + Drop>(
+        &mut self,
+        least: u64,
+        f: F,
+    ) -> Option<(u32, Option<T>)>
+        requires { F.IsAlwaysCallable f }
+        ensures seen { IfSome result (λ look. IsPrefix self.old.seen self.new.seen) }
+        ensures front { IfSome result (λ look. look.0 ≡ length self.new.seen) }
+        ensures answered { IfSome result (λ look. IsAnsweredFrom least self.new.seen
+            (λ answer board. FnOnceReturnsAt F.FnOnce f board answer) look.1) }
+        ensures history { IfSome result (λ look. IsHistory self.new.seen) }
+        ensures none { IfNone result
+            ((self.new.seen ≡ self.old.seen) × HasRisen self.old.refusals self.new.refusals) }
+        ensures losses { self.new.losses ≡ self.old.losses }
+        ensures later { self.old.refusals ≤ self.new.refusals }
+    {
+        let (seen, answer) = self.door.read(&self.seen, least, f)?;
         let front = seen.len() as u32;
         self.seen = seen;
         Some((front, answer))

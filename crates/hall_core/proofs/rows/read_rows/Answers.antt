@@ -1,7 +1,7 @@
 use Rattle.std.proofs.Common.{Bool, Ok, refl, le_refl, subst}
 use Rattle.std.proofs.lemmas.Result.{err_from_is_err_and}
 use Rattle.hall_core.proofs.Reading.{never_err, none_yet, read_all}
-use Rattle.hall_core.specs.Rows.{TakesRow}
+use Rattle.hall_core.specs.steps.NextRows.{TakesRow}
 use Rattle.hall_core.proofs.rows.read_rows.Goals as goal
 
 pub loop-desk-init : goal.loop-desk-init

@@ -3,7 +3,7 @@ use mathlib.Core.List.{IsPrefix}
 use Rattle.edit_entries.specs.Entries.{EntryData}
 use Rattle.keeper_core.specs.declared.reply.Reply.TheVariants as replies
 use Rattle.hall_core.specs.Seats.{SeatData}
-use Rattle.hall_core.specs.Steps.{PenData, Steps}
+use Rattle.hall_core.specs.Pens.{PenData, Steps}
 use Rattle.hall_core.proofs.Editing.{edits_done, edits_fault, edits_refused, edits_repeat}
 use Rattle.hall_core.proofs.pen.Pen.edit.Goals as goal
 

@@ -1,7 +1,7 @@
 use Rattle.std.proofs.Common.{List, ap, refl, ◌∙◌, rules}
 use Rattle.edit_entries.specs.Entries.{EntryData}
 use Rattle.hall_core.specs.Histories.{first_id_at}
-use Rattle.hall_core.specs.Steps.{PenData}
+use Rattle.hall_core.specs.Pens.{PenData}
 use Rattle.hall_core.proofs.Editing.{judged_at, steps_same}
 use Rattle.hall_core.proofs.HistoryLemmas.{repeat_within}
 use Rattle.hall_core.proofs.pen.Pen.step.Goals as goal

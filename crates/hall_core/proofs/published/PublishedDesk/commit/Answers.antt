@@ -2,7 +2,7 @@ use Rattle.std.proofs.Common.{sym, subst}
 use Rattle.edit_entries.specs.Entries.{EntryIsInRange}
 use Rattle.edit_rules.specs.declared.verdict.Verdict.TheVariants.{Accept}
 use Rattle.hall_core.specs.Histories.{IsJudged}
-use Rattle.hall_core.specs.Publishing.{IsCaughtUp, PublishedData}
+use Rattle.hall_core.specs.steps.Publishing.{IsCaughtUp, PublishedData}
 use Rattle.hall_core.proofs.Showing.{takes_in}
 use Rattle.hall_core.proofs.published.PublishedDesk.commit.Goals as goal
 

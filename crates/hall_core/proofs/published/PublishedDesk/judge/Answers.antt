@@ -1,6 +1,6 @@
 use Rattle.std.proofs.Common.{IfOk, subst}
 use Rattle.hall_core.specs.Histories.{IsJudged}
-use Rattle.hall_core.specs.Publishing.{PublishedData}
+use Rattle.hall_core.specs.steps.Publishing.{PublishedData}
 use Rattle.hall_core.proofs.HistoryLemmas.{judged}
 use Rattle.hall_core.proofs.published.PublishedDesk.judge.Goals as goal
 

@@ -1,5 +1,5 @@
 use Rattle.std.proofs.Common.{ap, subst, ◌∙◌}
-use Rattle.hall_core.specs.Histories.{IsHistory}
+use Rattle.hall_log.specs.Histories.{IsHistory}
 use Rattle.hall_core.proofs.Showing.{shown_at_first}
 use Rattle.hall_core.proofs.published.PublishedDesk.new.Goals as goal
 

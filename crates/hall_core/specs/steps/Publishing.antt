@@ -1,10 +1,11 @@
--- What contracts see of the history and of what is published of it (own).
+-- The history, and what is listed, published and pending of it, as the pen holds them (own).
 use Rattle.std.specs.Prelude.{◌≡◌, ◌⊎◌, ◌≤◌, ◌+◌, List, [], length, fold, Option, None, Some}
 use mathlib.Core.List.{IsPrefix}
 use Rattle.project_model.specs.Projects.{Spare}
 use Rattle.project_model.specs.declared.change.Change.{Change}
 use Rattle.edit_entries.specs.Entries.{EntryData}
-use Rattle.hall_core.specs.Histories.{IsHistory, IsNextChange}
+use Rattle.hall_log.specs.Histories.{IsHistory}
+use Rattle.hall_core.specs.Histories.{IsNextChange}
 use Rattle.hall_core.specs.BoardSteps.{StepData, applied_to}
 
 -- the history with the room for one more entry, the list that all share, the prefix that is

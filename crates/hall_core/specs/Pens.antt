@@ -7,7 +7,8 @@ use Rattle.edit_entries.specs.Entries.{EntryData}
 use Rattle.edit_rules.specs.declared.verdict.Verdict.TheVariants as verdicts
 use Rattle.keeper_core.specs.declared.reply.Reply.{Reply}
 use Rattle.keeper_core.specs.declared.reply.Reply.TheVariants as replies
-use Rattle.hall_core.specs.Histories.{IsJudged, MayFollow, first_id_at}
+use Rattle.hall_log.specs.Histories.{MayFollow}
+use Rattle.hall_core.specs.Histories.{IsJudged, first_id_at}
 use Rattle.hall_core.specs.BoardSteps.{StepData}
 use Rattle.hall_core.specs.Seats.{SeatData}
 

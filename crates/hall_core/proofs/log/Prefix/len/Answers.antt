@@ -1,5 +1,0 @@
-use Rattle.hall_core.proofs.HistoryLemmas.{history_short}
-use Rattle.hall_core.proofs.log.Prefix.len.Goals as goal
-
-pub returns-clause-short : goal.returns-clause-short
-returns-clause-short g c = rw (← c.self.view_is) (history_short c.self.inside.seen.log c.self.invariant.2)
