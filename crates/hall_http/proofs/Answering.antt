@@ -17,7 +17,7 @@ use Rattle.edit_rules.proofs.LongerHistories.{last_push}
 use Rattle.keeper_core.specs.declared.reply.Reply.{Reply}
 use Rattle.keeper_core.specs.declared.reply.Reply.TheVariants as replies
 use Rattle.hall_core.specs.Seats.{SeatData}
-use Rattle.hall_core.specs.Steps as hall
+use Rattle.hall_core.specs.Pens as hall
 use Rattle.web_heads.specs.Links.{IsPrefixOf}
 use Rattle.web_http.specs.Services as services
 

@@ -1,8 +1,7 @@
 // A seat of a hall, as what answers the requests of a connection.
 ghost use Rattle.std.specs.Prelude.{◌≡◌};
-ghost use Rattle.hall_http.specs.steps.Looks.{shown_of};
+ghost use Rattle.hall_http.specs.steps.Looks.{IsWanted, shown_of};
 ghost use Rattle.reports.specs.NetLists.{seen};
-ghost use Rattle.web_replies.specs.Answers.{is_behind};
 
 use edit_entries::Entry;
 use hall_core::{Hall, HallName, Seat, ShowsBoard, edit};
@@ -21,13 +20,13 @@ pub struct SeatService<'a, W: Wait, K: Keeper, B: HallName, S: ShowsBoard<B>, R:
     pub seat: &'a mut Seat<B, S>,
 }
 
-/// Whether more entries are wanted than there are.
-fn wants_more(least: Option<u64>, front: u32) -> bool
-    ensures { result ≡ is_behind least front }
+/// How many entries are wanted.
+fn wanted(least: Option<u64>) -> u64
+    ensures { IsWanted least result }
 {
     match least {
-        Some(least) => least > u64::from(front),
-        None => false,
+        Some(least) => least,
+        None => 0,
     }
 }
 
@@ -72,16 +71,14 @@ impl<W: Wait, K: Keeper, B: HallName, S: ShowsBoard<B>, R: Wait + Drop> Service
     }
 
     fn report(&mut self, alloc: Global, least: Option<u64>, what: &What) -> Shown {
-        match self
-            .seat
-            .look(|board| report(alloc, board, what, &Matrix::usual()))
-        {
-            Some((front, told)) => {
-                if wants_more(least, front) {
-                    return Shown::Behind { front };
-                }
-                shown(front, told)
-            }
+        let wanted = wanted(least);
+        let told = self.seat.look_from(
+            wanted,
+            |board| report(alloc, board, what, &Matrix::usual()),
+        );
+        match told {
+            Some((front, Some(told))) => shown(front, told),
+            Some((front, None)) => Shown::Behind { front },
             None => Shown::NoEntry,
         }
     }
