@@ -1,0 +1,81 @@
+// One worker a seat.
+ghost use Rattle.std.specs.Prelude.{◌≡◌, IfOk, length};
+
+use gates::Gate;
+use hall_core::{BoardHall, BoardSeat, Hall, HallName, Seat, ShowsBoard};
+use hall_http::serve_link;
+use keeper_core::Keeper;
+use std::alloc::{AllocError, Global};
+use std::sync::Wait;
+use std::thread;
+use std::thread::Threads;
+
+/// What works with something, and hands it back.
+trait Work<T> {
+    fn work_with(&self, with: T) -> T;
+}
+
+// One worker for each of these. It knows nothing of seats and halls, whose types would make the
+// check of the closure too long.
+fn work_with_each<W: Threads + Sync, T: Send + Drop, J: Work<T> + Sync>(
+    rt: &W,
+    all: Vec<T>,
+    job: &J,
+) -> Result<Vec<T>, AllocError>
+    ensures all { IfOk result (λ back. length back.items ≡ length all.items) }
+{
+    thread::map_vec(rt, all, &|with| job.work_with(with))
+}
+
+/// To serve the links of a gate until it gives none.
+#[derive(Drop)]
+struct LinkWork<'a, W: Wait, K: Keeper, B: HallName, S: ShowsBoard<B>, R: Wait + Drop, G: Gate> {
+    rt: &'a W,
+    alloc: Global,
+    hall: &'a Hall<K, B, S, R>,
+    gate: &'a G,
+}
+
+impl<W: Wait, K: Keeper, B: HallName, S: ShowsBoard<B>, R: Wait + Drop, G: Gate> Work<Seat<B, S>>
+    for LinkWork<'_, W, K, B, S, R, G> {
+    fn work_with(&self, with: Seat<B, S>) -> Seat<B, S> {
+        let mut seat = with;
+        for _ in 0..u64::MAX {
+            let Some(mut link) = self.gate.next() else {
+                break;
+            };
+            let _end = serve_link(self.rt, self.alloc, self.hall, &mut seat, &mut link);
+        }
+        seat
+    }
+}
+
+/// Serves the links of a gate by one worker a seat of a hall (docs/RULES.md, "Serving"). Each takes
+/// a link from the gate and answers its requests (`serve_link`), one link after the other, until the
+/// gate gives none. It hands the seats back when all workers have ended.
+///
+/// It waits for the gate, for links, and for the hall's lock. Where no thread can be made, one
+/// worker begins when another has ended.
+pub fn serve_all<
+    W: Threads + Wait + Sync,
+    K: Keeper + Send,
+    B: HallName + Send + Sync,
+    R: Wait + Drop + Send,
+    G: Gate + Sync,
+>(
+    rt: &W,
+    alloc: Global,
+    hall: &BoardHall<K, B, R>,
+    seats: Vec<BoardSeat<B>>,
+    gate: &G,
+) -> Result<Vec<BoardSeat<B>>, AllocError>
+    ensures all { IfOk result (λ back. length back.items ≡ length seats.items) }
+{
+    let work = LinkWork {
+        rt,
+        alloc,
+        hall,
+        gate,
+    };
+    work_with_each(rt, seats, &work)
+}
