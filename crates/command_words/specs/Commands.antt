@@ -13,7 +13,7 @@ use Rattle.backends.specs.declared.form.Form.{Form}
 use Rattle.backends.specs.declared.form.Form.TheVariants as forms
 use Rattle.option_words.specs.Words.{Parts, parts_of}
 use Rattle.command_words.specs.declared.command.Command.{Command}
-use Rattle.command_words.specs.declared.command.Command.TheVariants.{Netlist, Drc, Export, Symcheck, Renumber, Work}
+use Rattle.command_words.specs.declared.command.Command.TheVariants.{Netlist, Drc, Export, Symcheck, Renumber, Work, Serve}
 
 -- the greatest number of steps of the work
 abbrev pub most_steps : ℕ
@@ -98,6 +98,11 @@ work_of (start ∷ count ∷ []) =
     (number_of 4294967295 start)
 work_of words = None
 
+-- the serving at an address of what a store keeps: both are any words
+abbrev pub serve_of : List (List ℕ) → Option Command
+serve_of (address ∷ store ∷ []) = Some (Serve address store)
+serve_of words = None
+
 -- the command of this name, with the words behind it: each command has one option or none
 abbrev pub command_with : List ℕ → List (List ℕ) → Option Command
 command_with command words =
@@ -113,6 +118,8 @@ command_with command words =
     then option_and_then (λ parts. renumber_of parts.words) (parts_of None words)
     else if bytes_eq command (codes "work")
     then option_and_then (λ parts. work_of parts.words) (parts_of None words)
+    else if bytes_eq command (codes "serve")
+    then option_and_then (λ parts. serve_of parts.words) (parts_of None words)
     else None
 
 -- the command that the arguments ask for; none where they are used wrongly
@@ -128,3 +135,4 @@ IsAskable (Export file) = ⊤
 IsAskable (Symcheck symbols) = AllPairs ◌≢◌ symbols
 IsAskable (Renumber sheets) = AllPairs ◌≢◌ sheets
 IsAskable (Work start count) = count ≤ most_steps
+IsAskable (Serve address store) = ⊤

@@ -4,9 +4,10 @@ ghost use Rattle.std.specs.Prelude.{option_copied, string_bytes};
 ghost use Rattle.option_words.specs.Reads.{Gives, parts_seen};
 ghost use Rattle.option_words.specs.Words.{parts_of};
 ghost use Rattle.command_words.specs.Commands.{IsAskable, command_of, drc_of, export_of, form_of};
-ghost use Rattle.command_words.specs.Commands.{matrix_of, netlist_of, renumber_of, symcheck_of};
-ghost use Rattle.command_words.specs.Commands.{work_of};
+ghost use Rattle.command_words.specs.Commands.{matrix_of, netlist_of, renumber_of, serve_of};
+ghost use Rattle.command_words.specs.Commands.{symcheck_of, work_of};
 
+use crate::argument::Argument;
 use crate::files::{file_of, sheets_of};
 use crate::numbers::{MOST_STEPS, number_of};
 use backends::Form;
@@ -52,6 +53,13 @@ pub enum Command {
         start: u32,
         /// How many steps, at most 100,000.
         count: u32,
+    },
+    /// Serves the history that a store keeps to connections at an address.
+    Serve {
+        /// The address.
+        address: Argument,
+        /// The name of the store.
+        store: Argument,
     },
 }
 
@@ -151,6 +159,19 @@ fn work_of(words: &[&str]) -> Option<Command>
     Some(Command::Work { start, count })
 }
 
+/// The serving that the words name: at an address, of what a store keeps.
+fn serve_of(alloc: Global, words: &[&str]) -> Result<Command, WordFault>
+    ensures asked { Gives (λ command. command) result (serve_of (map (λ w. w.now) words.now)) }
+    ensures any { IfOk result IsAskable }
+{
+    let [address, store] = words else {
+        return Err(WordFault::Usage);
+    };
+    let address = Argument::new(alloc, *address)?;
+    let store = Argument::new(alloc, *store)?;
+    Ok(Command::Serve { address, store })
+}
+
 /// The net list that the words behind `netlist` ask for.
 fn netlist(alloc: Global, words: &[String]) -> Result<Command, WordFault>
     ensures asked { Gives (λ command. command) result (option_and_then netlist_of
@@ -215,6 +236,17 @@ fn work(alloc: Global, words: &[String]) -> Result<Command, WordFault>
     work_of(parts.words.as_slice()).ok_or(WordFault::Usage)
 }
 
+/// The serving that the words behind `serve` ask for.
+fn serve(alloc: Global, words: &[String]) -> Result<Command, WordFault>
+    ensures asked { Gives (λ command. command) result
+        (option_and_then (λ parts. serve_of parts.words)
+        (parts_of None (map string_bytes words.now))) }
+    ensures any { IfOk result IsAskable }
+{
+    let parts = read_parts(alloc, None, words)?;
+    serve_of(alloc, parts.words.as_slice())
+}
+
 /// The command that the arguments of a command line ask for.
 ///
 /// `Usage` exactly where they ask for none (docs/FORMATS.md, "Command lines").
@@ -232,6 +264,7 @@ pub fn command_of(alloc: Global, arguments: &[String]) -> Result<Command, WordFa
         "symcheck" => symcheck(alloc, words),
         "renumber" => renumber(alloc, words),
         "work" => work(alloc, words),
+        "serve" => serve(alloc, words),
         _ => Err(WordFault::Usage),
     }
 }

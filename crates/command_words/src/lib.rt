@@ -2,8 +2,10 @@
 //! Rules: docs/FORMATS.md, "Command lines". Definitions: specs/Commands.antt.
 #![tactic(auto)]
 
+mod argument;
 mod command;
 mod files;
 mod numbers;
 
+pub use argument::Argument;
 pub use command::{Command, command_of};
