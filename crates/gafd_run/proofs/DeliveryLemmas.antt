@@ -10,7 +10,8 @@ use Rattle.project_files.proofs.Passing.{risen}
 use Rattle.gafd_run.specs.declared.fault.RunFault.{RunFault}
 use Rattle.gafd_run.specs.declared.fault.RunFault.TheVariants as faults
 use Rattle.gafd_run.specs.Answers.{AnswerData, ComesTo}
-use Rattle.gafd_run.specs.Runs.{EndsWith, IsQuiet, Stream}
+use Rattle.sinks.specs.Streams.{IsQuiet, Stream}
+use Rattle.gafd_run.specs.Runs.{EndsWith}
 use Rattle.gafd_run.specs.Writing.{FolderRun, WroteSome, folder_run}
 use Rattle.gafd_run.specs.steps.Passing.{AnswerOf, Delivers, FromFolder, Over}
 use Rattle.gafd_run.proofs.WritingLemmas.{but_after, has_after}

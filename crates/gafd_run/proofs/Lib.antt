@@ -5,5 +5,8 @@ mod SheetLemmas
 mod CheckLemmas
 mod WritingLemmas
 mod DeliveryLemmas
+mod AnswerLemmas
 mod ReadingLemmas
 mod NumberingLemmas
+mod ServingLemmas
+mod EndingLemmas

@@ -59,3 +59,4 @@ same_outcomes files (Some (commands.Export name)) first second fixed p q = file_
 same_outcomes files (Some (commands.Symcheck names)) first second fixed p q = symbols_one files names first second p q
 same_outcomes files (Some (commands.Renumber names)) first second fixed p q = sheets_one RenumbersTo (λ project one other is so. is ∙ sym so) (record { sheets = files; symbols = files }) names first second p q
 same_outcomes files (Some (commands.Work start count)) first second fixed p q = absurd fixed
+same_outcomes files (Some (commands.Serve address store)) first second fixed p q = absurd p

@@ -1,5 +1,5 @@
 -- How faults are passed on, from the files to the end of a run.
-use Rattle.std.proofs.Common.{◌≡◌, ◌⊎◌, ℕ, ◌≤◌, List, Option, Some, None, Result, Ok, Err, take, inl, inr, refl, sym, subst}
+use Rattle.std.proofs.Common.{◌≡◌, ◌⊎◌, ℕ, ◌≤◌, List, Option, Result, Ok, Err, inl, inr, sym, subst}
 use Rattle.std.specs.declared.option.Option.{Option}
 use Rattle.geda_defs.specs.Causes.{HasCause}
 use Rattle.geda_defs.specs.Contents.{Writes}
@@ -11,13 +11,15 @@ use Rattle.project_files.specs.ProjectFiles.{IsAnswer, IsFolderAnswer}
 use Rattle.project_files.proofs.Passing.{risen}
 use Rattle.gafd_run.specs.declared.fault.RunFault.{RunFault}
 use Rattle.gafd_run.specs.declared.fault.RunFault.TheVariants as faults
-use Rattle.gafd_run.specs.declared.sinks.SinkFault.{SinkFault}
-use Rattle.gafd_run.specs.declared.sinks.SinkFault.TheVariants as sink
+use Rattle.sinks.specs.declared.sink.SinkFault.{SinkFault}
+use Rattle.sinks.specs.declared.sink.SinkFault.TheVariants as sink
+use Rattle.sinks.specs.Streams.{IsQuiet, Stream, WrotePrefix}
+use Rattle.sinks.proofs.Writing.{prefix_written}
 use Rattle.gafd_run.specs.Answers.{AnswerData}
 use Rattle.gafd_run.specs.Faults.{run_fault}
-use Rattle.gafd_run.specs.Runs.{Ends, EndsWith, HoldsAfter, IsQuiet, StopsWriting, Stream}
+use Rattle.gafd_run.specs.Runs.{Ends, EndsWith, StopsWriting}
 use Rattle.gafd_run.specs.Writing.{FolderRun, WroteFiles}
-use Rattle.gafd_run.specs.steps.Passing.{AnswerOf, ComesOf, Delivers, NamesFile, Reports}
+use Rattle.gafd_run.specs.steps.Passing.{AnswerOf, ComesOf, Delivers, Reports, TakesMemory}
 
 -- what is come to, as an answer of a call that a folder is lent to
 pub answer_from : {A : Type 0} (counts : Counts) (P Q : Result A RunFault → Type 0) (outcome : Result A RunFault) → ((r : Result A RunFault) → P r → Q r) → ComesOf P outcome → AnswerOf counts Q outcome
@@ -32,6 +34,10 @@ answer_from counts P Q (Err faults.TooManyInstances) f h = f (Err faults.TooMany
 answer_from counts P Q (Err faults.Usage) f h = f (Err faults.Usage) h
 answer_from counts P Q (Err faults.FolderFault) f h = absurd h
 answer_from counts P Q (Err faults.OutputFault) f h = h
+answer_from counts P Q (Err faults.KeeperFault) f h = f (Err faults.KeeperFault) h
+answer_from counts P Q (Err (faults.RowRefused serial)) f h = f (Err (faults.RowRefused serial)) h
+answer_from counts P Q (Err faults.GateFault) f h = f (Err faults.GateFault) h
+answer_from counts P Q (Err faults.NoPlace) f h = f (Err faults.NoPlace) h
 answer_from counts P Q (Err faults.NoMemory) f h = tt
 
 -- a fault that is met in the bytes of a file, as that of the program
@@ -52,20 +58,14 @@ files_fault before between now P Q file_faults.ProjectFull later f h = f h
 files_fault before between now P Q file_faults.FolderFault later f h = risen before between now later h
 files_fault before between now P Q file_faults.NoMemory later f h = tt
 
--- what a write that failed left
-first_part : {E : Type 0} (old new : Option (List ℕ)) (piece : List ℕ) (e : E) → Writes old new piece (Err e) → (n : ℕ) × HoldsAfter old new (take n piece)
-first_part None new piece e writes = (0, tt)
-first_part (Some old) None piece e writes = absurd writes
-first_part (Some old) (Some new) piece e writes = writes
-
 -- what a write to the output that failed makes of a delivery
 pub failed_write : (folder : FolderRun) (out : Stream) (answer : AnswerData) (piece : List ℕ) (e : SinkFault) → WroteFiles folder answer.files → piece ≡ answer.text → Writes out.old out.new piece (Err e) → HasCause {T = Unit {0}} out.faults.old out.faults.new (Err e) sink.Failed → Delivers folder out answer (Err faults.OutputFault)
-failed_write folder out answer piece sink.Failed wrote same writes has =
-    (wrote, (has.cause refl, subst (λ (text : List ℕ). (n : ℕ) × HoldsAfter out.old out.new (take n text)) same (first_part out.old out.new piece sink.Failed writes)))
+failed_write folder out answer piece e wrote same writes has =
+    (wrote, subst (λ (text : List ℕ). WrotePrefix out text) same (prefix_written out piece e writes has))
 
 module _ (folder : FolderRun) (command : Option Command) (out err : Stream) (fault : RunFault) (status : ℕ) where
-  -- before a line that names a file, nothing was written and nothing went out
-  is_quiet : (f : RunFault) → EndsWith folder command out (Err f) → NamesFile f → StopsWriting folder command × IsQuiet out
+  -- before a line that takes memory, nothing was written and nothing went out
+  is_quiet : (f : RunFault) → EndsWith folder command out (Err f) → TakesMemory f → StopsWriting folder command × IsQuiet out
   is_quiet (faults.Missing file) h named = (inl h.1, h.2)
   is_quiet (faults.Refused file line kind) h named = (inl h.1, h.2)
   is_quiet (faults.BadToml file) h named = (inl h.1, h.2)
@@ -76,12 +76,16 @@ module _ (folder : FolderRun) (command : Option Command) (out err : Stream) (fau
   is_quiet faults.Usage h named = absurd named
   is_quiet faults.FolderFault h named = absurd named
   is_quiet faults.OutputFault h named = absurd named
+  is_quiet faults.KeeperFault h named = absurd named
+  is_quiet (faults.RowRefused serial) h named = (inl h.1, h.2)
+  is_quiet faults.GateFault h named = absurd named
+  is_quiet faults.NoPlace h named = absurd named
   is_quiet faults.NoMemory h named = h
 
   -- a run ends with the fault that is reported
   pub end_reported : EndsWith folder command out (Err fault) → Reports err fault status → Ends folder command out err status
   end_reported h r = record { outcome = Err r.reported; cause = go r.reported r.same; said = r.said; status_is = r.status_is }
     where
-      go : (f : RunFault) → (f ≡ fault) ⊎ ((f ≡ faults.NoMemory) × NamesFile fault) → EndsWith folder command out (Err f)
+      go : (f : RunFault) → (f ≡ fault) ⊎ ((f ≡ faults.NoMemory) × TakesMemory fault) → EndsWith folder command out (Err f)
       go f (inl same) = subst (λ (g : RunFault). EndsWith folder command out (Err g)) (sym same) h
       go f (inr (same, named)) = subst (λ (g : RunFault). EndsWith folder command out (Err g)) (sym same) (is_quiet fault h named)

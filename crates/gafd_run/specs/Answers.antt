@@ -18,7 +18,7 @@ use Rattle.toml.specs.Data.{Members}
 use Rattle.reports.specs.NetLists.{CheckData, OfNetList, checked as check_of}
 use Rattle.work_run.specs.RunText.{WorkComesTo}
 use Rattle.command_words.specs.declared.command.Command.{Command}
-use Rattle.command_words.specs.declared.command.Command.TheVariants.{Netlist, Drc, Export, Symcheck, Renumber, Work}
+use Rattle.command_words.specs.declared.command.Command.TheVariants.{Netlist, Drc, Export, Symcheck, Renumber, Work, Serve}
 use Rattle.project_files.specs.declared.fault.FileFault.{FileFault}
 use Rattle.project_files.specs.FileReads.{FileComesTo, ReadAs, Then}
 use Rattle.project_files.specs.Gathering.{ProjectFiles}
@@ -153,7 +153,7 @@ abbrev pub WorkOf : ℕ → ℕ → Outcome → Type 0
 WorkOf start count outcome =
     (text : List ℕ) × WorkComesTo start count text × (outcome ≡ done text)
 
--- what a command comes to over the files that a folder tells
+-- what a command comes to over the files that a folder tells; a serving comes to nothing by them
 abbrev pub CommandComesTo : Option Files → Command → Outcome → Type 0
 CommandComesTo files (Netlist form names) outcome =
     OfFiles files (λ known. SheetsOf (listed form) known names outcome)
@@ -165,6 +165,7 @@ CommandComesTo files (Symcheck names) outcome = SymbolsOf files names outcome
 CommandComesTo files (Renumber names) outcome =
     OfFiles files (λ known. SheetsTo RenumbersTo known names outcome)
 CommandComesTo files (Work start count) outcome = WorkOf start count outcome
+CommandComesTo files (Serve address store) outcome = ⊥
 
 -- what the arguments come to: what their command comes to, or a fault of usage
 abbrev pub ComesTo : Option Files → Option Command → Outcome → Type 0

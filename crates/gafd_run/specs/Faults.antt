@@ -7,6 +7,8 @@ use Rattle.project_files.specs.declared.fault.FileFault.{FileFault}
 use Rattle.project_files.specs.declared.fault.FileFault.TheVariants as file_faults
 use Rattle.renum_files.specs.declared.fault.RenumberFault.{RenumberFault}
 use Rattle.renum_files.specs.declared.fault.RenumberFault.TheVariants as renumber_faults
+use Rattle.hall_server.specs.declared.fault.ServeFault.{ServeFault}
+use Rattle.hall_server.specs.declared.fault.ServeFault.TheVariants as serve_faults
 use Rattle.gafd_run.specs.declared.fault.RunFault.{RunFault}
 use Rattle.gafd_run.specs.declared.fault.RunFault.TheVariants as faults
 
@@ -24,6 +26,15 @@ abbrev pub renumber_fault : RenumberFault → RunFault
 renumber_fault renumber_faults.ProjectFull = faults.ProjectFull
 renumber_fault renumber_faults.NoMemory = faults.NoMemory
 
+-- a fault that is met in serving, as the program ends with it
+abbrev pub serve_fault : ServeFault → RunFault
+serve_fault serve_faults.GateFault = faults.GateFault
+serve_fault serve_faults.KeeperFault = faults.KeeperFault
+serve_fault (serve_faults.RowRefused serial) = faults.RowRefused serial
+serve_fault serve_faults.NoPlace = faults.NoPlace
+serve_fault serve_faults.OutputFault = faults.OutputFault
+serve_fault serve_faults.NoMemory = faults.NoMemory
+
 -- the status with which the program ends
 abbrev pub status_of : RunFault → ℕ
 status_of (faults.Missing file) = 1
@@ -36,6 +47,10 @@ status_of faults.TooManyInstances = 1
 status_of faults.Usage = 2
 status_of faults.FolderFault = 3
 status_of faults.OutputFault = 4
+status_of faults.KeeperFault = 5
+status_of (faults.RowRefused serial) = 6
+status_of faults.GateFault = 8
+status_of faults.NoPlace = 11
 status_of faults.NoMemory = 71
 
 -- the name of a kind, as it prints
@@ -68,4 +83,9 @@ error_line faults.TooManyInstances = codes "gafd: TooManyInstances\n"
 error_line faults.Usage = codes "gafd: usage\n"
 error_line faults.FolderFault = codes "gafd: folder fault\n"
 error_line faults.OutputFault = codes "gafd: output fault\n"
+error_line faults.KeeperFault = codes "gafd: keeper fault\n"
+error_line (faults.RowRefused serial) =
+    codes "gafd: stored row " ++ decimal serial ++ codes " refused\n"
+error_line faults.GateFault = codes "gafd: gate fault\n"
+error_line faults.NoPlace = codes "gafd: no place\n"
 error_line faults.NoMemory = codes "gafd: out of memory\n"

@@ -1,42 +1,14 @@
--- How a run of the program ends (own).
-use Rattle.std.specs.Prelude.{◌≡◌, ◌⊎◌, ℕ, List, ◌++◌, Ok, Err, Some, None, ⊤, IsSome, take}
+-- How a run of the program on files ends (own).
+use Rattle.std.specs.Prelude.{◌≡◌, ◌⊎◌, ℕ, List, Ok, Err, IsSome}
 use Rattle.std.specs.declared.option.Option.{Option}
 use Rattle.geda_defs.specs.Contents.{Files, KeepsFiles}
 use Rattle.command_words.specs.declared.command.Command.{Command}
-use Rattle.project_files.specs.Counts.{Counts, Failed}
+use Rattle.project_files.specs.Counts.{Failed}
+use Rattle.sinks.specs.Streams.{IsQuiet, Stream, WrotePrefix, WroteWhole}
 use Rattle.gafd_run.specs.declared.fault.RunFault.TheVariants as faults
 use Rattle.gafd_run.specs.Faults.{error_line, status_of}
 use Rattle.gafd_run.specs.Answers.{AnswerData, Outcome, ComesTo, IsReading}
 use Rattle.gafd_run.specs.Writing.{FolderRun, WroteFiles, WroteSome}
-
--- what a stream holds, where it tells it, and how often it failed, before a run and after it
-pub record Stream : Type 0 where
-  pub old : Option (List ℕ)
-  pub new : Option (List ℕ)
-  pub faults : Counts
-
--- the three, from what was told before and after
-abbrev pub stream : Option (List ℕ) → Option (List ℕ) → Counts → Stream
-stream old new faults = record { old = old; new = new; faults = faults }
-
--- nothing went to the stream
-abbrev pub IsQuiet : Stream → Type 0
-IsQuiet stream = stream.new ≡ stream.old
-
--- where the contents are told, the text came last
-abbrev pub HoldsAfter : Option (List ℕ) → Option (List ℕ) → List ℕ → Type 0
-HoldsAfter None new text = ⊤
-HoldsAfter (Some old) None text = ⊥
-HoldsAfter (Some old) (Some new) text = new ≡ old ++ text
-
--- the whole text went to the stream
-abbrev pub WroteWhole : Stream → List ℕ → Type 0
-WroteWhole stream text = HoldsAfter stream.old stream.new text
-
--- the stream failed, and some first bytes of the text went to it
-abbrev pub WrotePrefix : Stream → List ℕ → Type 0
-WrotePrefix stream text =
-    Failed stream.faults × ((n : ℕ) × HoldsAfter stream.old stream.new (take n text))
 
 -- no file is written, or the command comes to an answer of which not all files are written
 abbrev pub StopsWriting : FolderRun → Option Command → Type 0
@@ -78,7 +50,7 @@ outcome_status (Err fault) = status_of fault
 abbrev pub KeepsUnless : Option Command → Option Files → Option Files → Type 0
 KeepsUnless command old new = IsReading command → KeepsFiles old new
 
--- a run ends with an outcome: it has its cause, its line and its status
+-- a run on files ends with an outcome: it has its cause, its line and its status
 pub record Ends (folder : FolderRun) (command : Option Command) (out err : Stream) (status : ℕ)
     : Type 0 where
   pub outcome : Outcome

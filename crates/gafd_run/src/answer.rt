@@ -11,7 +11,7 @@ ghost use Rattle.gafd_run.specs.Answers.{ByNetList, TextOf, WorkOf, checked, is_
 ghost use Rattle.gafd_run.specs.Answers.{RenumbersTo, matrix_of, renumber_line, reported};
 ghost use Rattle.gafd_run.specs.Answers.{symbols_reported, written_down};
 ghost use Rattle.gafd_run.specs.steps.Checking.{MatrixFrom};
-ghost use Rattle.gafd_run.specs.steps.Passing.{AnswerOf, ComesOf, Over};
+ghost use Rattle.gafd_run.specs.steps.Passing.{AnswerOf, ComesOf, IsOnFiles, Over};
 
 use crate::fault::RunFault;
 use command_words::Command;
@@ -283,13 +283,14 @@ fn work(alloc: Global, start: u32, count: u32) -> Result<Answer, RunFault>
     Ok(Answer::done(alloc, work_text(alloc, start, count)?))
 }
 
-/// What a command answers, whose sheets differ. All files stay.
+/// What a command on files answers, whose sheets differ. All files stay.
 pub fn answer_of<F: Folder>(
     alloc: Global,
     command: Command,
     folder: &mut F,
 ) -> Result<Answer, RunFault>
-    requires { IsAskable command }
+    requires askable { IsAskable command }
+    requires on_files { IsOnFiles command }
     ensures answer { AnswerOf (counts (F.faults folder.old) (F.faults folder.new))
         (Over (F.files folder.old) command) result }
     ensures later { F.faults folder.old ≤ F.faults folder.new }
@@ -302,5 +303,6 @@ pub fn answer_of<F: Folder>(
         Command::Symcheck { symbols } => symcheck(alloc, symbols, folder),
         Command::Renumber { sheets } => renumber(alloc, sheets, folder),
         Command::Work { start, count } => work(alloc, start, count),
+        Command::Serve { .. } => unreachable!(),
     }
 }

@@ -2,15 +2,15 @@
 ghost use Rattle.std.specs.Prelude.{OnErr, OnOk};
 ghost use Rattle.geda_defs.specs.Causes.{HasCause};
 ghost use Rattle.project_files.specs.Counts.{counts};
-ghost use Rattle.gafd_run.specs.Runs.{stream};
+ghost use Rattle.sinks.specs.Streams.{stream};
 ghost use Rattle.gafd_run.specs.Writing.{WroteFiles, WroteSome, folder_run};
 ghost use Rattle.gafd_run.specs.steps.Passing.{Delivers};
 
 use crate::answer::Answer;
 use crate::fault::RunFault;
-use crate::sinks::Sink;
 use project_files::{Folder, FolderFault};
 use renum_files::FileText;
+use sinks::Sink;
 use std::alloc::Global;
 
 /// Writes files, one after the other. After a fault nothing is said of the one that was to be

@@ -4,12 +4,13 @@ ghost use Rattle.std.specs.Fmt.{decimal};
 ghost use Rattle.std.specs.Cow.{cow_str_bytes};
 ghost use Rattle.gafd_run.specs.Faults.{error_line, kind_name, status_of};
 ghost use Rattle.project_files.specs.Counts.{counts};
-ghost use Rattle.gafd_run.specs.Runs.{SaidLine, stream};
-ghost use Rattle.gafd_run.specs.steps.Passing.{NamesFile, Reports};
+ghost use Rattle.sinks.specs.Streams.{stream};
+ghost use Rattle.gafd_run.specs.Runs.{SaidLine};
+ghost use Rattle.gafd_run.specs.steps.Passing.{Reports, TakesMemory};
 
 use crate::fault::RunFault;
-use crate::sinks::Sink;
 use geda_grammar::ReadKind;
+use sinks::Sink;
 use std::alloc::{AllocError, Global};
 use std::borrow::CowStr;
 
@@ -29,6 +30,10 @@ fn status_of(fault: &RunFault) -> u8
         RunFault::Usage => 2,
         RunFault::FolderFault => 3,
         RunFault::OutputFault => 4,
+        RunFault::KeeperFault => 5,
+        RunFault::RowRefused { .. } => 6,
+        RunFault::GateFault => 8,
+        RunFault::NoPlace => 11,
         RunFault::NoMemory => 71,
     }
 }
@@ -61,10 +66,18 @@ fn refused_line(alloc: Global, file: &str, line: u32, kind: &str) -> Result<Stri
     format!(in alloc; "gafd: {file}:{line}: {kind}\n")
 }
 
-/// The line of a fault. Only one that names a file takes memory.
+/// The line of a stored row that is not accepted.
+fn row_line(alloc: Global, serial: u32) -> Result<String, AllocError>
+    ensures { IfOk result (λ text. string_bytes text
+        ≡ codes "gafd: stored row " ++ decimal serial ++ codes " refused\n") }
+{
+    format!(in alloc; "gafd: stored row {serial} refused\n")
+}
+
+/// The line of a fault. Only one that names a file or a row takes memory.
 fn error_line(alloc: Global, fault: &RunFault) -> Result<CowStr<'static>, AllocError>
     ensures line { IfOk result (λ line. cow_str_bytes line ≡ error_line fault.now) }
-    ensures named { IsErr result → NamesFile fault.now }
+    ensures made { IsErr result → TakesMemory fault.now }
 {
     match fault {
         RunFault::Missing { file } => {
@@ -89,6 +102,10 @@ fn error_line(alloc: Global, fault: &RunFault) -> Result<CowStr<'static>, AllocE
         RunFault::Usage => Ok(CowStr::Borrowed("gafd: usage\n")),
         RunFault::FolderFault => Ok(CowStr::Borrowed("gafd: folder fault\n")),
         RunFault::OutputFault => Ok(CowStr::Borrowed("gafd: output fault\n")),
+        RunFault::KeeperFault => Ok(CowStr::Borrowed("gafd: keeper fault\n")),
+        RunFault::RowRefused { serial } => Ok(CowStr::Owned(row_line(alloc, *serial)?)),
+        RunFault::GateFault => Ok(CowStr::Borrowed("gafd: gate fault\n")),
+        RunFault::NoPlace => Ok(CowStr::Borrowed("gafd: no place\n")),
         RunFault::NoMemory => Ok(CowStr::Borrowed(OUT_OF_MEMORY)),
     }
 }
@@ -110,8 +127,8 @@ pub fn report_want_of_memory<E: Sink>(err: &mut E) -> u8
     status_of(&RunFault::NoMemory)
 }
 
-/// Prints the line of a fault and answers its status. Where a line that names a file finds no
-/// memory, they are those of want of memory.
+/// Prints the line of a fault and answers its status. Where a line that names a file or a row finds
+/// no memory, they are those of want of memory.
 pub fn report<E: Sink>(alloc: Global, fault: &RunFault, err: &mut E) -> u8
     ensures { Reports (stream (E.written err.old) (E.written err.new)
         (counts (E.faults err.old) (E.faults err.new))) fault.now result }

@@ -1,16 +1,17 @@
 // Why the program ends otherwise than with an answer.
 ghost use Rattle.std.specs.Prelude.{◌≡◌};
-ghost use Rattle.gafd_run.specs.Faults.{renumber_fault, run_fault};
+ghost use Rattle.gafd_run.specs.Faults.{renumber_fault, run_fault, serve_fault};
 ghost use Rattle.gafd_run.specs.steps.Passing.{FromElaboration, FromFolder, FromWords};
 ghost use Rattle.gafd_run.specs.declared.fault.RunFault.TheVariants.{NoMemory, OutputFault};
 
-use crate::sinks::SinkFault;
 use geda_grammar::ReadKind;
 use geda_model::Name;
+use hall_server::ServeFault;
 use hierarchy::ElabFault;
 use option_words::WordFault;
 use project_files::{FileFault, FolderFault};
 use renum_files::RenumberFault;
+use sinks::SinkFault;
 use std::alloc::{AllocError, AllocFailed};
 
 /// Why the program ends otherwise than with an answer (docs/FORMATS.md, "Statuses").
@@ -52,6 +53,17 @@ pub enum RunFault {
     FolderFault,
     /// The output failed.
     OutputFault,
+    /// The keeper failed.
+    KeeperFault,
+    /// The rules do not accept a stored row.
+    RowRefused {
+        /// The serial of the first such row, which counts from 0.
+        serial: u32,
+    },
+    /// The gate failed.
+    GateFault,
+    /// A seat was refused its place at the board.
+    NoPlace,
     /// Memory ran out.
     NoMemory,
 }
@@ -135,6 +147,21 @@ impl From<RenumberFault> for RunFault {
         match fault {
             RenumberFault::ProjectFull => RunFault::ProjectFull,
             RenumberFault::NoMemory => RunFault::NoMemory,
+        }
+    }
+}
+
+impl From<ServeFault> for RunFault {
+    ghost from_gives = { λ fault e. e ≡ serve_fault fault };
+
+    fn from(fault: ServeFault) -> RunFault {
+        match fault {
+            ServeFault::GateFault => RunFault::GateFault,
+            ServeFault::KeeperFault => RunFault::KeeperFault,
+            ServeFault::RowRefused { serial } => RunFault::RowRefused { serial },
+            ServeFault::NoPlace => RunFault::NoPlace,
+            ServeFault::OutputFault => RunFault::OutputFault,
+            ServeFault::NoMemory => RunFault::NoMemory,
         }
     }
 }

@@ -1,15 +1,15 @@
-//! All of the program `gafd` but its edges: `run` does what the arguments ask for, over any folder
-//! and sinks, and answers the status.
+//! All of the program `gafd` but its edges: `run` does what the arguments ask for, over any folder,
+//! sinks, gate and keeper, and answers the status.
 //!
-//! Commands and statuses: docs/FORMATS.md. Definitions: specs/Answers.antt, specs/Writing.antt and
-//! specs/Runs.antt.
+//! Commands and statuses: docs/FORMATS.md. Definitions: specs/Answers.antt, specs/Writing.antt,
+//! specs/Runs.antt and specs/Endings.antt.
 #![tactic(auto)]
 
 mod answer;
 mod delivery;
 mod error_lines;
 mod fault;
-mod sinks;
+mod served;
 mod whole;
 
 pub use error_lines::report_want_of_memory;

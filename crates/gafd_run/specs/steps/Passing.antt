@@ -4,6 +4,7 @@ use Rattle.std.specs.Prelude.{◌≡◌, ◌⊎◌, ℕ, Result, Ok, Err, Some, 
 use Rattle.std.specs.declared.option.Option.{Option}
 use Rattle.geda_defs.specs.Contents.{Files}
 use Rattle.command_words.specs.declared.command.Command.{Command}
+use Rattle.command_words.specs.declared.command.Command.TheVariants.{Serve}
 use Rattle.gafd_run.specs.declared.fault.RunFault.{RunFault}
 use Rattle.gafd_run.specs.declared.fault.RunFault.TheVariants as faults
 use Rattle.hierarchy.specs.declared.fault.ElabFault.{ElabFault}
@@ -15,7 +16,8 @@ use Rattle.project_files.specs.declared.folder.FolderFault.TheVariants as folder
 use Rattle.gafd_run.specs.Answers.{AnswerData, Outcome, ComesTo}
 use Rattle.gafd_run.specs.Writing.{FolderRun, WroteFiles, WroteSome}
 use Rattle.project_files.specs.Counts.{Counts, Failed}
-use Rattle.gafd_run.specs.Runs.{IsQuiet, SaidLine, Stream, WrotePrefix, WroteWhole}
+use Rattle.sinks.specs.Streams.{IsQuiet, Stream, WrotePrefix, WroteWhole}
+use Rattle.gafd_run.specs.Runs.{SaidLine}
 use Rattle.gafd_run.specs.Faults.{error_line, status_of}
 
 -- what a fault of the folder becomes
@@ -56,21 +58,27 @@ Delivers folder out answer (Err faults.OutputFault) =
 Delivers folder out answer (Err faults.NoMemory) = WroteSome folder answer.files × IsQuiet out
 Delivers folder out answer (Err fault) = ⊥
 
+-- the command is done on files: it does not serve
+abbrev pub IsOnFiles : Command → Type 0
+IsOnFiles (Serve address store) = ⊥
+IsOnFiles other = ⊤
+
 -- what a command comes to over the files that a folder tells
 abbrev pub Over : Option Files → Command → Outcome → Type 0
 Over files command outcome = ComesTo files (Some command) outcome
 
--- the line of the fault names a file
-abbrev pub NamesFile : RunFault → Type 0
-NamesFile (faults.Missing file) = ⊤
-NamesFile (faults.Refused file line kind) = ⊤
-NamesFile (faults.BadToml file) = ⊤
-NamesFile (faults.BadRows file) = ⊤
-NamesFile other = ⊥
+-- the line of the fault takes memory: it names a file or a row
+abbrev pub TakesMemory : RunFault → Type 0
+TakesMemory (faults.Missing file) = ⊤
+TakesMemory (faults.Refused file line kind) = ⊤
+TakesMemory (faults.BadToml file) = ⊤
+TakesMemory (faults.BadRows file) = ⊤
+TakesMemory (faults.RowRefused serial) = ⊤
+TakesMemory other = ⊥
 
--- a fault is reported as it is, or as want of memory where its line names a file
+-- a fault is reported as it is, or as want of memory where its line takes memory
 pub record Reports (err : Stream) (fault : RunFault) (status : ℕ) : Type 0 where
   pub reported : RunFault
-  pub same : (reported ≡ fault) ⊎ ((reported ≡ faults.NoMemory) × NamesFile fault)
+  pub same : (reported ≡ fault) ⊎ ((reported ≡ faults.NoMemory) × TakesMemory fault)
   pub said : SaidLine err (error_line reported)
   pub status_is : status ≡ status_of reported

@@ -1,0 +1,140 @@
+-- How the whole program ends, and which statuses are left where nothing failed.
+use Rattle.std.proofs.Common.{◌≡◌, ◌⊎◌, ℕ, Bool, true, false, Option, Some, None, Result, Ok, Err, inl, inr, refl, sym, subst, ap, ◌∙◌}
+use Rattle.std.specs.Prelude.{if◌then◌else◌}
+use Rattle.std.specs.declared.option.Option.{Option}
+use Rattle.std.specs.Result.{result_map_both}
+use Rattle.geda_defs.specs.Contents.{Files, KeepsFiles}
+use Rattle.command_words.specs.declared.command.Command.{Command}
+use Rattle.command_words.specs.declared.command.Command.TheVariants as commands
+use Rattle.option_words.specs.Reads.{Fails}
+use Rattle.option_words.specs.declared.fault.WordFault.{WordFault}
+use Rattle.option_words.specs.declared.fault.WordFault.TheVariants as words
+use Rattle.renum_files.specs.RenumberedFiles.{RenumberedData, renumbered_files}
+use Rattle.renum_files.specs.declared.fault.RenumberFault.{RenumberFault}
+use Rattle.sinks.specs.Streams.{IsQuiet, Stream}
+use Rattle.hall_server.specs.Serving.{Outside, ServesTo}
+use Rattle.hall_server.specs.declared.fault.ServeFault.TheVariants as serve_faults
+use Rattle.gafd_run.specs.declared.fault.RunFault.{RunFault}
+use Rattle.gafd_run.specs.declared.fault.RunFault.TheVariants as faults
+use Rattle.gafd_run.specs.Answers.{AnswerData, ComesTo, Outcome, RenumbersTo, SheetsTo, checked, is_symbol_name, listed, symbols_reported, written_down}
+use Rattle.gafd_run.specs.Endings.{Completes, IsCheck, IsLeft, IsServing, RunEnds, Served, ServingEnds, served_status}
+use Rattle.gafd_run.specs.Faults.{error_line, renumber_fault, status_of}
+use Rattle.gafd_run.specs.Runs.{Ends, EndsWith, SaidLine, outcome_status}
+use Rattle.gafd_run.specs.Writing.{FolderRun}
+use Rattle.gafd_run.specs.steps.Passing.{FromWords, IsOnFiles, Reports, TakesMemory}
+use Rattle.gafd_run.proofs.AnswerLemmas.{OfAnswer, as_one, by_sheets, of_files, of_sheets, of_text}
+
+-- the answer of a command has status 0, or 7 where it checks
+abbrev IsGood : Option Command → AnswerData → Type 0
+IsGood command answer = (answer.status ≡ 0) ⊎ ((answer.status ≡ 7) × IsCheck command)
+
+of_check : (command : Option Command) (answer : AnswerData) (b : Bool) → IsCheck command → answer.status ≡ (if b then 7 else 0) → IsGood command answer
+of_check command answer true check is = inr (is, check)
+of_check command answer false check is = inl is
+
+by_numbers : (command : Option Command) (r : Result RenumberedData RenumberFault) (outcome : Outcome) → outcome ≡ result_map_both written_down renumber_fault r → OfAnswer (IsGood command) outcome
+by_numbers command (Ok r) outcome is = as_one (IsGood command) (Ok (written_down r)) outcome is (inl refl)
+by_numbers command (Err fault) outcome is = as_one (IsGood command) (Err (renumber_fault fault)) outcome is tt
+
+good : (told : Option Files) (command : Option Command) (answer : AnswerData) → ComesTo told command (Ok answer) → IsGood command answer
+good told None answer is = as_one (IsGood None) (Err faults.Usage) (Ok answer) is tt
+good told (Some (commands.Netlist form names)) answer come = of_sheets (IsGood (Some (commands.Netlist form names))) (listed form) (λ p nets. inl refl) told names (Ok answer) come
+good told (Some (commands.Drc matrix names)) answer (Ok levels, come, checks) =
+    of_sheets (IsGood (Some (commands.Drc matrix names))) (checked levels) (λ p nets. of_check (Some (commands.Drc matrix names)) (checked levels p nets) _ tt refl) told names (Ok answer) checks
+good told (Some (commands.Drc matrix names)) answer (Err fault, come, is) = as_one (IsGood (Some (commands.Drc matrix names))) (Err fault) (Ok answer) is tt
+good told (Some (commands.Export name)) answer come = of_text (IsGood (Some (commands.Export name))) (is_symbol_name name) name (λ text. inl refl) told (Ok answer) come
+good told (Some (commands.Symcheck names)) answer (Ok files, come, is) = as_one (IsGood (Some (commands.Symcheck names))) (Ok (symbols_reported files)) (Ok answer) is (of_check (Some (commands.Symcheck names)) (symbols_reported files) _ tt refl)
+good told (Some (commands.Symcheck names)) answer (Err fault, come, is) = as_one (IsGood (Some (commands.Symcheck names))) _ (Ok answer) is tt
+good told (Some (commands.Renumber names)) answer come =
+    of_files (IsGood (Some (commands.Renumber names))) told (λ known end. SheetsTo RenumbersTo known names end)
+    (λ files. by_sheets (IsGood (Some (commands.Renumber names))) RenumbersTo (λ project. by_numbers (Some (commands.Renumber names)) (renumbered_files project)) files names) (Ok answer) come
+good told (Some (commands.Work start count)) answer (text, come, is) = as_one (IsGood (Some (commands.Work start count))) _ (Ok answer) is (inl refl)
+good told (Some (commands.Serve address store)) answer come = absurd come
+
+module _ (outside : Outside) (folder : FolderRun) (command : Option Command) (out err : Stream) (status : ℕ) where
+  -- a good answer leaves such a status
+  left : (answer : AnswerData) → status ≡ answer.status → IsGood command answer → IsLeft command outside.rows status
+  left answer is (inl well) = inl (is ∙ well)
+  left answer is (inr (found, check)) = inr (inl (is ∙ found, check))
+
+  -- of runs on files
+  files_left : Ends folder command out err status → Completes outside folder command out status
+  files_left ends none well = go ends.outcome ends.cause ends.status_is
+    where
+      want : status ≡ 71 → IsLeft command outside.rows status
+      want is = inr (inr (inr is))
+
+      go : (outcome : Outcome) → EndsWith folder command out outcome → status ≡ outcome_status outcome → IsLeft command outside.rows status
+      go (Ok answer) (come, wrote, written) is = left answer is (good folder.old command answer come)
+      go (Err faults.FolderFault) (asked, failed, stops, quiet) is = absurd (well.folder_well failed)
+      go (Err faults.OutputFault) (answer, come, wrote, written) is = absurd (well.out_well written.0)
+      go (Err faults.NoMemory) h is = want is
+      go (Err fault) h is = absurd (none (fault, h.0))
+
+  -- of servings
+  serving_left : IsServing command → ServingEnds outside out err status → Completes outside folder command out status
+  serving_left serves ends none well = go ends.served ends.cause ends.status_is
+    where
+      go : (served : Served) → ServesTo outside out served → status ≡ served_status served → IsLeft command outside.rows status
+      go (Ok _) h is = inl is
+      go (Err serve_faults.GateFault) h is = absurd (well.gate_well h.0)
+      go (Err serve_faults.KeeperFault) h is = absurd (h.0 well.keeper_well)
+      go (Err (serve_faults.RowRefused serial)) h is = inr (inr (inl (is, serves, (serial, h.0))))
+      go (Err serve_faults.NoPlace) h is = absurd (well.places_well h.0)
+      go (Err serve_faults.OutputFault) h is = absurd (well.out_well h.1.0)
+      go (Err serve_faults.NoMemory) h is = inr (inr (inr is))
+
+-- so of the whole program
+pub all_left : (outside : Outside) (folder : FolderRun) (command : Option Command) (out err : Stream) (status : ℕ) → RunEnds outside folder command out err status → Completes outside folder command out status
+all_left outside folder (Some (commands.Serve address store)) out err status ends = serving_left outside folder (Some (commands.Serve address store)) out err status tt ends.0
+all_left outside folder command out err status ends = files_left outside folder command out err status ends
+
+-- a run on files is one of the program
+pub on_files : (outside : Outside) (folder : FolderRun) (command : Command) (out err : Stream) (status : ℕ) → IsOnFiles command → Ends folder (Some command) out err status → RunEnds outside folder (Some command) out err status
+on_files outside folder (commands.Serve address store) out err status on ends = absurd on
+on_files outside folder command out err status on ends = ends
+
+-- files that stay
+kept_same : (files : Option Files) → KeepsFiles files files
+kept_same None = tt
+kept_same (Some files) = λ name. refl
+
+-- the words were not read
+pub words_failed : (outside : Outside) (folder : FolderRun) (command : Option Command) (out err : Stream) (status : ℕ) (fault : WordFault) (e : RunFault) → FromWords fault e → Fails fault command → folder.new ≡ folder.old → IsQuiet out → Reports err e status → RunEnds outside folder command out err status
+words_failed outside folder command out err status words.Usage e from none same_files quiet r = subst (λ (c : Option Command). RunEnds outside folder c out err status) (sym none) (usage r.same)
+  where
+    kept : KeepsFiles folder.old folder.new
+    kept = subst (λ (files : Option Files). KeepsFiles folder.old files) (sym same_files) (kept_same folder.old)
+
+    plain : r.reported ≡ faults.Usage → RunEnds outside folder None out err status
+    plain is = record {
+      outcome = Err faults.Usage;
+      cause = (refl, kept, quiet);
+      said = subst (λ (f : RunFault). SaidLine err (error_line f)) is r.said;
+      status_is = r.status_is ∙ ap status_of is;
+    }
+
+    usage : (r.reported ≡ e) ⊎ ((r.reported ≡ faults.NoMemory) × TakesMemory e) → RunEnds outside folder None out err status
+    usage (inl same) = plain (same ∙ from)
+    usage (inr (same, made)) = absurd (subst TakesMemory from made)
+words_failed outside folder command out err status words.NoMemory e from any same_files quiet r = ends command
+  where
+    kept : KeepsFiles folder.old folder.new
+    kept = subst (λ (files : Option Files). KeepsFiles folder.old files) (sym same_files) (kept_same folder.old)
+
+    is : (r.reported ≡ e) ⊎ ((r.reported ≡ faults.NoMemory) × TakesMemory e) → r.reported ≡ faults.NoMemory
+    is (inl same) = same ∙ from
+    is (inr (same, made)) = same
+
+    said : SaidLine err (error_line faults.NoMemory)
+    said = subst (λ (f : RunFault). SaidLine err (error_line f)) (is r.same) r.said
+
+    status_is : status ≡ 71
+    status_is = r.status_is ∙ ap status_of (is r.same)
+
+    plain : (c : Option Command) → Ends folder c out err status
+    plain c = record { outcome = Err faults.NoMemory; cause = (inl kept, quiet); said = said; status_is = status_is }
+
+    ends : (c : Option Command) → RunEnds outside folder c out err status
+    ends (Some (commands.Serve address store)) = (record { served = Err serve_faults.NoMemory; cause = inl quiet; said = said; status_is = status_is }, kept)
+    ends c = plain c
