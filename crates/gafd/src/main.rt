@@ -1,16 +1,19 @@
 //! `gafd netlist FILE...` prints the net list of gEDA schematics in the folder that it runs in and
 //! of those below them, `gafd drc FILE...` what the check finds on them, and `gafd export FILE` the
 //! canonical text of a schematic or of a symbol. `gafd renumber FILE...` gives numbers to components
-//! without one, in the files.
+//! without one, in the files, and `gafd serve ADDRESS STORE` serves a history of edits over HTTP.
 //!
-//! `gafd_run::run` is all of the program, over any folder and sinks; `main` makes the real ones.
+//! `gafd_run::run` is all of the program, over anything outside; `main` makes the real ones.
 #![tactic(auto)]
 
 #[cfg(test)]
 mod edges;
 mod std_sink;
 
+use file_keeper::FileKeeper;
 use gafd_run::{report_want_of_memory, run};
+use gates::TcpGate;
+use hall_core::Places;
 use project_files::DirFolder;
 use std::process::ExitCode;
 use std::rt::Env;
@@ -36,8 +39,21 @@ fn main(rt: HostRuntime) -> ExitCode {
     let mut folder = DirFolder::new(&rt);
     let mut out = StdSink::new(rt.stdout());
     let mut err = StdSink::new(rt.stderr());
+    let mut gate = TcpGate::new(&rt);
+    let keeper = FileKeeper::new(&rt);
+    let mut places = Places::new();
     let status = match arguments(&rt) {
-        Ok(arguments) => run(rt.alloc(), &arguments, &mut folder, &mut out, &mut err),
+        Ok(arguments) => run(
+            &rt,
+            rt.alloc(),
+            &arguments,
+            &mut folder,
+            &mut out,
+            &mut err,
+            &mut gate,
+            keeper,
+            &mut places,
+        ),
         Err(_) => report_want_of_memory(&mut err),
     };
     ExitCode::from(status)
