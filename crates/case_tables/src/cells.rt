@@ -1,5 +1,6 @@
 // Cells of a row: ` / ` ends a line, and a backslash begins what cannot stand in a row.
 use crate::case_fault::CaseFault;
+use geda_model::{Name, NameFault};
 use std::alloc::{AllocError, Global};
 use std::str;
 
@@ -83,6 +84,15 @@ pub fn text_in(alloc: Global, bytes: &[u8]) -> Result<String, CaseFault> {
 pub fn text_of(alloc: Global, cell: &str) -> Result<String, CaseFault> {
     let bytes = bytes_of(alloc, cell)?;
     text_in(alloc, bytes.as_slice())
+}
+
+/// The name that a text is.
+pub fn name_of(alloc: Global, text: &str) -> Result<Name, CaseFault> {
+    match Name::new(alloc, text) {
+        Ok(name) => Ok(name),
+        Err(NameFault::NotAName) => Err(CaseFault::BadCase),
+        Err(NameFault::NoMemory) => Err(CaseFault::NoMemory),
+    }
 }
 
 /// The number that a cell is.

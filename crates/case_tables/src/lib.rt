@@ -1,5 +1,5 @@
 //! Tables of cases, as the folders data/ of the programs above have them: `report` goes through one,
-//! and asks `Answers` what each case comes to.
+//! and asks what each case comes to.
 //!
 //! How a table is written stands in crates/cases/data/README.txt. A case that came out otherwise
 //! than its table says is printed with its line.
@@ -11,6 +11,6 @@ mod table;
 mod table_files;
 
 pub use case_fault::CaseFault;
-pub use cells::{bytes_of, cell, number_of, numbered, option_in, text_in, text_of};
-pub use table::{Answers, report};
+pub use cells::{bytes_of, cell, name_of, number_of, numbered, option_in, text_in, text_of};
+pub use table::{Asked, Case, report};
 pub use table_files::TableFiles;

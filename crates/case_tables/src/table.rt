@@ -3,26 +3,26 @@ use crate::case_fault::CaseFault;
 use crate::cells::{bytes_of, number_of, numbered, text_of};
 use crate::table_files::TableFiles;
 use std::alloc::{AllocError, Global};
+use std::mem;
 
-/// What cases come to, by their kinds.
-pub trait Answers {
-    /// What the cells of a row come to.
-    fn row(
-        &self,
-        alloc: Global,
-        kind: &str,
-        cells: &[&str],
-        files: &TableFiles,
-    ) -> Result<String, CaseFault>;
+/// What a case asks.
+#[derive(Clone, Copy)]
+pub enum Asked<'a> {
+    /// The cells of a row, which come to a text.
+    Row(&'a [&'a str]),
+    /// The words of a question, which come to lines.
+    Question(&'a str),
+}
 
-    /// What the words of a question come to, a line each.
-    fn question(
-        &self,
-        alloc: Global,
-        kind: &str,
-        words: &str,
-        files: &TableFiles,
-    ) -> Result<String, CaseFault>;
+/// A case of a table.
+#[derive(Clone, Copy)]
+pub struct Case<'a> {
+    /// The kind, which the heading above names.
+    pub kind: &'a str,
+    /// What is asked.
+    pub asked: Asked<'a>,
+    /// The files that it may name.
+    pub files: &'a TableFiles,
 }
 
 /// A question whose lines are being read.
@@ -99,12 +99,22 @@ impl Table {
     }
 
     /// Asks the question that was read.
-    fn settle<A: Answers>(&mut self, alloc: Global, answers: &A) -> Result<(), CaseFault> {
+    fn settle<F: Fn(Global, &Case<'_>) -> Result<String, CaseFault>>(
+        &mut self,
+        alloc: Global,
+        answer: &F,
+    ) -> Result<(), CaseFault>
+        requires { F.IsAlwaysCallable answer.now }
+    {
         let Some(question) = self.question.take() else {
             return Ok(());
         };
-        let words = question.words.as_str();
-        let found = answers.question(alloc, self.kind.as_str(), words, &self.files)?;
+        let case = Case {
+            kind: self.kind.as_str(),
+            asked: Asked::Question(question.words.as_str()),
+            files: &self.files,
+        };
+        let found = answer(alloc, &case)?;
         self.files.use_up();
         Ok(self.compare(question.line, found.as_str(), question.wanted.as_str())?)
     }
@@ -120,11 +130,23 @@ impl Table {
     }
 
     /// Takes a row: the cells, `=>`, and what they come to.
-    fn row<A: Answers>(&mut self, alloc: Global, answers: &A, line: &str) -> Result<(), CaseFault> {
+    fn row<F: Fn(Global, &Case<'_>) -> Result<String, CaseFault>>(
+        &mut self,
+        alloc: Global,
+        answer: &F,
+        line: &str,
+    ) -> Result<(), CaseFault>
+        requires { F.IsAlwaysCallable answer.now }
+    {
         let (left, right) = line.split_once("=>").ok_or(CaseFault::BadCase)?;
         let cells = cells_of(alloc, left)?;
         self.files.close()?;
-        let found = answers.row(alloc, self.kind.as_str(), &cells, &self.files)?;
+        let case = Case {
+            kind: self.kind.as_str(),
+            asked: Asked::Row(cells.as_slice()),
+            files: &self.files,
+        };
+        let found = answer(alloc, &case)?;
         self.compare_row(alloc, found.as_str(), right)
     }
 
@@ -175,12 +197,14 @@ impl Table {
     }
 
     /// Takes a line that begins something.
-    fn begin<A: Answers>(
+    fn begin<F: Fn(Global, &Case<'_>) -> Result<String, CaseFault>>(
         &mut self,
         alloc: Global,
-        answers: &A,
+        answer: &F,
         line: &str,
-    ) -> Result<(), CaseFault> {
+    ) -> Result<(), CaseFault>
+        requires { F.IsAlwaysCallable answer.now }
+    {
         let (word, rest) = line.split_once(' ').unwrap_or((line, ""));
         match word {
             "" | "#" => Ok(()),
@@ -189,23 +213,25 @@ impl Table {
             "|" | "times" | "file" | "text" | "bytes" | "more" | "files" => {
                 self.put_file(alloc, word, rest)
             }
-            _ => self.row(alloc, answers, line),
+            _ => self.row(alloc, answer, line),
         }
     }
 
-    fn take<A: Answers>(
+    fn take<F: Fn(Global, &Case<'_>) -> Result<String, CaseFault>>(
         &mut self,
         alloc: Global,
-        answers: &A,
+        answer: &F,
         line: &str,
-    ) -> Result<(), CaseFault> {
+    ) -> Result<(), CaseFault>
+        requires { F.IsAlwaysCallable answer.now }
+    {
         if let Some(question) = &mut self.question {
             if is_wanted(line) {
                 return Ok(writeln!(question.wanted, "{line}")?);
             }
         }
-        self.settle(alloc, answers)?;
-        self.begin(alloc, answers, line)
+        self.settle(alloc, answer)?;
+        self.begin(alloc, answer, line)
     }
 
     /// Tells of a line that is no case.
@@ -220,36 +246,58 @@ impl Table {
         }
     }
 
-    fn take_all<A: Answers>(
+    fn take_all<F: Fn(Global, &Case<'_>) -> Result<String, CaseFault>>(
         &mut self,
         alloc: Global,
-        answers: &A,
+        answer: &F,
         text: &str,
-    ) -> Result<(), AllocError> {
+    ) -> Result<(), AllocError>
+        requires { F.IsAlwaysCallable answer.now }
+    {
         for line in text.lines() {
             self.line = self.line.saturating_add(1);
-            let done = self.take(alloc, answers, line);
+            let done = self.take(alloc, answer, line);
             self.pass(done)?;
         }
-        let done = self.settle(alloc, answers);
+        let done = self.settle(alloc, answer);
         self.pass(done)
+    }
+
+    /// Takes all lines, those of `shared` before the table's own, and hands out what there is to tell.
+    fn tell<F: Fn(Global, &Case<'_>) -> Result<String, CaseFault>>(
+        &mut self,
+        alloc: Global,
+        answer: &F,
+        shared: &str,
+        text: &str,
+    ) -> Result<String, AllocError>
+        requires { F.IsAlwaysCallable answer.now }
+    {
+        self.take_all(alloc, answer, shared)?;
+        self.line = 0;
+        self.take_all(alloc, answer, text)?;
+        let (cases, wrong) = (self.cases, self.wrong);
+        writeln!(
+            self.out,
+            "{}: {cases} cases, {wrong} wrong",
+            self.name.as_str()
+        )?;
+        Ok(mem::replace(&mut self.out, String::new(alloc)))
     }
 }
 
 /// The wrong cases of a table, a line each and what was found, and the numbers of all and of wrong
-/// ones. `shared` has the files that the table shares with others, and no cases.
-pub fn report<A: Answers>(
+/// ones. `answer` tells what a case comes to. `shared` has the files that the table shares with
+/// others, and no cases.
+pub fn report<F: Fn(Global, &Case<'_>) -> Result<String, CaseFault>>(
     alloc: Global,
-    answers: &A,
+    answer: F,
     shared: &str,
     name: &str,
     text: &str,
-) -> Result<String, AllocError> {
+) -> Result<String, AllocError>
+    requires { F.IsAlwaysCallable answer }
+{
     let mut table = Table::new(alloc, name)?;
-    table.take_all(alloc, answers, shared)?;
-    table.line = 0;
-    table.take_all(alloc, answers, text)?;
-    let (cases, wrong) = (table.cases, table.wrong);
-    writeln!(table.out, "{name}: {cases} cases, {wrong} wrong")?;
-    Ok(table.out)
+    table.tell(alloc, &answer, shared, text)
 }
