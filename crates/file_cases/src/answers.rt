@@ -1,10 +1,7 @@
 // The kinds of cases.
-use crate::{attributes, drawings, geometry, pins, readers, texts};
-use case_tables::{Answers, CaseFault, TableFiles};
+use crate::{attributes, drawings, geometry, grouping, pins, readers, texts};
+use case_tables::{Asked, Case, CaseFault};
 use std::alloc::Global;
-
-/// What the cases of this program come to.
-pub struct FileAnswers;
 
 fn text_answer(alloc: Global, kind: &str, cells: &[&str]) -> Result<String, CaseFault> {
     match kind {
@@ -20,6 +17,7 @@ fn text_answer(alloc: Global, kind: &str, cells: &[&str]) -> Result<String, Case
         "touch" => geometry::touching(alloc, cells),
         "place" => geometry::placing(alloc, cells),
         "drawings" => drawings::first_wrong_drawing(alloc, cells),
+        "groups" => grouping::groups(alloc, cells),
         _ => Err(CaseFault::BadCase),
     }
 }
@@ -35,29 +33,20 @@ fn read_answer(alloc: Global, kind: &str, cells: &[&str]) -> Result<String, Case
     }
 }
 
-impl Answers for FileAnswers {
-    fn row(
-        &self,
-        alloc: Global,
-        kind: &str,
-        cells: &[&str],
-        files: &TableFiles,
-    ) -> Result<String, CaseFault> {
-        match kind {
-            "values" => attributes::values(alloc, cells, files),
-            "value" => attributes::value(alloc, cells, files),
-            "sheet again" => readers::sheet_again(alloc, cells, files),
-            "symbol again" => readers::symbol_again(alloc, cells, files),
-            "object again" => readers::object_again(alloc, cells, files),
-            "head again" => readers::head_again(alloc, cells, files),
-            "pins" => pins::pins(alloc, cells, files),
-            "conductors" => pins::conductors(alloc, cells, files),
-            _ => read_answer(alloc, kind, cells),
-        }
-    }
-
-    /// No kind of this program has questions.
-    fn question(&self, _: Global, _: &str, _: &str, _: &TableFiles) -> Result<String, CaseFault> {
-        Err(CaseFault::BadCase)
+/// What a case comes to: a row, since no kind of this program has questions.
+pub fn answer(alloc: Global, case: &Case<'_>) -> Result<String, CaseFault> {
+    let Asked::Row(cells) = case.asked else {
+        return Err(CaseFault::BadCase);
+    };
+    match case.kind {
+        "values" => attributes::values(alloc, cells, case.files),
+        "value" => attributes::value(alloc, cells, case.files),
+        "sheet again" => readers::sheet_again(alloc, cells, case.files),
+        "symbol again" => readers::symbol_again(alloc, cells, case.files),
+        "object again" => readers::object_again(alloc, cells, case.files),
+        "head again" => readers::head_again(alloc, cells, case.files),
+        "pins" => pins::pins(alloc, cells, case.files),
+        "conductors" => pins::conductors(alloc, cells, case.files),
+        _ => read_answer(alloc, case.kind, cells),
     }
 }

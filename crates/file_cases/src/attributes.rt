@@ -4,7 +4,7 @@ use attr_rules::{
     NetFault, SlotFault, attr_of, attrs_of, net_entries, pin_kind, slot_pins, split_attr,
 };
 use case_tables::{CaseFault, TableFiles, cell, option_in, text_of};
-use geda_model::{Block, Word};
+use geda_model::{Block, Object, Word};
 use geda_read::read_object;
 use std::alloc::{AllocError, Global};
 
@@ -60,11 +60,13 @@ pub fn net(alloc: Global, cells: &[&str]) -> Result<String, CaseFault> {
     }
 }
 
-/// The values of a name at the object of the file `object`.
-pub fn values(alloc: Global, cells: &[&str], files: &TableFiles) -> Result<String, CaseFault> {
-    let object = read(read_object(alloc, files.find("object")?))?;
+fn object_in(alloc: Global, files: &TableFiles) -> Result<Object, CaseFault> {
+    read(read_object(alloc, files.find("object")?))
+}
+
+fn values_text(alloc: Global, object: &Object, name: &str) -> Result<String, CaseFault> {
     let mut out = String::new(alloc);
-    for value in attrs_of(alloc, &object, None, cell(cells, 0))?.as_slice() {
+    for value in attrs_of(alloc, object, None, name)?.as_slice() {
         if !out.is_empty() {
             out.push_str(" | ")?;
         }
@@ -73,9 +75,23 @@ pub fn values(alloc: Global, cells: &[&str], files: &TableFiles) -> Result<Strin
     Ok(out)
 }
 
+/// The values of a name at the object of the file `object`.
+pub fn values(alloc: Global, cells: &[&str], files: &TableFiles) -> Result<String, CaseFault> {
+    let object = object_in(alloc, files)?;
+    let text = values_text(alloc, &object, cell(cells, 0));
+    drop(object);
+    text
+}
+
+fn value_text(alloc: Global, object: &Object, name: &str) -> Result<String, CaseFault> {
+    let value = attr_of(object, None, name).unwrap_or("-");
+    Ok(String::from_str(alloc, value)?)
+}
+
 /// The first value of a name there, or `-`.
 pub fn value(alloc: Global, cells: &[&str], files: &TableFiles) -> Result<String, CaseFault> {
-    let object = read(read_object(alloc, files.find("object")?))?;
-    let value = attr_of(&object, None, cell(cells, 0)).unwrap_or("-");
-    Ok(String::from_str(alloc, value)?)
+    let object = object_in(alloc, files)?;
+    let text = value_text(alloc, &object, cell(cells, 0));
+    drop(object);
+    text
 }

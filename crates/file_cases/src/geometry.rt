@@ -28,7 +28,7 @@ fn point(x: Option<&str>, y: Option<&str>) -> Result<Point, CaseFault>
 }
 
 /// A wire `N X1 Y1 X2 Y2`, or the end `E X Y` of a pin.
-fn conductor(cell: &str) -> Result<Conductor, CaseFault> {
+pub(crate) fn conductor(cell: &str) -> Result<Conductor, CaseFault> {
     let mut words = cell.split_whitespace();
     let letter = words.next().unwrap_or("");
     let a = point(words.next(), words.next())?;

@@ -11,11 +11,12 @@ mod attributes;
 mod drawings;
 mod faults;
 mod geometry;
+mod grouping;
 mod pins;
 mod readers;
 mod texts;
 
-use answers::FileAnswers;
+use answers::answer;
 use case_tables::report;
 use std::{env, fs, io};
 
@@ -23,7 +24,7 @@ fn main(rt: HostRuntime) -> io::Result<()> {
     for argument in env::args(&rt)?.skip(1) {
         let name = argument.as_str();
         let text = fs::read_to_string(&rt, name)?;
-        let report = report(rt.alloc(), &FileAnswers, "", name, text.as_str())?;
+        let report = report(rt.alloc(), answer, "", name, text.as_str())?;
         print!(rt; "{}", report.as_str())?;
     }
     Ok(())

@@ -36,7 +36,7 @@ fn put_pin(out: &mut String, pin: &PlacedPin) -> Result<(), AllocError> {
     put_nets(out, pin.nets.as_slice())
 }
 
-fn pins_text(alloc: Global, pins: &[PlacedPin]) -> Result<String, AllocError> {
+fn lines_of(alloc: Global, pins: &[PlacedPin]) -> Result<String, AllocError> {
     let mut out = String::new(alloc);
     for pin in pins {
         if !out.is_empty() {
@@ -56,19 +56,47 @@ fn object_of(alloc: Global, cells: &[&str]) -> Result<Object, CaseFault> {
     read(read_object(alloc, bytes.as_slice()))
 }
 
+fn pins_text(alloc: Global, object: &Object, symbol: &Symbol) -> Result<String, CaseFault> {
+    let pins = pins_of(alloc, object, Some(symbol))?;
+    Ok(lines_of(alloc, pins.as_slice())?)
+}
+
+fn pins_with(alloc: Global, object: &Object, files: &TableFiles) -> Result<String, CaseFault> {
+    let symbol = symbol_of(alloc, files)?;
+    let text = pins_text(alloc, object, &symbol);
+    drop(symbol);
+    text
+}
+
 /// The pins of an object with the symbol of the file `symbol`: place, number, end, label, kind and
 /// global names.
 pub fn pins(alloc: Global, cells: &[&str], files: &TableFiles) -> Result<String, CaseFault> {
-    let symbol = symbol_of(alloc, files)?;
     let object = object_of(alloc, cells)?;
-    let pins = pins_of(alloc, &object, Some(&symbol))?;
-    Ok(pins_text(alloc, pins.as_slice())?)
+    let text = pins_with(alloc, &object, files);
+    drop(object);
+    text
+}
+
+fn conductors_text(alloc: Global, object: &Object, symbol: &Symbol) -> Result<String, CaseFault> {
+    let joining = conductors_of(alloc, object, Some(symbol))?;
+    Ok(format!(in alloc; "{joining:?}")?)
+}
+
+fn conductors_with(
+    alloc: Global,
+    object: &Object,
+    files: &TableFiles,
+) -> Result<String, CaseFault> {
+    let symbol = symbol_of(alloc, files)?;
+    let text = conductors_text(alloc, object, &symbol);
+    drop(symbol);
+    text
 }
 
 /// What joins of an object.
 pub fn conductors(alloc: Global, cells: &[&str], files: &TableFiles) -> Result<String, CaseFault> {
-    let symbol = symbol_of(alloc, files)?;
     let object = object_of(alloc, cells)?;
-    let joining = conductors_of(alloc, &object, Some(&symbol))?;
-    Ok(format!(in alloc; "{joining:?}")?)
+    let text = conductors_with(alloc, &object, files);
+    drop(object);
+    text
 }
