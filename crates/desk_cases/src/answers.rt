@@ -1,27 +1,16 @@
 // The kinds of cases.
 use crate::{histories, texts};
-use case_tables::{Answers, CaseFault, TableFiles};
+use case_tables::{Asked, Case, CaseFault};
 use std::alloc::Global;
 
-/// What the cases of this program come to.
-pub struct DeskAnswers;
-
-impl Answers for DeskAnswers {
-    fn row(&self, _: Global, _: &str, _: &[&str], _: &TableFiles) -> Result<String, CaseFault> {
-        Err(CaseFault::BadCase)
-    }
-
-    fn question(
-        &self,
-        alloc: Global,
-        kind: &str,
-        words: &str,
-        files: &TableFiles,
-    ) -> Result<String, CaseFault> {
-        match kind {
-            "verdicts" => histories::verdicts(alloc, words, files),
-            "report after" => texts::report_after(alloc, words, files),
-            _ => Err(CaseFault::BadCase),
-        }
+/// What a case comes to: a question, since no kind of this program has rows.
+pub fn answer(alloc: Global, case: &Case<'_>) -> Result<String, CaseFault> {
+    let Asked::Question(words) = case.asked else {
+        return Err(CaseFault::BadCase);
+    };
+    match case.kind {
+        "verdicts" => histories::verdicts(alloc, words, case.files),
+        "report after" => texts::report_after(alloc, words, case.files),
+        _ => Err(CaseFault::BadCase),
     }
 }

@@ -42,20 +42,27 @@ fn take(alloc: Global, out: &mut String, desk: &mut Desk, entry: Entry) -> Resul
     }
 }
 
-/// Judges the entries of a file in their order, and puts the verdicts, a line each.
+/// Judges the entries of a file in their order. Answers the verdicts, a line each.
 pub fn play(
     alloc: Global,
-    out: &mut String,
+    desk: &mut Desk,
     file: &str,
     files: &TableFiles,
-) -> Result<Desk, CaseFault> {
-    let mut desk = Desk::new(alloc);
+) -> Result<String, CaseFault> {
+    let mut out = String::new(alloc);
     let text = text_in(alloc, files.find(file)?)?;
     for line in text.lines() {
         let entry = entry_of(alloc, line, files)?;
-        take(alloc, out, &mut desk, entry)?;
+        take(alloc, &mut out, desk, entry)?;
     }
-    Ok(desk)
+    Ok(out)
+}
+
+fn all_verdicts(alloc: Global, file: &str, files: &TableFiles) -> Result<String, CaseFault> {
+    let mut desk = Desk::new(alloc);
+    let text = play(alloc, &mut desk, file, files);
+    drop(desk);
+    text
 }
 
 /// So many lines at the end of a text.
@@ -70,16 +77,12 @@ fn last_lines(alloc: Global, text: &str, count: usize) -> Result<String, AllocEr
 
 /// The verdicts on the entries of a file, or so many at the end: `h`, `h last 2`.
 pub fn verdicts(alloc: Global, words: &str, files: &TableFiles) -> Result<String, CaseFault> {
-    let mut out = String::new(alloc);
     match words.split_once(" last ") {
-        None => {
-            play(alloc, &mut out, words, files)?;
-            Ok(out)
-        }
+        None => all_verdicts(alloc, words, files),
         Some((file, count)) => {
             let count = number_of(count)?;
-            play(alloc, &mut out, file, files)?;
-            Ok(last_lines(alloc, out.as_str(), count as usize)?)
+            let text = all_verdicts(alloc, file, files)?;
+            Ok(last_lines(alloc, text.as_str(), count as usize)?)
         }
     }
 }

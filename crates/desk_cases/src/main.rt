@@ -12,7 +12,7 @@ mod entries;
 mod histories;
 mod texts;
 
-use answers::DeskAnswers;
+use answers::answer;
 use case_tables::report;
 use std::{env, fs, io};
 
@@ -20,7 +20,7 @@ fn main(rt: HostRuntime) -> io::Result<()> {
     for argument in env::args(&rt)?.skip(1) {
         let name = argument.as_str();
         let text = fs::read_to_string(&rt, name)?;
-        let report = report(rt.alloc(), &DeskAnswers, "", name, text.as_str())?;
+        let report = report(rt.alloc(), answer, "", name, text.as_str())?;
         print!(rt; "{}", report.as_str())?;
     }
     Ok(())

@@ -1,28 +1,39 @@
 // Reports on the project of a history.
 use crate::histories::play;
 use board_core::Board;
-use case_tables::{CaseFault, TableFiles, text_in};
+use case_tables::{CaseFault, TableFiles, name_of, text_in};
 use drc_rules::Matrix;
-use geda_model::{Name, NameFault};
+use edit_desk::Desk;
+use geda_model::Name;
 use project_model::Project;
 use reports::{Form, ReportFault, What, report};
 use std::alloc::Global;
 
-fn name_of(alloc: Global, text: &str) -> Result<Name, CaseFault> {
-    match Name::new(alloc, text) {
-        Ok(name) => Ok(name),
-        Err(NameFault::NotAName) => Err(CaseFault::BadCase),
-        Err(NameFault::NoMemory) => Err(CaseFault::NoMemory),
+/// What a word asks for of the whole project.
+fn whole_of(asked: &str) -> Result<What, CaseFault> {
+    match asked {
+        "list" => Ok(What::Net(Form::List)),
+        "drc" => Ok(What::Drc),
+        "sheets" => Ok(What::Sheets),
+        _ => Err(CaseFault::BadCase),
     }
 }
 
-/// The net list, or what stands in a sheet: `list`, `sheet s.sch`, `objects s.sch`.
+/// What a word asks for of a sheet or a symbol.
+fn part_of(asked: &str, name: Name) -> Result<What, CaseFault> {
+    match asked {
+        "objects" => Ok(What::Objects(name)),
+        "sheet" => Ok(What::Sheet(name)),
+        "symbol" => Ok(What::Symbol(name)),
+        _ => Err(CaseFault::BadCase),
+    }
+}
+
+/// What words ask for: `list`, `sheet s.sch`.
 fn what_of(alloc: Global, asked: &str) -> Result<What, CaseFault> {
     match asked.split_once(' ') {
-        None => Ok(What::Net(Form::List)),
-        Some(("sheet", name)) => Ok(What::Sheet(name_of(alloc, name)?)),
-        Some(("objects", name)) => Ok(What::Objects(name_of(alloc, name)?)),
-        Some(_) => Err(CaseFault::BadCase),
+        None => whole_of(asked),
+        Some((asked, name)) => part_of(asked, name_of(alloc, name)?),
     }
 }
 
@@ -33,10 +44,10 @@ fn put_lines(out: &mut String, text: &str) -> Result<(), CaseFault> {
     Ok(())
 }
 
-fn told(alloc: Global, project: &Project, what: &What) -> Result<String, CaseFault> {
-    let board = Board::of(alloc, project)?;
+/// The lines of a report, or its fault.
+fn told(alloc: Global, board: &Board, what: &What) -> Result<String, CaseFault> {
     let mut out = String::new(alloc);
-    match report(alloc, &board, what, &Matrix::usual()) {
+    match report(alloc, board, what, &Matrix::usual()) {
         Ok(text) => put_lines(&mut out, text_in(alloc, text.as_slice())?.as_str())?,
         Err(ReportFault::NoMemory) => return Err(CaseFault::NoMemory),
         Err(fault) => writeln!(out, "> {fault:?}")?,
@@ -44,11 +55,29 @@ fn told(alloc: Global, project: &Project, what: &What) -> Result<String, CaseFau
     Ok(out)
 }
 
+fn report_on(alloc: Global, project: &Project, asked: &str) -> Result<String, CaseFault> {
+    let what = what_of(alloc, asked)?;
+    let board = Board::of(alloc, project)?;
+    let text = told(alloc, &board, &what);
+    drop(board);
+    text
+}
+
+fn report_of(
+    alloc: Global,
+    desk: &mut Desk,
+    words: &str,
+    files: &TableFiles,
+) -> Result<String, CaseFault> {
+    let (file, asked) = words.split_once(": ").ok_or(CaseFault::BadCase)?;
+    play(alloc, desk, file, files)?;
+    report_on(alloc, desk.project(), asked)
+}
+
 /// A report after the entries of a file: `h: list`.
 pub fn report_after(alloc: Global, words: &str, files: &TableFiles) -> Result<String, CaseFault> {
-    let (file, asked) = words.split_once(": ").ok_or(CaseFault::BadCase)?;
-    let what = what_of(alloc, asked)?;
-    let mut verdicts = String::new(alloc);
-    let desk = play(alloc, &mut verdicts, file, files)?;
-    told(alloc, desk.project(), &what)
+    let mut desk = Desk::new(alloc);
+    let text = report_of(alloc, &mut desk, words, files);
+    drop(desk);
+    text
 }

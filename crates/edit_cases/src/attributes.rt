@@ -4,7 +4,7 @@ ghost use Rattle.std.specs.String.{string_bytes};
 ghost use Rattle.geda_model.specs.Ranges.{IsContent};
 ghost use Rattle.edit_attr.specs.Attributes.{attr_line};
 
-use crate::reading::{object_line, object_of};
+use crate::reading::{last_line, object_of};
 use case_tables::{CaseFault, cell, text_of};
 use edit_attr::{drop_attr, first_point, has_attr, set_attr};
 use geda_model::{Object, is_content};
@@ -27,23 +27,26 @@ fn with_attr(alloc: Global, object: &Object, name: &str, value: &str) -> Result<
 
 /// An object that gets an attribute of a name with a value.
 pub fn set(alloc: Global, cells: &[&str]) -> Result<String, CaseFault> {
-    let object = object_of(alloc, cell(cells, 0))?;
     let value = text_of(alloc, cell(cells, 2))?;
-    let object = with_attr(alloc, &object, cell(cells, 1), value.as_str())?;
-    object_line(alloc, &object)
+    let object = object_of(alloc, cell(cells, 0))?;
+    let made = with_attr(alloc, &object, cell(cells, 1), value.as_str());
+    drop(object);
+    last_line(alloc, made?)
 }
 
 /// An object that loses its attributes of a name.
-pub fn drop(alloc: Global, cells: &[&str]) -> Result<String, CaseFault> {
+pub fn lose(alloc: Global, cells: &[&str]) -> Result<String, CaseFault> {
     let object = object_of(alloc, cell(cells, 0))?;
-    let object = drop_attr(alloc, &object, cell(cells, 1))?;
-    object_line(alloc, &object)
+    let made = drop_attr(alloc, &object, cell(cells, 1));
+    drop(object);
+    last_line(alloc, made?)
 }
 
 /// Whether an object has an attribute of a name.
 pub fn has(alloc: Global, cells: &[&str]) -> Result<String, CaseFault> {
     let object = object_of(alloc, cell(cells, 0))?;
     let has = has_attr(&object, cell(cells, 1));
+    drop(object);
     Ok(String::from_str(alloc, if has { "yes" } else { "no" })?)
 }
 
@@ -51,5 +54,6 @@ pub fn has(alloc: Global, cells: &[&str]) -> Result<String, CaseFault> {
 pub fn first(alloc: Global, cells: &[&str]) -> Result<String, CaseFault> {
     let object = object_of(alloc, cell(cells, 0))?;
     let point = first_point(&object);
+    drop(object);
     Ok(format!(in alloc; "{} {}", point.x, point.y)?)
 }

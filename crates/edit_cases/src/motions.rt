@@ -2,7 +2,7 @@
 ghost use Rattle.std.specs.Prelude.{◌<◌, IfOk};
 ghost use Rattle.geda_geom.specs.Placing.{IsOnSheet};
 
-use crate::reading::{object_line, object_of, point, quarter, whole};
+use crate::reading::{last_line, object_of, point, quarter, whole};
 use case_tables::{CaseFault, cell};
 use edit_move::{MoveFault, moved, turned};
 use geda_geom::{Point, turn};
@@ -12,7 +12,7 @@ use std::alloc::Global;
 /// The object that came of one, or the name of the fault.
 fn told(alloc: Global, made: Result<Object, MoveFault>) -> Result<String, CaseFault> {
     match made {
-        Ok(object) => object_line(alloc, &object),
+        Ok(object) => last_line(alloc, object),
         Err(MoveFault::NoMemory) => Err(CaseFault::NoMemory),
         Err(fault) => Ok(format!(in alloc; "{fault:?}")?),
     }
@@ -20,11 +20,13 @@ fn told(alloc: Global, made: Result<Object, MoveFault>) -> Result<String, CaseFa
 
 /// An object that is moved `DX DY`.
 pub fn move_object(alloc: Global, cells: &[&str]) -> Result<String, CaseFault> {
-    let object = object_of(alloc, cell(cells, 0))?;
     let mut words = cell(cells, 1).split_whitespace();
     let dx = whole(words.next(), 400000)?;
     let dy = whole(words.next(), 400000)?;
-    told(alloc, moved(alloc, &object, dx, dy))
+    let object = object_of(alloc, cell(cells, 0))?;
+    let made = moved(alloc, &object, dx, dy);
+    drop(object);
+    told(alloc, made)
 }
 
 /// A turn `X Y QUARTER`, behind which stands `mirrored` where it mirrors before.
@@ -40,10 +42,11 @@ fn turn_of(cell: &str) -> Result<(Point, u8, bool), CaseFault>
 
 /// An object that is turned.
 pub fn turn_object(alloc: Global, cells: &[&str]) -> Result<String, CaseFault> {
+    let (Point { x, y }, quarter, mirror) = turn_of(cell(cells, 1))?;
     let object = object_of(alloc, cell(cells, 0))?;
-    let (about, quarter, mirror) = turn_of(cell(cells, 1))?;
-    let Point { x, y } = about;
-    told(alloc, turned(alloc, &object, x, y, quarter, mirror))
+    let made = turned(alloc, &object, x, y, quarter, mirror);
+    drop(object);
+    told(alloc, made)
 }
 
 /// A point that is turned.

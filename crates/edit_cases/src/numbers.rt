@@ -1,8 +1,8 @@
 // Projects whose components get numbers.
 ghost use Rattle.project_model.specs.Changes.{IsIdInRange};
 
-use crate::reading::{name_of, read};
-use case_tables::{CaseFault, TableFiles};
+use crate::reading::read;
+use case_tables::{CaseFault, TableFiles, name_of};
 use geda_model::Object;
 use geda_read::{read_sheet, read_symbol};
 use project_model::{Change, Placed, Project, Thing, Value};
@@ -70,18 +70,22 @@ fn put_symbol(
     Ok(put(alloc, project, name, Value::Symbol(symbol))?)
 }
 
-/// The project of the files that words name, in their order.
-fn project_of(alloc: Global, words: &str, files: &TableFiles) -> Result<Project, CaseFault> {
-    let mut project = Project::new(alloc);
+/// Puts in the files that words name, in their order.
+fn put_files(
+    alloc: Global,
+    project: &mut Project,
+    words: &str,
+    files: &TableFiles,
+) -> Result<(), CaseFault> {
     for word in words.split_whitespace() {
         let bytes = files.find(word)?;
         if word.ends_with(".sym") {
-            put_symbol(alloc, &mut project, word, bytes)?;
+            put_symbol(alloc, project, word, bytes)?;
         } else {
-            put_sheet(alloc, &mut project, word, bytes)?;
+            put_sheet(alloc, project, word, bytes)?;
         }
     }
-    Ok(project)
+    Ok(())
 }
 
 /// Puts the sheet, the id and the first attached refdes of an object.
@@ -122,13 +126,25 @@ fn run(alloc: Global, out: &mut String, project: &mut Project) -> Result<(), Cas
     Ok(())
 }
 
+fn runs(
+    alloc: Global,
+    project: &mut Project,
+    words: &str,
+    files: &TableFiles,
+) -> Result<String, CaseFault> {
+    put_files(alloc, project, words, files)?;
+    let mut out = String::new(alloc);
+    run(alloc, &mut out, project)?;
+    out.push_str("> again\n")?;
+    run(alloc, &mut out, project)?;
+    Ok(out)
+}
+
 /// The components of the project of some sheets and symbols that get a refdes, each with its sheet
 /// and its id; behind them those that get one in a second run.
 pub fn number(alloc: Global, words: &str, files: &TableFiles) -> Result<String, CaseFault> {
-    let mut project = project_of(alloc, words, files)?;
-    let mut out = String::new(alloc);
-    run(alloc, &mut out, &mut project)?;
-    out.push_str("> again\n")?;
-    run(alloc, &mut out, &mut project)?;
-    Ok(out)
+    let mut project = Project::new(alloc);
+    let text = runs(alloc, &mut project, words, files);
+    drop(project);
+    text
 }

@@ -4,19 +4,10 @@ ghost use Rattle.geda_geom.specs.Placing.{IsOnSheet};
 
 use case_tables::{CaseFault, bytes_of, text_in};
 use geda_geom::Point;
-use geda_model::{Name, NameFault, Object};
+use geda_model::Object;
 use geda_read::{ReadFault, read_object};
 use geda_write::object_text;
 use std::alloc::Global;
-
-/// The name that a text is.
-pub fn name_of(alloc: Global, text: &str) -> Result<Name, CaseFault> {
-    match Name::new(alloc, text) {
-        Ok(name) => Ok(name),
-        Err(NameFault::NotAName) => Err(CaseFault::BadCase),
-        Err(NameFault::NoMemory) => Err(CaseFault::NoMemory),
-    }
-}
 
 /// What was read of bytes.
 pub fn read<T: Drop>(read: Result<T, ReadFault>) -> Result<T, CaseFault> {
@@ -38,6 +29,13 @@ pub fn object_line(alloc: Global, object: &Object) -> Result<String, CaseFault> 
     let text = object_text(alloc, object)?;
     let text = text.as_slice();
     text_in(alloc, text.strip_suffix(b"\n").unwrap_or(text))
+}
+
+/// The same of an object that then goes away.
+pub fn last_line(alloc: Global, object: Object) -> Result<String, CaseFault> {
+    let line = object_line(alloc, &object);
+    drop(object);
+    line
 }
 
 /// A number that is at most so far from 0.

@@ -1,29 +1,17 @@
 // The kinds of cases.
 use crate::symbols;
-use case_tables::{Answers, CaseFault, TableFiles};
+use case_tables::{Asked, Case, CaseFault};
 use std::alloc::Global;
 
-/// What the cases of this program come to.
-pub struct SymbolAnswers;
-
-impl Answers for SymbolAnswers {
-    fn row(
-        &self,
-        alloc: Global,
-        kind: &str,
-        cells: &[&str],
-        files: &TableFiles,
-    ) -> Result<String, CaseFault> {
-        match kind {
-            "symbol report" => symbols::one_report(alloc, cells, files),
-            "symbol reports" => symbols::reports(alloc, cells, files),
-            "symbol errors" => symbols::errors(alloc, cells, files),
-            _ => Err(CaseFault::BadCase),
-        }
-    }
-
-    /// No kind of this program has questions.
-    fn question(&self, _: Global, _: &str, _: &str, _: &TableFiles) -> Result<String, CaseFault> {
-        Err(CaseFault::BadCase)
+/// What a case comes to: a row, since no kind of this program has questions.
+pub fn answer(alloc: Global, case: &Case<'_>) -> Result<String, CaseFault> {
+    let Asked::Row(cells) = case.asked else {
+        return Err(CaseFault::BadCase);
+    };
+    match case.kind {
+        "symbol report" => symbols::one_report(alloc, cells, case.files),
+        "symbol reports" => symbols::reports(alloc, cells, case.files),
+        "symbol errors" => symbols::errors(alloc, cells, case.files),
+        _ => Err(CaseFault::BadCase),
     }
 }

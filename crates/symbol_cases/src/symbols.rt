@@ -1,6 +1,6 @@
 // Symbols, and the reports on them.
-use case_tables::{CaseFault, TableFiles, bytes_of};
-use geda_model::{Items, Name, NameFault, Symbol};
+use case_tables::{CaseFault, TableFiles, bytes_of, name_of};
+use geda_model::{Items, Symbol};
 use geda_read::{ReadFault, read_symbol};
 use std::alloc::{AllocError, Global};
 use std::str;
@@ -13,14 +13,6 @@ fn symbol_of(alloc: Global, bytes: &[u8]) -> Result<Symbol, CaseFault> {
         Ok(symbol) => Ok(symbol),
         Err(ReadFault::At { .. }) => Err(CaseFault::BadCase),
         Err(ReadFault::NoMemory) => Err(CaseFault::NoMemory),
-    }
-}
-
-fn name_of(alloc: Global, name: &str) -> Result<Name, CaseFault> {
-    match Name::new(alloc, name) {
-        Ok(name) => Ok(name),
-        Err(NameFault::NotAName) => Err(CaseFault::BadCase),
-        Err(NameFault::NoMemory) => Err(CaseFault::NoMemory),
     }
 }
 

@@ -11,7 +11,7 @@ mod connections;
 mod empty_service;
 mod made;
 
-use answers::WebAnswers;
+use answers::answer;
 use case_tables::report;
 use std::{env, fs, io};
 
@@ -19,7 +19,7 @@ fn main(rt: HostRuntime) -> io::Result<()> {
     for argument in env::args(&rt)?.skip(1) {
         let name = argument.as_str();
         let text = fs::read_to_string(&rt, name)?;
-        let report = report(rt.alloc(), &WebAnswers, "", name, text.as_str())?;
+        let report = report(rt.alloc(), answer, "", name, text.as_str())?;
         print!(rt; "{}", report.as_str())?;
     }
     Ok(())
