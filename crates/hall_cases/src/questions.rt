@@ -1,0 +1,192 @@
+// What is asked of halls.
+use crate::hall_fault::{HallFault, fault_line};
+use crate::halls::{Served, serve_new};
+use crate::keepers::{keeper_failing_at, keeper_of};
+use crate::replies::lines_of;
+use crate::requests::inputs_of;
+use case_tables::{CaseFault, TableFiles, number_of};
+use hall_http::LinkEnd;
+use keeper_core::MemoryKeeper;
+use std::alloc::Global;
+use std::sync::Wait;
+
+fn end_name(end: &LinkEnd) -> &'static str {
+    match end {
+        LinkEnd::Closed => "Closed",
+        LinkEnd::CutShort => "CutShort",
+        LinkEnd::BadHead => "BadHead",
+        LinkEnd::TooLarge => "TooLarge",
+        LinkEnd::Unsupported => "Unsupported",
+        LinkEnd::ReadFault => "ReadFault",
+        LinkEnd::WriteFault => "WriteFault",
+        LinkEnd::Spent => "Spent",
+        LinkEnd::NoMemory => "NoMemory",
+    }
+}
+
+/// The replies of all connections, each with all its bytes, and how each connection ended.
+fn whole_lines(alloc: Global, served: &Served) -> Result<String, CaseFault> {
+    let mut out = String::new(alloc);
+    for connection in served.connections.iter() {
+        let lines = lines_of(alloc, connection.link.written(), false)?;
+        out.push_str(lines.as_str())?;
+        writeln!(out, "> {}", end_name(&connection.end))?;
+    }
+    Ok(out)
+}
+
+/// Puts the status and the body of each reply.
+fn put_brief(alloc: Global, out: &mut String, served: &Served) -> Result<(), CaseFault> {
+    for connection in served.connections.iter() {
+        let lines = lines_of(alloc, connection.link.written(), true)?;
+        out.push_str(lines.as_str())?;
+    }
+    Ok(())
+}
+
+/// Has a new hall serve the requests of files over a keeper of no rows.
+fn serve_failing<W: Wait>(
+    rt: &W,
+    alloc: Global,
+    names: &str,
+    call: u64,
+    files: &TableFiles,
+) -> Result<Served, HallFault> {
+    let inputs = inputs_of(alloc, names, files)?;
+    let keeper = keeper_failing_at(alloc, call)?;
+    serve_new(rt, alloc, keeper, inputs)
+}
+
+/// The connections of files, by the two seats in turn: `ann bob`. A call of the keeper may be one
+/// that fails: `ann failing 4`.
+pub fn connections<W: Wait>(
+    rt: &W,
+    alloc: Global,
+    words: &str,
+    files: &TableFiles,
+) -> Result<String, CaseFault> {
+    let (names, call) = words.split_once(" failing ").unwrap_or((words, "0"));
+    let call = number_of(call)?;
+    match serve_failing(rt, alloc, names, u64::from(call), files) {
+        Ok(served) => whole_lines(alloc, &served),
+        Err(fault) => fault_line(alloc, fault),
+    }
+}
+
+/// How many entries a hall has that was opened over the rows of a file, or why it does not open.
+pub fn opening<W: Wait>(
+    rt: &W,
+    alloc: Global,
+    words: &str,
+    files: &TableFiles,
+) -> Result<String, CaseFault> {
+    let keeper = keeper_of(alloc, words, files)?;
+    match serve_new(rt, alloc, keeper, Vec::new(alloc)) {
+        Ok(served) => front_line(alloc, &served),
+        Err(fault) => fault_line(alloc, fault),
+    }
+}
+
+fn front_line(alloc: Global, served: &Served) -> Result<String, CaseFault> {
+    match served.last_look {
+        Some((front, _)) => Ok(format!(in alloc; "> front {front}\n")?),
+        None => Ok(String::from_str(alloc, "> NoEntry\n")?),
+    }
+}
+
+fn asked_line(alloc: Global, served: &Served) -> Result<String, CaseFault> {
+    match served.last_look {
+        Some((_, asked)) => Ok(format!(in alloc; "> {asked}\n")?),
+        None => Ok(String::from_str(alloc, "> NoEntry\n")?),
+    }
+}
+
+/// The steps that the groups of the board took, after the connections of files.
+pub fn asked<W: Wait>(
+    rt: &W,
+    alloc: Global,
+    words: &str,
+    files: &TableFiles,
+) -> Result<String, CaseFault> {
+    match serve_failing(rt, alloc, words, 0, files) {
+        Ok(served) => asked_line(alloc, &served),
+        Err(fault) => fault_line(alloc, fault),
+    }
+}
+
+/// Opens a hall again over the keeper of a closed one, and puts the replies to the requests of a
+/// file. It gives the calls of the keeper in all.
+fn put_again<W: Wait>(
+    rt: &W,
+    alloc: Global,
+    out: &mut String,
+    served: Served,
+    names: &str,
+    files: &TableFiles,
+) -> Result<u64, HallFault> {
+    put_brief(alloc, out, &served)?;
+    writeln!(out, "> held {}", served.held)?;
+    let keeper = served.keeper.ok_or(CaseFault::BadCase)?;
+    let inputs = inputs_of(alloc, names, files)?;
+    let again = serve_new(rt, alloc, keeper, inputs)?;
+    put_brief(alloc, out, &again)?;
+    Ok(calls_of(&again.keeper))
+}
+
+fn calls_of(keeper: &Option<MemoryKeeper>) -> u64 {
+    match keeper {
+        Some(keeper) => keeper.calls(),
+        None => 0,
+    }
+}
+
+/// The same where a call of the keeper fails.
+fn put_failing<W: Wait>(
+    rt: &W,
+    alloc: Global,
+    out: &mut String,
+    call: u64,
+    names: (&str, &str),
+    files: &TableFiles,
+) -> Result<u64, HallFault> {
+    let served = serve_failing(rt, alloc, names.0, call, files)?;
+    put_again(rt, alloc, out, served, names.1, files)
+}
+
+/// Puts what comes where a call of the keeper fails, and says whether there was such a call.
+fn put_call<W: Wait>(
+    rt: &W,
+    alloc: Global,
+    out: &mut String,
+    call: u64,
+    names: (&str, &str),
+    files: &TableFiles,
+) -> Result<bool, CaseFault> {
+    writeln!(out, "> call {call}")?;
+    match put_failing(rt, alloc, out, call, names, files) {
+        Ok(calls) => Ok(call <= calls),
+        Err(fault) => {
+            out.push_str(fault_line(alloc, fault)?.as_str())?;
+            Ok(true)
+        }
+    }
+}
+
+/// The requests of a file where the first call of the keeper fails, then those of another file at a
+/// hall that is opened over the keeper again; the same of the second call, and so on, as far as one
+/// fails: `edits then reads`.
+pub fn each_call<W: Wait>(
+    rt: &W,
+    alloc: Global,
+    words: &str,
+    files: &TableFiles,
+) -> Result<String, CaseFault> {
+    let names = words.split_once(" then ").ok_or(CaseFault::BadCase)?;
+    let mut out = String::new(alloc);
+    for call in 1..1000u64 {
+        if !put_call(rt, alloc, &mut out, call, names, files)? {
+            return Ok(out);
+        }
+    }
+    Ok(out)
+}
