@@ -1,42 +1,63 @@
 // The kinds of cases.
-use crate::{boards, changes, hierarchies, programs, rewrites, texts};
-use case_tables::{Answers, CaseFault, TableFiles};
-use std::alloc::Global;
+use crate::{boards, changes, hierarchies, programs, rewrites};
+use case_tables::{Asked, Case, CaseFault, TableFiles, report};
+use std::alloc::{AllocError, Global};
+use std::sync::Wait;
+use std::thread::Threads;
 
-/// What the cases of this program come to.
-pub struct ProgramAnswers;
-
-impl Answers for ProgramAnswers {
-    fn row(
-        &self,
-        alloc: Global,
-        kind: &str,
-        cells: &[&str],
-        files: &TableFiles,
-    ) -> Result<String, CaseFault> {
-        match kind {
-            "command" => programs::command(alloc, cells, files),
-            "rewritten" => rewrites::rewritten(alloc, cells, files),
-            _ => Err(CaseFault::BadCase),
-        }
+fn row<W: Threads + Wait + Sync>(
+    rt: &W,
+    alloc: Global,
+    kind: &str,
+    cells: &[&str],
+    files: &TableFiles,
+) -> Result<String, CaseFault> {
+    match kind {
+        "command" => programs::command(rt, alloc, cells, files),
+        "rewritten" => rewrites::rewritten(rt, alloc, cells, files),
+        _ => Err(CaseFault::BadCase),
     }
+}
 
-    fn question(
-        &self,
-        alloc: Global,
-        kind: &str,
-        words: &str,
-        files: &TableFiles,
-    ) -> Result<String, CaseFault> {
-        match kind {
-            "program" => programs::lines(alloc, words, files),
-            "contents" => rewrites::contents(alloc, words, files),
-            "instances" => hierarchies::instances(alloc, words, files),
-            "groups" => boards::groups(alloc, words, files),
-            "bound" => boards::bound(alloc, words, files),
-            "report" => texts::report_text(alloc, words, files),
-            "changed" => changes::changed(alloc, words, files),
-            _ => Err(CaseFault::BadCase),
-        }
+fn question<W: Threads + Wait + Sync>(
+    rt: &W,
+    alloc: Global,
+    kind: &str,
+    words: &str,
+    files: &TableFiles,
+) -> Result<String, CaseFault> {
+    match kind {
+        "program" => programs::lines(rt, alloc, words, files),
+        "contents" => rewrites::contents(rt, alloc, words, files),
+        "instances" => hierarchies::instances(alloc, words, files),
+        "groups" => boards::groups(alloc, words, files),
+        "bound" => boards::bound(alloc, words, files),
+        "changed" => changes::changed(alloc, words, files),
+        _ => Err(CaseFault::BadCase),
     }
+}
+
+fn answer<W: Threads + Wait + Sync>(
+    rt: &W,
+    alloc: Global,
+    case: &Case<'_>,
+) -> Result<String, CaseFault> {
+    match case.asked {
+        Asked::Row(cells) => row(rt, alloc, case.kind, cells, case.files),
+        Asked::Question(words) => question(rt, alloc, case.kind, words, case.files),
+    }
+}
+
+/// What there is to tell of a table. `rt` is what a serving would make threads of, and wait by.
+pub fn program_report<W: Threads + Wait + Sync>(
+    rt: &W,
+    alloc: Global,
+    shared: &str,
+    name: &str,
+    text: &str,
+) -> Result<String, AllocError> {
+    let answer = |alloc: Global, case: &Case<'_>| -> Result<String, CaseFault> {
+        answer(rt, alloc, case)
+    };
+    report(alloc, answer, shared, name, text)
 }

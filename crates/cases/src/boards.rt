@@ -25,6 +25,18 @@ fn change_board(
     Ok(board.apply(alloc, &change)?)
 }
 
+fn groups_after(
+    alloc: Global,
+    board: &mut Board,
+    change: Option<&str>,
+    files: &TableFiles,
+) -> Result<String, CaseFault> {
+    if let Some(change) = change {
+        change_board(alloc, board, change, files)?;
+    }
+    Ok(groups_text(alloc, board)?)
+}
+
 /// The groups of the board of a sheet, which may be changed first: `s.sch after 2`.
 pub fn groups(alloc: Global, words: &str, files: &TableFiles) -> Result<String, CaseFault> {
     let (sheets, change) = match words.split_once(" after ") {
@@ -32,23 +44,35 @@ pub fn groups(alloc: Global, words: &str, files: &TableFiles) -> Result<String, 
         None => (words, None),
     };
     let mut board = board_in(alloc, sheets, files)?;
-    if let Some(change) = change {
-        change_board(alloc, &mut board, change, files)?;
-    }
-    Ok(groups_text(alloc, &board)?)
+    let text = groups_after(alloc, &mut board, change, files);
+    drop(board);
+    text
 }
 
 /// The board of the project of the sheets that words name.
-pub fn board_in(alloc: Global, words: &str, files: &TableFiles) -> Result<Board, CaseFault> {
+fn board_in(alloc: Global, words: &str, files: &TableFiles) -> Result<Board, CaseFault> {
     let project = project_in(alloc, words, files)?;
-    Ok(Board::of(alloc, &project)?)
+    let board = Board::of(alloc, &project);
+    drop(project);
+    Ok(board?)
+}
+
+fn bound_text(
+    alloc: Global,
+    board: &Board,
+    change: &str,
+    files: &TableFiles,
+) -> Result<String, CaseFault> {
+    let change = change_of(alloc, change, files)?;
+    let bound = board.bound(alloc, &change)?;
+    Ok(format!(in alloc; "> {bound}\n")?)
 }
 
 /// How many steps a change of the board of a sheet may take.
 pub fn bound(alloc: Global, words: &str, files: &TableFiles) -> Result<String, CaseFault> {
     let (sheets, change) = words.split_once(" after ").ok_or(CaseFault::BadCase)?;
-    let change = change_of(alloc, change, files)?;
     let board = board_in(alloc, sheets, files)?;
-    let bound = board.bound(alloc, &change)?;
-    Ok(format!(in alloc; "> {bound}\n")?)
+    let text = bound_text(alloc, &board, change, files);
+    drop(board);
+    text
 }

@@ -2,8 +2,8 @@
 ghost use Rattle.std.specs.Prelude.{IfOk};
 ghost use Rattle.project_model.specs.Changes.{CanApply};
 
-use crate::projects::{name_of, project_in, read};
-use case_tables::{CaseFault, TableFiles, number_of};
+use crate::projects::{project_in, read};
+use case_tables::{CaseFault, TableFiles, name_of, number_of};
 use geda_read::read_symbol;
 use project_model::{Change, Project, Thing, Value};
 use std::alloc::{AllocError, Global};
@@ -73,20 +73,38 @@ fn put_changes(
     put_project(alloc, out, project)
 }
 
-/// What a copy of a project has after a change, `s.sch after 2`, after that was undone, and before it.
-pub fn changed(alloc: Global, words: &str, files: &TableFiles) -> Result<String, CaseFault> {
-    let (sheets, change) = words.split_once(" after ").ok_or(CaseFault::BadCase)?;
-    let change = change_of(alloc, change, files)?;
-    let project = project_in(alloc, sheets, files)?;
-    Ok(changes_text(alloc, &project, change)?)
-}
-
-fn changes_text(alloc: Global, project: &Project, change: Change) -> Result<String, AllocError>
+fn changes_text(
+    alloc: Global,
+    project: &Project,
+    copy: &mut Project,
+    change: Change,
+) -> Result<String, AllocError>
     requires { CanApply change.items }
 {
     let mut out = String::new(alloc);
-    let mut copy = project.copy(alloc)?;
-    put_changes(alloc, &mut out, &mut copy, change)?;
+    put_changes(alloc, &mut out, copy, change)?;
     put_project(alloc, &mut out, project)?;
     Ok(out)
+}
+
+fn changed_text(
+    alloc: Global,
+    project: &Project,
+    change: &str,
+    files: &TableFiles,
+) -> Result<String, CaseFault> {
+    let change = change_of(alloc, change, files)?;
+    let mut copy = project.copy(alloc)?;
+    let text = changes_text(alloc, project, &mut copy, change);
+    drop(copy);
+    Ok(text?)
+}
+
+/// What a copy of a project has after a change, `s.sch after 2`, after that was undone, and before it.
+pub fn changed(alloc: Global, words: &str, files: &TableFiles) -> Result<String, CaseFault> {
+    let (sheets, change) = words.split_once(" after ").ok_or(CaseFault::BadCase)?;
+    let project = project_in(alloc, sheets, files)?;
+    let text = changed_text(alloc, &project, change, files);
+    drop(project);
+    text
 }

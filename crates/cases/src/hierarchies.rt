@@ -33,7 +33,9 @@ fn instances_text(alloc: Global, hierarchy: &Hierarchy) -> Result<String, AllocE
 /// The instances of the sheets that words name, and what is left out.
 pub fn instances(alloc: Global, words: &str, files: &TableFiles) -> Result<String, CaseFault> {
     let project = project_in(alloc, words, files)?;
-    match elaborate(alloc, &project) {
+    let found = elaborate(alloc, &project);
+    drop(project);
+    match found {
         Ok(hierarchy) => Ok(instances_text(alloc, &hierarchy)?),
         Err(_) => Err(CaseFault::BadCase),
     }

@@ -13,10 +13,8 @@ mod hierarchies;
 mod programs;
 mod projects;
 mod rewrites;
-mod texts;
 
-use answers::ProgramAnswers;
-use case_tables::report;
+use answers::program_report;
 use std::{env, fs, io};
 
 fn main(rt: HostRuntime) -> io::Result<()> {
@@ -28,13 +26,7 @@ fn main(rt: HostRuntime) -> io::Result<()> {
     for argument in arguments {
         let name = argument.as_str();
         let text = fs::read_to_string(&rt, name)?;
-        let report = report(
-            rt.alloc(),
-            &ProgramAnswers,
-            shared.as_str(),
-            name,
-            text.as_str(),
-        )?;
+        let report = program_report(&rt, rt.alloc(), shared.as_str(), name, text.as_str())?;
         print!(rt; "{}", report.as_str())?;
     }
     Ok(())

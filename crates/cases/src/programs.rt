@@ -2,8 +2,14 @@
 use crate::projects::{arguments_of, folder_of};
 use case_tables::{CaseFault, TableFiles, cell, text_in, text_of};
 use gafd_run::{MemorySink, run};
+use gates::MemoryGate;
+use hall_core::Places;
+use keeper_core::MemoryKeeper;
 use project_files::MemoryFolder;
 use std::alloc::{AllocError, Global};
+use std::sync::Wait;
+use std::thread::Threads;
+use web_heads::MemoryLink;
 
 const ROOM: usize = 100_000;
 
@@ -50,8 +56,37 @@ fn outcome(
     Ok(Ran { status, out, err })
 }
 
+/// Runs the program, and answers its status. A serving would find no connections and no rows.
+fn status_of<W: Threads + Wait + Sync>(
+    rt: &W,
+    alloc: Global,
+    arguments: &[String],
+    folder: &mut MemoryFolder,
+    out: &mut MemorySink,
+    err: &mut MemorySink,
+) -> u8 {
+    let links: Vec<MemoryLink> = Vec::new(alloc);
+    let mut gate = MemoryGate::new(rt, links, Vec::new(alloc));
+    let keeper = MemoryKeeper::new(Vec::new(alloc), Vec::new(alloc));
+    let mut places = Places::new();
+    let status = run(
+        rt,
+        alloc,
+        arguments,
+        folder,
+        out,
+        err,
+        &mut gate,
+        keeper,
+        &mut places,
+    );
+    drop(gate);
+    status
+}
+
 /// Runs the program in a folder. Of the calls that `failing` names, those of the sinks fail.
-pub fn run_in(
+pub fn run_in<W: Threads + Wait + Sync>(
+    rt: &W,
     alloc: Global,
     arguments: &[String],
     folder: &mut MemoryFolder,
@@ -59,12 +94,13 @@ pub fn run_in(
 ) -> Result<Ran, CaseFault> {
     let mut out = sink(alloc, failing, "out")?;
     let mut err = sink(alloc, failing, "err")?;
-    let status = run(alloc, arguments, folder, &mut out, &mut err);
+    let status = status_of(rt, alloc, arguments, folder, &mut out, &mut err);
     outcome(alloc, status, &out, &err)
 }
 
 /// Runs the program. The calls that `failing` names fail.
-fn outcome_of(
+fn outcome_of<W: Threads + Wait + Sync>(
+    rt: &W,
     alloc: Global,
     words: &str,
     failing: &str,
@@ -73,7 +109,9 @@ fn outcome_of(
     let arguments = arguments_of(alloc, words)?;
     let calls = failing_calls(alloc, failing, "folder")?;
     let mut folder = folder_of(alloc, files, calls)?;
-    run_in(alloc, &arguments, &mut folder, failing)
+    let ran = run_in(rt, alloc, &arguments, &mut folder, failing);
+    drop(folder);
+    ran
 }
 
 fn put_marked(to: &mut String, mark: &str, text: &str) -> Result<(), AllocError> {
@@ -85,9 +123,14 @@ fn put_marked(to: &mut String, mark: &str, text: &str) -> Result<(), AllocError>
 }
 
 /// The status of a command, what goes to the output after `>`, and to the errors after `!`.
-pub fn command(alloc: Global, cells: &[&str], files: &TableFiles) -> Result<String, CaseFault> {
+pub fn command<W: Threads + Wait + Sync>(
+    rt: &W,
+    alloc: Global,
+    cells: &[&str],
+    files: &TableFiles,
+) -> Result<String, CaseFault> {
     let words = text_of(alloc, cell(cells, 0))?;
-    let ran = outcome_of(alloc, words.as_str(), cell(cells, 1), files)?;
+    let ran = outcome_of(rt, alloc, words.as_str(), cell(cells, 1), files)?;
     Ok(ran_text(alloc, &ran)?)
 }
 
@@ -113,8 +156,13 @@ pub fn put_lines(to: &mut String, mark: &str, text: &str) -> Result<(), AllocErr
 }
 
 /// The output of a command, its errors and its status, a line each.
-pub fn lines(alloc: Global, words: &str, files: &TableFiles) -> Result<String, CaseFault> {
-    let ran = outcome_of(alloc, words, "", files)?;
+pub fn lines<W: Threads + Wait + Sync>(
+    rt: &W,
+    alloc: Global,
+    words: &str,
+    files: &TableFiles,
+) -> Result<String, CaseFault> {
+    let ran = outcome_of(rt, alloc, words, "", files)?;
     Ok(ran_lines(alloc, &ran)?)
 }
 

@@ -1,23 +1,14 @@
 // Folders and projects of the files of a table.
 ghost use Rattle.std.specs.Prelude.{◌≢◌, AllPairs};
 
-use case_tables::{CaseFault, TableFiles, number_of, numbered};
+use case_tables::{CaseFault, TableFiles, name_of, number_of, numbered};
 use command_words::{Command, command_of};
-use geda_model::{Items, Name, NameFault};
+use geda_model::{Items, Name};
 use geda_read::ReadFault;
 use project_files::{MemoryFolder, project_of};
 use project_model::Project;
 use std::alloc::Global;
 use std::collections::BTreeMap;
-
-/// The name that a text is.
-pub fn name_of(alloc: Global, text: &str) -> Result<Name, CaseFault> {
-    match Name::new(alloc, text) {
-        Ok(name) => Ok(name),
-        Err(NameFault::NotAName) => Err(CaseFault::BadCase),
-        Err(NameFault::NoMemory) => Err(CaseFault::NoMemory),
-    }
-}
 
 /// What was read of bytes.
 pub fn read<T: Drop>(read: Result<T, ReadFault>) -> Result<T, CaseFault> {

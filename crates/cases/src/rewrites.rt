@@ -5,6 +5,8 @@ use case_tables::{CaseFault, TableFiles, cell, text_in, text_of};
 use project_files::MemoryFolder;
 use std::alloc::{AllocError, Global};
 use std::collections::BTreeMap;
+use std::sync::Wait;
+use std::thread::Threads;
 
 /// Files by name, as they were before a run.
 type Before = BTreeMap<String, Vec<u8>>;
@@ -75,21 +77,38 @@ fn put_contents(
     Ok(())
 }
 
-/// What a command comes to, as `command` tells it, and the names of the files that it writes after
-/// `*`.
-pub fn rewritten(alloc: Global, cells: &[&str], files: &TableFiles) -> Result<String, CaseFault> {
+fn rewritten_in<W: Threads + Wait + Sync>(
+    rt: &W,
+    alloc: Global,
+    cells: &[&str],
+    files: &TableFiles,
+    folder: &mut MemoryFolder,
+) -> Result<String, CaseFault> {
     let words = text_of(alloc, cell(cells, 0))?;
-    let failing = cell(cells, 1);
-    let calls = failing_calls(alloc, failing, "folder")?;
-    let mut folder = folder_of(alloc, files, calls)?;
     let arguments = arguments_of(alloc, words.as_str())?;
-    let ran = run_in(alloc, &arguments, &mut folder, failing)?;
+    let ran = run_in(rt, alloc, &arguments, folder, cell(cells, 1))?;
     let mut text = ran_text(alloc, &ran)?;
-    put_names(&mut text, &files_of(alloc, files)?, &folder)?;
+    put_names(&mut text, &files_of(alloc, files)?, folder)?;
     Ok(text)
 }
 
-fn put_run(
+/// What a command comes to, as `command` tells it, and the names of the files that it writes after
+/// `*`.
+pub fn rewritten<W: Threads + Wait + Sync>(
+    rt: &W,
+    alloc: Global,
+    cells: &[&str],
+    files: &TableFiles,
+) -> Result<String, CaseFault> {
+    let calls = failing_calls(alloc, cell(cells, 1), "folder")?;
+    let mut folder = folder_of(alloc, files, calls)?;
+    let text = rewritten_in(rt, alloc, cells, files, &mut folder);
+    drop(folder);
+    text
+}
+
+fn put_run<W: Threads + Wait + Sync>(
+    rt: &W,
     alloc: Global,
     to: &mut String,
     words: &str,
@@ -97,20 +116,37 @@ fn put_run(
     folder: &mut MemoryFolder,
 ) -> Result<(), CaseFault> {
     let arguments = arguments_of(alloc, words)?;
-    let ran = run_in(alloc, &arguments, folder, "")?;
+    let ran = run_in(rt, alloc, &arguments, folder, "")?;
     to.push_str(ran_lines(alloc, &ran)?.as_str())?;
     put_contents(alloc, to, before, folder)
 }
 
-/// The output of each command of a question, its errors and its status, and then the lines of the
-/// files that it writes. ` then ` parts the commands, which run in one folder.
-pub fn contents(alloc: Global, words: &str, files: &TableFiles) -> Result<String, CaseFault> {
-    let mut folder = folder_of(alloc, files, Vec::new(alloc))?;
+fn contents_in<W: Threads + Wait + Sync>(
+    rt: &W,
+    alloc: Global,
+    words: &str,
+    files: &TableFiles,
+    folder: &mut MemoryFolder,
+) -> Result<String, CaseFault> {
     let mut before = files_of(alloc, files)?;
     let mut text = String::new(alloc);
     for command in words.split(" then ") {
-        put_run(alloc, &mut text, command, &before, &mut folder)?;
-        before = files_now(alloc, &before, &folder)?;
+        put_run(rt, alloc, &mut text, command, &before, folder)?;
+        before = files_now(alloc, &before, folder)?;
     }
     Ok(text)
+}
+
+/// The output of each command of a question, its errors and its status, and then the lines of the
+/// files that it writes. ` then ` parts the commands, which run in one folder.
+pub fn contents<W: Threads + Wait + Sync>(
+    rt: &W,
+    alloc: Global,
+    words: &str,
+    files: &TableFiles,
+) -> Result<String, CaseFault> {
+    let mut folder = folder_of(alloc, files, Vec::new(alloc))?;
+    let text = contents_in(rt, alloc, words, files, &mut folder);
+    drop(folder);
+    text
 }
