@@ -4,7 +4,7 @@
 //!
 //! The tables are in data/, with what each rule wants; how they are written stands in
 //! crates/cases/data/README.txt. A line of a file is a request, and its reply a line of the answer
-//! (src/requests.rt, src/replies.rt).
+//! (http_lines).
 #![tactic(auto)]
 
 mod answers;
@@ -12,8 +12,6 @@ mod hall_fault;
 mod halls;
 mod keepers;
 mod questions;
-mod replies;
-mod requests;
 
 use answers::hall_report;
 use std::{env, fs, io};

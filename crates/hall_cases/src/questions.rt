@@ -2,10 +2,9 @@
 use crate::hall_fault::{HallFault, fault_line};
 use crate::halls::{Served, serve_new};
 use crate::keepers::{keeper_failing_at, keeper_of};
-use crate::replies::lines_of;
-use crate::requests::inputs_of;
 use case_tables::{CaseFault, TableFiles, number_of};
 use hall_http::LinkEnd;
+use http_lines::{input_of, lines_of};
 use keeper_core::MemoryKeeper;
 use std::alloc::Global;
 use std::sync::Wait;
@@ -42,6 +41,15 @@ fn put_brief(alloc: Global, out: &mut String, served: &Served) -> Result<(), Cas
         out.push_str(lines.as_str())?;
     }
     Ok(())
+}
+
+/// The bytes of the requests of files whose names are parted by blanks.
+fn inputs_of(alloc: Global, names: &str, files: &TableFiles) -> Result<Vec<Vec<u8>>, CaseFault> {
+    let mut inputs = Vec::new(alloc);
+    for name in names.split(' ') {
+        inputs.push(input_of(alloc, name, files)?)?;
+    }
+    Ok(inputs)
 }
 
 /// Has a new hall serve the requests of files over a keeper of no rows.

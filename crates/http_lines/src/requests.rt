@@ -1,39 +1,9 @@
 // The requests of a connection, a line of a file each: a method and a target; an entry as JSON,
 // which is an edit; `blanks N`, an edit whose body is so many blanks; or all the bytes of a request
 // as a cell.
+use crate::entries::entry_json;
 use case_tables::{CaseFault, TableFiles, number_of, text_in, text_of};
 use std::alloc::{AllocError, Global};
-
-/// Puts a letter as it stands in a text of JSON.
-fn put_letter(out: &mut String, letter: char) -> Result<(), AllocError> {
-    match letter {
-        '\n' => out.push_str("\\n"),
-        '"' => out.push_str("\\\""),
-        '\\' => out.push_str("\\\\"),
-        letter => out.push(letter),
-    }
-}
-
-fn put_quoted(out: &mut String, text: &str) -> Result<(), AllocError> {
-    out.push('"')?;
-    for letter in text.chars() {
-        put_letter(out, letter)?;
-    }
-    out.push('"')
-}
-
-/// An entry as JSON, in which the text of a file stands for its name behind `@`.
-pub fn entry_text(alloc: Global, line: &str, files: &TableFiles) -> Result<String, CaseFault> {
-    let Some((before, rest)) = line.split_once("\"@") else {
-        return Ok(String::from_str(alloc, line)?);
-    };
-    let (name, after) = rest.split_once('"').ok_or(CaseFault::BadCase)?;
-    let text = text_in(alloc, files.find(name)?)?;
-    let mut out = String::from_str(alloc, before)?;
-    put_quoted(&mut out, text.as_str())?;
-    out.push_str(after)?;
-    Ok(out)
-}
 
 fn put_edit_head(out: &mut String, length: usize) -> Result<(), AllocError> {
     write!(
@@ -48,7 +18,7 @@ fn put_edit(
     line: &str,
     files: &TableFiles,
 ) -> Result<(), CaseFault> {
-    let body = entry_text(alloc, line, files)?;
+    let body = entry_json(alloc, line, files)?;
     put_edit_head(out, body.as_str().len())?;
     Ok(out.push_str(body.as_str())?)
 }
@@ -70,7 +40,8 @@ fn put_cell(alloc: Global, out: &mut String, line: &str) -> Result<(), CaseFault
     Ok(out.push_str(bytes.as_str())?)
 }
 
-fn put_request(
+/// Puts the bytes of the request of a line.
+pub fn put_request(
     alloc: Global,
     out: &mut String,
     line: &str,
@@ -96,17 +67,4 @@ pub fn input_of(alloc: Global, file: &str, files: &TableFiles) -> Result<Vec<u8>
         put_request(alloc, &mut out, line, files)?;
     }
     Ok(out.into_bytes())
-}
-
-/// The bytes of the requests of files whose names are parted by blanks.
-pub fn inputs_of(
-    alloc: Global,
-    names: &str,
-    files: &TableFiles,
-) -> Result<Vec<Vec<u8>>, CaseFault> {
-    let mut inputs = Vec::new(alloc);
-    for name in names.split(' ') {
-        inputs.push(input_of(alloc, name, files)?)?;
-    }
-    Ok(inputs)
 }

@@ -1,0 +1,13 @@
+//! Connections as lines: the requests of a connection and the rows of a store are lines of a table's
+//! file, and the replies that went out are lines of an answer.
+//!
+//! How they are written stands in crates/cases/data/README.txt.
+#![tactic(auto)]
+
+mod entries;
+mod replies;
+mod requests;
+
+pub use entries::entries_of;
+pub use replies::lines_of;
+pub use requests::{input_of, put_request};
