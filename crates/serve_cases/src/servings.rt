@@ -1,0 +1,181 @@
+// The whole program over what is in memory.
+use crate::case_words::{ServingCase, arguments_of, failing_calls, held_call_of};
+use crate::held_keeper::{HeldCall, HeldKeeper};
+use crate::progress::{Progress, Traces};
+use crate::scripts::{name_count, script_of};
+use crate::shared_link::SharedLink;
+use case_tables::{CaseFault, TableFiles};
+use edit_entries::Entry;
+use gafd_run::{MemorySink, run};
+use gates::MemoryGate;
+use hall_core::Places;
+use http_lines::entries_of;
+use keeper_core::MemoryKeeper;
+use project_files::MemoryFolder;
+use std::alloc::{AllocError, Global};
+use std::collections::BTreeMap;
+use std::sync::{Mutex, Wait};
+use std::thread::Threads;
+use std::time::Clock;
+
+const ROOM: usize = 1_000;
+
+/// The outputs of a run.
+#[derive(Drop)]
+pub struct Outputs {
+    /// What goes out.
+    pub out: MemorySink,
+    /// What goes to the errors.
+    pub err: MemorySink,
+}
+
+/// What a run comes to.
+#[derive(Drop)]
+pub struct Ran {
+    /// Its status.
+    pub status: u8,
+    /// What went out, and to the errors.
+    pub outputs: Outputs,
+    /// What its connections wrote.
+    pub traces: Mutex<Traces>,
+}
+
+/// What a run begins with, but its connections.
+#[derive(Drop)]
+struct Start {
+    arguments: Vec<String>,
+    rows: Vec<Entry>,
+    failing_calls: Vec<u64>,
+    failing_binds: Vec<u64>,
+    held: Option<HeldCall>,
+}
+
+/// Empty outputs, of which the calls fail that a case names.
+fn outputs_of(alloc: Global, case: &ServingCase<'_>) -> Result<Outputs, CaseFault> {
+    let out = failing_calls(alloc, case.failing, "out")?;
+    let err = failing_calls(alloc, case.failing, "err")?;
+    Ok(Outputs {
+        out: MemorySink::new(alloc, ROOM, out)?,
+        err: MemorySink::new(alloc, ROOM, err)?,
+    })
+}
+
+/// The rows of a case.
+fn rows_of(
+    alloc: Global,
+    case: &ServingCase<'_>,
+    files: &TableFiles,
+) -> Result<Vec<Entry>, CaseFault> {
+    if case.rows.is_empty() {
+        return Ok(Vec::new(alloc));
+    }
+    entries_of(alloc, case.rows, files)
+}
+
+fn start_of(alloc: Global, case: &ServingCase<'_>, files: &TableFiles) -> Result<Start, CaseFault> {
+    let held = held_call_of(case.links, case.held)?;
+    Ok(Start {
+        arguments: arguments_of(alloc, case.words)?,
+        rows: rows_of(alloc, case, files)?,
+        failing_calls: failing_calls(alloc, case.failing, "keeper")?,
+        failing_binds: failing_calls(alloc, case.failing, "gate")?,
+        held,
+    })
+}
+
+/// The connections of a case, in their order.
+fn links_of<'a, W: Wait + Clock>(
+    rt: &'a W,
+    alloc: Global,
+    names: &str,
+    files: &TableFiles,
+    traces: &'a Mutex<Traces>,
+) -> Result<Vec<SharedLink<'a, W>>, CaseFault> {
+    let mut links = Vec::new(alloc);
+    let mut place = 0usize;
+    for name in names.split_whitespace() {
+        let script = script_of(alloc, names, name, files)?;
+        links.push(SharedLink::new(Progress::new(rt, traces), place, script))?;
+        place = place.saturating_add(1);
+    }
+    Ok(links)
+}
+
+/// Runs the program, and answers its status. Nothing in it can fail.
+fn run_with<'a, W: Threads + Wait + Clock + Sync>(
+    rt: &'a W,
+    alloc: Global,
+    start: Start,
+    outputs: &mut Outputs,
+    links: Vec<SharedLink<'a, W>>,
+    progress: Progress<'a, W>,
+    place: usize,
+) -> u8 {
+    let Start {
+        arguments,
+        rows,
+        failing_calls,
+        failing_binds,
+        held,
+    } = start;
+    let mut folder = MemoryFolder::new(BTreeMap::new(alloc), Vec::new(alloc));
+    let mut gate = MemoryGate::new(rt, links, failing_binds);
+    let mut places = Places::new();
+    let keeper = MemoryKeeper::new(rows, failing_calls);
+    let keeper = HeldKeeper::new(keeper, progress, place, held);
+    let status = run(
+        rt,
+        alloc,
+        arguments.as_slice(),
+        &mut folder,
+        &mut outputs.out,
+        &mut outputs.err,
+        &mut gate,
+        keeper,
+        &mut places,
+    );
+    drop(gate);
+    drop(folder);
+    drop(places);
+    drop(arguments);
+    status
+}
+
+/// Runs a case, and answers its status. What its connections write is in the traces then.
+fn status_of<W: Threads + Wait + Clock + Sync>(
+    rt: &W,
+    alloc: Global,
+    case: &ServingCase<'_>,
+    files: &TableFiles,
+    outputs: &mut Outputs,
+    traces: &Mutex<Traces>,
+) -> Result<u8, CaseFault> {
+    let start = start_of(alloc, case, files)?;
+    let links = links_of(rt, alloc, case.links, files, traces)?;
+    let progress = Progress::new(rt, traces);
+    let place = name_count(case.links);
+    Ok(run_with(rt, alloc, start, outputs, links, progress, place))
+}
+
+/// The traces of the connections of these names, and of the keeper.
+fn traces_of(alloc: Global, names: &str) -> Result<Mutex<Traces>, AllocError> {
+    let places = name_count(names).saturating_add(1);
+    Ok(Mutex::new(Traces::new(alloc, places)?))
+}
+
+/// What a case comes to.
+pub fn run_case<W: Threads + Wait + Clock + Sync>(
+    rt: &W,
+    alloc: Global,
+    case: &ServingCase<'_>,
+    files: &TableFiles,
+) -> Result<Ran, CaseFault> {
+    let traces = traces_of(alloc, case.links)?;
+    let mut outputs = outputs_of(alloc, case)?;
+    let status = status_of(rt, alloc, case, files, &mut outputs, &traces)?;
+    Ok(Ran {
+        status,
+        outputs,
+        traces,
+    })
+}
