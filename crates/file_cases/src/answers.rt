@@ -45,6 +45,7 @@ pub fn answer(alloc: Global, case: &Case<'_>) -> Result<String, CaseFault> {
         "symbol again" => readers::symbol_again(alloc, cells, case.files),
         "object again" => readers::object_again(alloc, cells, case.files),
         "head again" => readers::head_again(alloc, cells, case.files),
+        "first lines" => readers::first_lines(alloc, cells, case.files),
         "pins" => pins::pins(alloc, cells, case.files),
         "conductors" => pins::conductors(alloc, cells, case.files),
         _ => read_answer(alloc, case.kind, cells),

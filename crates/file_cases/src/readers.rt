@@ -1,7 +1,7 @@
 // Files that are read, their faults, and their canonical text.
 use crate::faults::read;
 use case_tables::{CaseFault, TableFiles, bytes_of, cell, number_of, text_in};
-use geda_read::{ReadFault, read_object, read_sheet, read_symbol};
+use geda_read::{ReadFault, ReadKind, read_object, read_sheet, read_symbol};
 use geda_write::{head_text, object_text, sheet_text, symbol_text};
 use std::alloc::Global;
 
@@ -63,6 +63,41 @@ pub fn sheet_repeated(alloc: Global, cells: &[&str]) -> Result<String, CaseFault
     let last = bytes_of(alloc, cell(cells, 3))?;
     file.extend_from_slice(last.as_slice())?;
     told(alloc, read_sheet(alloc, file.as_slice()))
+}
+
+/// Puts the count of first lines where they are a sheet, and with it their fault where they are not
+/// cut short at their end.
+fn put_first_lines(
+    alloc: Global,
+    out: &mut String,
+    count: u32,
+    first: &[u8],
+) -> Result<(), CaseFault> {
+    let space = if out.is_empty() { "" } else { " " };
+    match read_sheet(alloc, first) {
+        Ok(_) => Ok(write!(out, "{space}{count}")?),
+        Err(ReadFault::At { read, line }) => {
+            if matches!(read, ReadKind::CutShort) && line == count.saturating_add(1) {
+                return Ok(());
+            }
+            Ok(write!(out, "{space}{count}: {read:?} {line}")?)
+        }
+        Err(ReadFault::NoMemory) => Err(CaseFault::NoMemory),
+    }
+}
+
+/// The counts of first lines of a file that are a sheet. All others are cut short at their end.
+pub fn first_lines(alloc: Global, cells: &[&str], files: &TableFiles) -> Result<String, CaseFault> {
+    let file = text_in(alloc, files.find(cell(cells, 0))?)?;
+    let mut out = String::new(alloc);
+    let mut first = Vec::new(alloc);
+    let mut count: u32 = 0;
+    for line in file.as_str().split_inclusive('\n') {
+        first.extend_from_slice(line.as_bytes())?;
+        count = count.saturating_add(1);
+        put_first_lines(alloc, &mut out, count, first.as_slice())?;
+    }
+    Ok(out)
 }
 
 /// `same` where the text is as the bytes; else the text without its last line feed.
