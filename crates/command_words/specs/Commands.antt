@@ -1,5 +1,5 @@
 -- Which command the arguments of a command line ask for (own).
-use Rattle.std.specs.Prelude.{◌≢◌, ◌≤◌, ⊤, ℕ, nat_le, nat_lt, Bool, ◌==◌, ◌&&◌, if◌then◌else◌, List, [], ◌∷◌, Option}
+use Rattle.std.specs.Prelude.{◌≢◌, ◌≤◌, ⊤, ℕ, nat_le, nat_lt, Bool, false, ◌==◌, ◌&&◌, if◌then◌else◌, List, [], ◌∷◌, Option}
 use Rattle.std.specs.Prelude.{Some, None, length, map, codes, String, string_bytes, option_map}
 use Rattle.std.specs.Prelude.{option_and_then}
 use Rattle.std.specs.List.{AllPairs, list_all}
@@ -13,7 +13,7 @@ use Rattle.backends.specs.declared.form.Form.{Form}
 use Rattle.backends.specs.declared.form.Form.TheVariants as forms
 use Rattle.option_words.specs.Words.{Parts, parts_of}
 use Rattle.command_words.specs.declared.command.Command.{Command}
-use Rattle.command_words.specs.declared.command.Command.TheVariants.{Netlist, Drc, Export, Symcheck, Renumber, Work, Serve}
+use Rattle.command_words.specs.declared.command.Command.TheVariants.{Netlist, Spice, Drc, Export, Symcheck, Renumber, Work, Serve}
 
 -- the greatest number of steps of the work
 abbrev pub most_steps : ℕ
@@ -55,11 +55,24 @@ abbrev pub matrix_of : Option (List ℕ) → Option (Option (List ℕ))
 matrix_of None = Some None
 matrix_of (Some word) = option_map (λ file. Some file) (file_of word)
 
--- the net list, from the form's name and the words that name sheets
-abbrev pub netlist_of : Parts → Option Command
-netlist_of parts =
+-- the value of `--form` asks for the SPICE text
+abbrev pub is_spice : Option (List ℕ) → Bool
+is_spice None = false
+is_spice (Some name) = bytes_eq name (codes "spice")
+
+-- the SPICE text of the sheets that are named
+abbrev pub spice_of : List (List ℕ) → Option Command
+spice_of words = option_map Spice (sheets_of words)
+
+-- the net list in one of its forms, from the form's name and the words that name sheets
+abbrev pub list_of : Parts → Option Command
+list_of parts =
     option_and_then (λ form. option_map (Netlist form) (sheets_of parts.words))
     (form_of parts.value)
+
+-- the net list, as the SPICE text or in one of its forms
+abbrev pub netlist_of : Parts → Option Command
+netlist_of parts = if is_spice parts.value then spice_of parts.words else list_of parts
 
 -- the check, from the matrix's file and the words that name sheets
 abbrev pub drc_of : Parts → Option Command
@@ -130,6 +143,7 @@ command_of (command ∷ words) = command_with (string_bytes command) (map string
 -- the files of a command differ, and its steps are not too many
 abbrev pub IsAskable : Command → Type 0
 IsAskable (Netlist form sheets) = AllPairs ◌≢◌ sheets
+IsAskable (Spice sheets) = AllPairs ◌≢◌ sheets
 IsAskable (Drc matrix sheets) = AllPairs ◌≢◌ sheets
 IsAskable (Export file) = ⊤
 IsAskable (Symcheck symbols) = AllPairs ◌≢◌ symbols

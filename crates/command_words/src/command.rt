@@ -4,8 +4,9 @@ ghost use Rattle.std.specs.Prelude.{option_copied, string_bytes};
 ghost use Rattle.option_words.specs.Reads.{Gives, parts_seen};
 ghost use Rattle.option_words.specs.Words.{parts_of};
 ghost use Rattle.command_words.specs.Commands.{IsAskable, command_of, drc_of, export_of, form_of};
-ghost use Rattle.command_words.specs.Commands.{matrix_of, netlist_of, renumber_of, serve_of};
-ghost use Rattle.command_words.specs.Commands.{symcheck_of, work_of};
+ghost use Rattle.command_words.specs.Commands.{is_spice, list_of, matrix_of, netlist_of};
+ghost use Rattle.command_words.specs.Commands.{renumber_of, serve_of, spice_of, symcheck_of};
+ghost use Rattle.command_words.specs.Commands.{work_of};
 
 use crate::argument::Argument;
 use crate::files::{file_of, sheets_of};
@@ -22,6 +23,11 @@ pub enum Command {
     Netlist {
         /// The form.
         form: Form,
+        /// The sheets, at least one. Their names differ.
+        sheets: Items<Name>,
+    },
+    /// Prints the net list of sheets as a circuit for SPICE.
+    Spice {
         /// The sheets, at least one. Their names differ.
         sheets: Items<Name>,
     },
@@ -86,9 +92,30 @@ fn matrix_of(alloc: Global, value: Option<&str>) -> Result<Option<Name>, WordFau
     }
 }
 
+/// Whether the value of `--form` asks for the SPICE text.
+fn is_spice(value: Option<&str>) -> bool
+    ensures { result ≡ is_spice (option_copied value.entry) }
+{
+    match value {
+        None => false,
+        Some(word) => word == "spice",
+    }
+}
+
+/// The SPICE text of the sheets that the words name.
+fn spice_of(alloc: Global, words: &[&str]) -> Result<Command, WordFault>
+    ensures asked { Gives (λ command. command) result (spice_of (map (λ w. w.now) words.now)) }
+    ensures apart { IfOk result IsAskable }
+{
+    let sheets = sheets_of(alloc, words)?;
+    Ok(Command::Spice {
+        sheets: Items::from_vec(sheets),
+    })
+}
+
 /// The net list in the form and of the sheets that these parts name.
-fn netlist_of(alloc: Global, parts: Parts<'_>) -> Result<Command, WordFault>
-    ensures asked { Gives (λ command. command) result (netlist_of (parts_seen parts.entry)) }
+fn list_of(alloc: Global, parts: Parts<'_>) -> Result<Command, WordFault>
+    ensures asked { Gives (λ command. command) result (list_of (parts_seen parts.entry)) }
     ensures apart { IfOk result IsAskable }
 {
     let form = form_of(parts.value).ok_or(WordFault::Usage)?;
@@ -97,6 +124,18 @@ fn netlist_of(alloc: Global, parts: Parts<'_>) -> Result<Command, WordFault>
         form,
         sheets: Items::from_vec(sheets),
     })
+}
+
+/// The net list that these parts ask for, as the SPICE text or in one of its forms.
+fn netlist_of(alloc: Global, parts: Parts<'_>) -> Result<Command, WordFault>
+    ensures asked { Gives (λ command. command) result (netlist_of (parts_seen parts.entry)) }
+    ensures apart { IfOk result IsAskable }
+{
+    if is_spice(parts.value) {
+        spice_of(alloc, parts.words.as_slice())
+    } else {
+        list_of(alloc, parts)
+    }
 }
 
 /// The check by the matrix and of the sheets that these parts name.
