@@ -9,7 +9,10 @@ use Rattle.project_files.specs.FileReads.{FileComesTo}
 use Rattle.project_files.specs.Gathering.{ProjectFiles}
 use Rattle.project_files.specs.ProjectFiles.{OfFiles, OfSome}
 use Rattle.gafd_run.specs.declared.fault.RunFault.TheVariants as faults
-use Rattle.gafd_run.specs.Answers.{AnswerData, ByNetList, Outcome, SheetsOf, SheetsTo, TextOf, all_well}
+use Rattle.spice_out.specs.declared.fault.SpiceFault.{SpiceFault}
+use Rattle.spice_out.specs.Faults.{spice_fault}
+use Rattle.spice_out.specs.SpiceText.{spice_text}
+use Rattle.gafd_run.specs.Answers.{AnswerData, ByNetList, ByNets, CircuitOf, Outcome, SheetsOf, SheetsTo, TextOf, all_well, circuit, circuit_or_fault}
 
 -- it holds of an answer; a fault is none
 abbrev pub OfAnswer : (AnswerData → Type 0) → Outcome → Type 0
@@ -23,9 +26,13 @@ module _ (Good : AnswerData → Type 0) where
   pub as_one : (end outcome : Outcome) → outcome ≡ end → OfAnswer Good end → OfAnswer Good outcome
   as_one end outcome is good = subst (OfAnswer Good) (sym is) good
 
-  pub by_nets : (answer : ProjectData → Nets → AnswerData) → ((p : ProjectData) (nets : Nets) → Good (answer p nets)) → (p : ProjectData) → EachBy Good (ByNetList answer p)
-  by_nets answer good p outcome (inl (crowded, is)) = as_one (Err faults.TooManyInstances) outcome is tt
-  by_nets answer good p outcome (inr (room, (nets, list, is))) = as_one (Ok (answer p nets)) outcome is (good p nets)
+  by_nets : (end : Nets → Outcome) → ((nets : Nets) → OfAnswer Good (end nets)) → (p : ProjectData) → EachBy Good (ByNets end p)
+  by_nets end good p outcome (inl (crowded, is)) = as_one (Err faults.TooManyInstances) outcome is tt
+  by_nets end good p outcome (inr (room, (nets, list, is))) = as_one (end nets) outcome is (good nets)
+
+  of_found : (text : List ℕ) → Good (all_well text) → (found : Option SpiceFault) → OfAnswer Good (circuit_or_fault text found)
+  of_found text good None = good
+  of_found text good (Some fault) = tt
 
   pub by_sheets : (Comes : ProjectData → Outcome → Type 0) → ((p : ProjectData) → EachBy Good (Comes p)) → (files : ProjectFiles) (names : List (List ℕ)) → EachBy Good (SheetsTo Comes files names)
   by_sheets Comes good files names outcome (Ok project, come, of) = good project outcome of
@@ -52,7 +59,11 @@ module _ (Good : AnswerData → Type 0) where
 
   pub of_sheets : (answer : ProjectData → Nets → AnswerData) → ((p : ProjectData) (nets : Nets) → Good (answer p nets)) → (told : Option Files) (names : List (List ℕ)) → EachBy Good (λ outcome. OfFiles told (λ known. SheetsOf answer known names outcome))
   of_sheets answer good told names outcome come =
-      of_files told (λ known end. SheetsOf answer known names end) (λ files. by_sheets (ByNetList answer) (by_nets answer good) files names) outcome come
+      of_files told (λ known end. SheetsOf answer known names end) (λ files. by_sheets (ByNetList answer) (λ p. by_nets (λ nets. Ok (answer p nets)) (good p) p) files names) outcome come
+
+  pub of_circuit : ((text : List ℕ) → Good (all_well text)) → (told : Option Files) (names : List (List ℕ)) → EachBy Good (λ outcome. OfFiles told (λ known. SheetsTo CircuitOf known names outcome))
+  of_circuit good told names outcome come =
+      of_files told (λ known end. SheetsTo CircuitOf known names end) (λ files. by_sheets CircuitOf (by_nets circuit (λ nets. of_found (spice_text nets) (good (spice_text nets)) (spice_fault nets))) files names) outcome come
 
   pub of_text : (is_symbol : Bool) (name : List ℕ) → ((text : List ℕ) → Good (all_well text)) → (told : Option Files) → EachBy Good (λ outcome. OfSome told (λ known. FileComesTo (faults.Missing name) (TextOf is_symbol name) (known name) outcome))
   of_text is_symbol name good told outcome come =

@@ -22,7 +22,7 @@ use Rattle.gafd_run.specs.Faults.{error_line, renumber_fault, status_of}
 use Rattle.gafd_run.specs.Runs.{Ends, EndsWith, SaidLine, outcome_status}
 use Rattle.gafd_run.specs.Writing.{FolderRun}
 use Rattle.gafd_run.specs.steps.Passing.{FromWords, IsOnFiles, Reports, TakesMemory}
-use Rattle.gafd_run.proofs.AnswerLemmas.{OfAnswer, as_one, by_sheets, of_files, of_sheets, of_text}
+use Rattle.gafd_run.proofs.AnswerLemmas.{OfAnswer, as_one, by_sheets, of_circuit, of_files, of_sheets, of_text}
 
 -- the answer of a command has status 0, or 7 where it checks
 abbrev IsGood : Option Command → AnswerData → Type 0
@@ -39,6 +39,7 @@ by_numbers command (Err fault) outcome is = as_one (IsGood command) (Err (renumb
 good : (told : Option Files) (command : Option Command) (answer : AnswerData) → ComesTo told command (Ok answer) → IsGood command answer
 good told None answer is = as_one (IsGood None) (Err faults.Usage) (Ok answer) is tt
 good told (Some (commands.Netlist form names)) answer come = of_sheets (IsGood (Some (commands.Netlist form names))) (listed form) (λ p nets. inl refl) told names (Ok answer) come
+good told (Some (commands.Spice names)) answer come = of_circuit (IsGood (Some (commands.Spice names))) (λ text. inl refl) told names (Ok answer) come
 good told (Some (commands.Drc matrix names)) answer (Ok levels, come, checks) =
     of_sheets (IsGood (Some (commands.Drc matrix names))) (checked levels) (λ p nets. of_check (Some (commands.Drc matrix names)) (checked levels p nets) _ tt refl) told names (Ok answer) checks
 good told (Some (commands.Drc matrix names)) answer (Err fault, come, is) = as_one (IsGood (Some (commands.Drc matrix names))) (Err fault) (Ok answer) is tt

@@ -8,5 +8,6 @@ mod DeliveryLemmas
 mod AnswerLemmas
 mod ReadingLemmas
 mod NumberingLemmas
+mod CircuitLemmas
 mod ServingLemmas
 mod EndingLemmas

@@ -14,17 +14,17 @@ use Rattle.project_files.specs.FileReads.{Then}
 use Rattle.project_files.specs.Gathering.{ProjectFiles}
 use Rattle.project_files.proofs.OneProject.{IsOne, after_one, file_one, gathers_one, read_one, then_one}
 use Rattle.gafd_run.specs.declared.fault.RunFault.TheVariants as faults
-use Rattle.gafd_run.specs.Answers.{AnswerData, ByNetList, ComesTo, IsFixed, MatrixComesTo, Outcome, RenumbersTo, SheetsOf, SheetsTo, SymbolsOf, TextOf, as_run, checked, is_symbol_name, listed, symbols_reported}
+use Rattle.gafd_run.specs.Answers.{AnswerData, ByNetList, ByNets, CircuitOf, ComesTo, IsFixed, MatrixComesTo, Outcome, RenumbersTo, SheetsOf, SheetsTo, SymbolsOf, TextOf, as_run, checked, circuit, is_symbol_name, listed, symbols_reported}
 use Rattle.net_names.proofs.Uniqueness.{same_lists}
 use Rattle.sym_check.specs.declared.report.CheckedFile.{CheckedFile}
 use Rattle.symbol_files.proofs.OneCheck.{checks_one}
 
 -- what a net list comes to
-nets_one : (answer : ProjectData → Nets → AnswerData) (project : ProjectData) → IsOne (ByNetList answer project)
-nets_one answer project first second (inl (crowded, p)) (inl (too, q)) = p ∙ sym q
-nets_one answer project first second (inl (crowded, p)) (inr (room, list)) = absurd (room crowded)
-nets_one answer project first second (inr (room, list)) (inl (crowded, q)) = absurd (room crowded)
-nets_one answer project first second (inr (room, (nets, list, p))) (inr (too, (others, lists, q))) = p ∙ ap (λ (n : Nets). Ok (answer project n)) (same_lists project nets others list lists) ∙ sym q
+nets_one : (end : Nets → Outcome) (project : ProjectData) → IsOne (ByNets end project)
+nets_one end project first second (inl (crowded, p)) (inl (too, q)) = p ∙ sym q
+nets_one end project first second (inl (crowded, p)) (inr (room, list)) = absurd (room crowded)
+nets_one end project first second (inr (room, list)) (inl (crowded, q)) = absurd (room crowded)
+nets_one end project first second (inr (room, (nets, list, p))) (inr (too, (others, lists, q))) = p ∙ ap end (same_lists project nets others list lists) ∙ sym q
 
 -- what sheets come to
 sheets_one : (Comes : ProjectData → Outcome → Type 0) → ((project : ProjectData) → IsOne (Comes project)) → (files : ProjectFiles) (names : List (List ℕ)) → IsOne (SheetsTo Comes files names)
@@ -32,7 +32,7 @@ sheets_one Comes one files names first second (gathered, come, p) (other, does, 
     then_one Comes one (as_run other) first second (subst (λ (r : Result ProjectData FileFault). Then (as_run r) Comes first) (gathers_one files names gathered other come does) p) q
 
 of_sheets_one : (answer : ProjectData → Nets → AnswerData) (files : ProjectFiles) (names : List (List ℕ)) → IsOne (SheetsOf answer files names)
-of_sheets_one answer = sheets_one (ByNetList answer) (nets_one answer)
+of_sheets_one answer = sheets_one (ByNetList answer) (λ (project : ProjectData). nets_one (λ (nets : Nets). Ok (answer project nets)) project)
 
 -- a matrix
 matrix_one : (files : Files) (file : Option (List ℕ)) → IsOne (MatrixComesTo files file)
@@ -53,6 +53,7 @@ symbols_one files names first second (read, come, p) (other, does, q) =
 pub same_outcomes : (files : Files) (command : Option Command) (first second : Outcome) → IsFixed command → ComesTo (Some files) command first → ComesTo (Some files) command second → first ≡ second
 same_outcomes files None first second fixed p q = p ∙ sym q
 same_outcomes files (Some (commands.Netlist form names)) first second fixed p q = of_sheets_one (listed form) (record { sheets = files; symbols = files }) names first second p q
+same_outcomes files (Some (commands.Spice names)) first second fixed p q = sheets_one CircuitOf (nets_one circuit) (record { sheets = files; symbols = files }) names first second p q
 same_outcomes files (Some (commands.Drc matrix names)) first second fixed (read, come, p) (other, does, q) =
     after_one (MatrixComesTo files matrix) (λ (levels : List Level). SheetsOf (checked levels) (record { sheets = files; symbols = files }) names) (matrix_one files matrix) (λ levels. of_sheets_one (checked levels) (record { sheets = files; symbols = files }) names) read other first second come does p q
 same_outcomes files (Some (commands.Export name)) first second fixed p q = file_one (faults.Missing name) _ (text_one (is_symbol_name name) name) (files name) first second p q

@@ -1,5 +1,5 @@
 -- How faults are passed on, from the files to the end of a run.
-use Rattle.std.proofs.Common.{◌≡◌, ◌⊎◌, ℕ, ◌≤◌, List, Option, Result, Ok, Err, inl, inr, sym, subst}
+use Rattle.std.proofs.Common.{◌≡◌, ◌⊎◌, ℕ, ◌≤◌, List, Option, Result, Err, inl, inr, sym, subst}
 use Rattle.std.specs.declared.option.Option.{Option}
 use Rattle.geda_defs.specs.Causes.{HasCause}
 use Rattle.geda_defs.specs.Contents.{Writes}
@@ -23,22 +23,10 @@ use Rattle.gafd_run.specs.steps.Passing.{AnswerOf, ComesOf, Delivers, Reports, T
 
 -- what is come to, as an answer of a call that a folder is lent to
 pub answer_from : {A : Type 0} (counts : Counts) (P Q : Result A RunFault → Type 0) (outcome : Result A RunFault) → ((r : Result A RunFault) → P r → Q r) → ComesOf P outcome → AnswerOf counts Q outcome
-answer_from counts P Q (Ok answer) f h = f (Ok answer) h
-answer_from counts P Q (Err (faults.Missing file)) f h = f (Err (faults.Missing file)) h
-answer_from counts P Q (Err (faults.Refused file line kind)) f h = f (Err (faults.Refused file line kind)) h
-answer_from counts P Q (Err (faults.BadToml file)) f h = f (Err (faults.BadToml file)) h
-answer_from counts P Q (Err (faults.BadRows file)) f h = f (Err (faults.BadRows file)) h
-answer_from counts P Q (Err faults.TooManyObjects) f h = f (Err faults.TooManyObjects) h
-answer_from counts P Q (Err faults.ProjectFull) f h = f (Err faults.ProjectFull) h
-answer_from counts P Q (Err faults.TooManyInstances) f h = f (Err faults.TooManyInstances) h
-answer_from counts P Q (Err faults.Usage) f h = f (Err faults.Usage) h
 answer_from counts P Q (Err faults.FolderFault) f h = absurd h
 answer_from counts P Q (Err faults.OutputFault) f h = h
-answer_from counts P Q (Err faults.KeeperFault) f h = f (Err faults.KeeperFault) h
-answer_from counts P Q (Err (faults.RowRefused serial)) f h = f (Err (faults.RowRefused serial)) h
-answer_from counts P Q (Err faults.GateFault) f h = f (Err faults.GateFault) h
-answer_from counts P Q (Err faults.NoPlace) f h = f (Err faults.NoPlace) h
 answer_from counts P Q (Err faults.NoMemory) f h = tt
+answer_from counts P Q outcome f h = f outcome h
 
 -- a fault that is met in the bytes of a file, as that of the program
 pub bytes_fault : {A B : Type 0} (P : Result A FileFault → Type 0) (Q : Result B RunFault → Type 0) (e : FileFault) → (P (Err e) → Q (Err (run_fault e))) → IsAnswer P (Err e) → ComesOf Q (Err (run_fault e))
@@ -70,6 +58,10 @@ module _ (folder : FolderRun) (command : Option Command) (out err : Stream) (fau
   is_quiet (faults.Refused file line kind) h named = (inl h.1, h.2)
   is_quiet (faults.BadToml file) h named = (inl h.1, h.2)
   is_quiet (faults.BadRows file) h named = (inl h.1, h.2)
+  is_quiet (faults.NameClash refdes) h named = (inl h.1, h.2)
+  is_quiet (faults.PinSet refdes) h named = (inl h.1, h.2)
+  is_quiet (faults.TwoNets refdes) h named = (inl h.1, h.2)
+  is_quiet (faults.NoValue refdes) h named = (inl h.1, h.2)
   is_quiet faults.TooManyObjects h named = absurd named
   is_quiet faults.ProjectFull h named = absurd named
   is_quiet faults.TooManyInstances h named = absurd named

@@ -1,5 +1,5 @@
 -- What a command comes to over the files of a folder (own).
-use Rattle.std.specs.Prelude.{◌≡◌, ⊤, ℕ, Bool, true, false, if◌then◌else◌, List, [], ◌++◌, Result, Ok, Err, Some, None, nat_eq, codes}
+use Rattle.std.specs.Prelude.{◌≡◌, ◌⊎◌, ⊤, ℕ, Bool, true, false, if◌then◌else◌, List, [], ◌++◌, Result, Ok, Err, Some, None, nat_eq, codes}
 use Rattle.std.specs.declared.option.Option.{Option}
 use Rattle.std.specs.Fmt.{decimal}
 use Rattle.std.specs.List.{ends_with, list_any}
@@ -8,6 +8,7 @@ use Rattle.geda_defs.specs.Contents.{Files}
 use Rattle.project_model.specs.Projects.{ProjectData}
 use Rattle.geda_grammar.specs.Faults.{sheet_file, symbol_file}
 use Rattle.geda_grammar.specs.Canonical.{sheet_text, symbol_text}
+use Rattle.hierarchy.specs.Instances.{IsCrowded}
 use Rattle.net_names.specs.declared.nets.Nets.{Nets}
 use Rattle.backends.specs.declared.form.Form.{Form}
 use Rattle.backends.specs.Forms.{net_text}
@@ -15,10 +16,13 @@ use Rattle.pin_matrix.specs.declared.level.Level.{Level}
 use Rattle.pin_matrix.specs.Matrices.{usual}
 use Rattle.pin_matrix.specs.MatrixFiles.{document_of, matrix_in}
 use Rattle.toml.specs.Data.{Members}
-use Rattle.reports.specs.NetLists.{CheckData, OfNetList, checked as check_of}
+use Rattle.reports.specs.NetLists.{CheckData, HasNetList, checked as check_of}
+use Rattle.spice_out.specs.declared.fault.SpiceFault.{SpiceFault}
+use Rattle.spice_out.specs.Faults.{spice_fault}
+use Rattle.spice_out.specs.SpiceText.{spice_text}
 use Rattle.work_run.specs.RunText.{WorkComesTo}
 use Rattle.command_words.specs.declared.command.Command.{Command}
-use Rattle.command_words.specs.declared.command.Command.TheVariants.{Netlist, Drc, Export, Symcheck, Renumber, Work, Serve}
+use Rattle.command_words.specs.declared.command.Command.TheVariants.{Netlist, Spice, Drc, Export, Symcheck, Renumber, Work, Serve}
 use Rattle.project_files.specs.declared.fault.FileFault.{FileFault}
 use Rattle.project_files.specs.FileReads.{FileComesTo, ReadAs, Then}
 use Rattle.project_files.specs.Gathering.{ProjectFiles}
@@ -27,7 +31,7 @@ use Rattle.sym_check.specs.declared.report.CheckedFile.{CheckedFile}
 use Rattle.sym_check.specs.Report.{all_found, is_error, report_text}
 use Rattle.symbol_files.specs.CheckedFiles.{ChecksFrom}
 use Rattle.renum_files.specs.RenumberedFiles.{File, RenumberedData, renumbered_files}
-use Rattle.gafd_run.specs.Faults.{renumber_fault, run_fault}
+use Rattle.gafd_run.specs.Faults.{circuit_fault, renumber_fault, run_fault}
 use Rattle.gafd_run.specs.declared.fault.RunFault.{RunFault}
 use Rattle.gafd_run.specs.declared.fault.RunFault.TheVariants as faults
 
@@ -49,10 +53,15 @@ all_well text = record { text = text; status = 0; files = [] }
 abbrev pub done : List ℕ → Outcome
 done text = Ok (all_well text)
 
--- what a project comes to, given the answer by its net list: its sheets may have too many instances
+-- what a project comes to, by what its net list comes to: its sheets may have too many instances
+abbrev pub ByNets : (Nets → Outcome) → ProjectData → Outcome → Type 0
+ByNets end project outcome =
+    (IsCrowded project × (outcome ≡ Err faults.TooManyInstances))
+    ⊎ (¬ (IsCrowded project) × HasNetList end project outcome)
+
+-- the same, given the answer by its net list
 abbrev pub ByNetList : (ProjectData → Nets → AnswerData) → ProjectData → Outcome → Type 0
-ByNetList answer project outcome =
-    OfNetList faults.TooManyInstances (answer project) project outcome
+ByNetList answer project = ByNets (λ nets. Ok (answer project nets)) project
 
 -- what files come to, with the faults of the program
 abbrev pub as_run : {A : Type 0} → Result A FileFault → Result A RunFault
@@ -75,6 +84,19 @@ SheetsOf answer = SheetsTo (ByNetList answer)
 -- the text of a net list in a form
 abbrev pub listed : Form → ProjectData → Nets → AnswerData
 listed form project nets = all_well (net_text form nets)
+
+-- the SPICE text of a net list, or the fault of a package that keeps it from having one
+abbrev pub circuit_or_fault : List ℕ → Option SpiceFault → Outcome
+circuit_or_fault text None = done text
+circuit_or_fault text (Some fault) = Err (circuit_fault fault)
+
+-- a net list as a circuit for SPICE
+abbrev pub circuit : Nets → Outcome
+circuit nets = circuit_or_fault (spice_text nets) (spice_fault nets)
+
+-- what a project comes to as a circuit
+abbrev pub CircuitOf : ProjectData → Outcome → Type 0
+CircuitOf = ByNets circuit
 
 -- the report of a check; its status is 7 where an error is among what was found
 abbrev pub reported : CheckData → AnswerData
@@ -157,6 +179,8 @@ WorkOf start count outcome =
 abbrev pub CommandComesTo : Option Files → Command → Outcome → Type 0
 CommandComesTo files (Netlist form names) outcome =
     OfFiles files (λ known. SheetsOf (listed form) known names outcome)
+CommandComesTo files (Spice names) outcome =
+    OfFiles files (λ known. SheetsTo CircuitOf known names outcome)
 CommandComesTo files (Drc matrix names) outcome = CheckOf files matrix names outcome
 CommandComesTo files (Export name) outcome = OfSome files
     (λ known. FileComesTo (faults.Missing name) (TextOf (is_symbol_name name) name) (known name)

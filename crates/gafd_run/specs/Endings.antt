@@ -42,8 +42,8 @@ RunEnds outside folder (Some (Serve address store)) out err status =
     ServingEnds outside out err status × KeepsFiles folder.old folder.new
 RunEnds outside folder command out err status = Ends folder command out err status
 
--- the arguments come to a fault over the files: a file or the project is refused, or the arguments
--- ask for no command
+-- the arguments come to a fault over the files: a file or the project is refused, a package keeps
+-- the net list from being a circuit, or the arguments ask for no command
 abbrev pub ComesToFault : Option Files → Option Command → Type 0
 ComesToFault files command = (fault : RunFault) × ComesTo files command (Err fault)
 

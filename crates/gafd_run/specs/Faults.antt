@@ -9,6 +9,9 @@ use Rattle.renum_files.specs.declared.fault.RenumberFault.{RenumberFault}
 use Rattle.renum_files.specs.declared.fault.RenumberFault.TheVariants as renumber_faults
 use Rattle.hall_server.specs.declared.fault.ServeFault.{ServeFault}
 use Rattle.hall_server.specs.declared.fault.ServeFault.TheVariants as serve_faults
+use Rattle.printed_texts.specs.PrintedTexts.{word}
+use Rattle.spice_out.specs.declared.fault.SpiceFault.{SpiceFault}
+use Rattle.spice_out.specs.declared.fault.SpiceFault.TheVariants as spice_faults
 use Rattle.gafd_run.specs.declared.fault.RunFault.{RunFault}
 use Rattle.gafd_run.specs.declared.fault.RunFault.TheVariants as faults
 
@@ -20,6 +23,14 @@ run_fault file_faults.TooManyObjects = faults.TooManyObjects
 run_fault file_faults.ProjectFull = faults.ProjectFull
 run_fault file_faults.FolderFault = faults.FolderFault
 run_fault file_faults.NoMemory = faults.NoMemory
+
+-- why a net list has no SPICE text, as the program ends with it
+abbrev pub circuit_fault : SpiceFault → RunFault
+circuit_fault (spice_faults.NameClash refdes) = faults.NameClash refdes
+circuit_fault (spice_faults.PinSet refdes) = faults.PinSet refdes
+circuit_fault (spice_faults.TwoNets refdes) = faults.TwoNets refdes
+circuit_fault (spice_faults.NoValue refdes) = faults.NoValue refdes
+circuit_fault spice_faults.NoMemory = faults.NoMemory
 
 -- a fault that is met in numbering, as the program ends with it
 abbrev pub renumber_fault : RenumberFault → RunFault
@@ -44,6 +55,10 @@ status_of (faults.BadRows file) = 1
 status_of faults.TooManyObjects = 1
 status_of faults.ProjectFull = 1
 status_of faults.TooManyInstances = 1
+status_of (faults.NameClash refdes) = 1
+status_of (faults.PinSet refdes) = 1
+status_of (faults.TwoNets refdes) = 1
+status_of (faults.NoValue refdes) = 1
 status_of faults.Usage = 2
 status_of faults.FolderFault = 3
 status_of faults.OutputFault = 4
@@ -80,6 +95,10 @@ error_line (faults.BadRows file) = codes "gafd: " ++ file ++ codes ": BadRows\n"
 error_line faults.TooManyObjects = codes "gafd: TooManyObjects\n"
 error_line faults.ProjectFull = codes "gafd: ProjectFull\n"
 error_line faults.TooManyInstances = codes "gafd: TooManyInstances\n"
+error_line (faults.NameClash refdes) = codes "gafd: NameClash " ++ word refdes ++ codes "\n"
+error_line (faults.PinSet refdes) = codes "gafd: PinSet " ++ word refdes ++ codes "\n"
+error_line (faults.TwoNets refdes) = codes "gafd: TwoNets " ++ word refdes ++ codes "\n"
+error_line (faults.NoValue refdes) = codes "gafd: NoValue " ++ word refdes ++ codes "\n"
 error_line faults.Usage = codes "gafd: usage\n"
 error_line faults.FolderFault = codes "gafd: folder fault\n"
 error_line faults.OutputFault = codes "gafd: output fault\n"

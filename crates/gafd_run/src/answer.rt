@@ -4,11 +4,13 @@ ghost use Rattle.pin_matrix.specs.MatrixFiles.{document_of};
 ghost use Rattle.geda_defs.specs.Contents.{KeepsFiles};
 ghost use Rattle.command_words.specs.Commands.{IsAskable, most_steps};
 ghost use Rattle.command_words.specs.declared.command.Command.TheVariants.{Drc, Export, Netlist};
-ghost use Rattle.command_words.specs.declared.command.Command.TheVariants.{Renumber, Symcheck};
+ghost use Rattle.command_words.specs.declared.command.Command.TheVariants.{Renumber, Spice};
+ghost use Rattle.command_words.specs.declared.command.Command.TheVariants.{Symcheck};
 ghost use Rattle.project_files.specs.Counts.{counts};
 ghost use Rattle.project_files.specs.Measures.{LeavesIds, symbols_text};
-ghost use Rattle.gafd_run.specs.Answers.{ByNetList, TextOf, WorkOf, checked, is_symbol_name, listed};
-ghost use Rattle.gafd_run.specs.Answers.{RenumbersTo, matrix_of, renumber_line, reported};
+ghost use Rattle.gafd_run.specs.Answers.{ByNetList, CircuitOf, TextOf, WorkOf, checked};
+ghost use Rattle.gafd_run.specs.Answers.{RenumbersTo, is_symbol_name, listed, matrix_of};
+ghost use Rattle.gafd_run.specs.Answers.{renumber_line, reported};
 ghost use Rattle.gafd_run.specs.Answers.{symbols_reported, written_down};
 ghost use Rattle.gafd_run.specs.steps.Checking.{MatrixFrom};
 ghost use Rattle.gafd_run.specs.steps.Passing.{AnswerOf, ComesOf, IsOnFiles, Over};
@@ -23,7 +25,8 @@ use project_files::{
 };
 use project_model::Project;
 use renum_files::{FileText, RenumberedFiles, renumbered_files};
-use reports::{Check, Form, check, net_report};
+use reports::{Check, Form, check, net_list, net_report};
+use spice_out::spice_text;
 use std::alloc::{AllocError, Global};
 use std::marker::Model;
 use sym_check::{CheckedFile, has_errors, report_text};
@@ -74,6 +77,14 @@ fn listed(alloc: Global, form: Form, project: &Project) -> Result<Answer, RunFau
     ensures { ComesOf (ByNetList (listed form) project.now.contents) result }
 {
     Ok(Answer::done(alloc, net_report(alloc, form, project)?))
+}
+
+/// A project as a circuit for SPICE.
+fn circuit(alloc: Global, project: &Project) -> Result<Answer, RunFault>
+    ensures { ComesOf (CircuitOf project.now.contents) result }
+{
+    let nets = net_list(alloc, project)?;
+    Ok(Answer::done(alloc, spice_text(alloc, &nets)?))
 }
 
 /// The answer of a check.
@@ -141,6 +152,17 @@ fn netlist<F: Folder>(
 {
     let project = project_of(alloc, names.as_slice(), folder)?;
     listed(alloc, form, &project)
+}
+
+fn spice<F: Folder>(alloc: Global, names: Items<Name>, folder: &mut F) -> Result<Answer, RunFault>
+    requires { AllPairs ◌≢◌ names }
+    ensures answer { AnswerOf (counts (F.faults folder.old) (F.faults folder.new))
+        (Over (F.files folder.old) (Spice names)) result }
+    ensures later { F.faults folder.old ≤ F.faults folder.new }
+    ensures files { KeepsFiles (F.files folder.old) (F.files folder.new) }
+{
+    let project = project_of(alloc, names.as_slice(), folder)?;
+    circuit(alloc, &project)
 }
 
 /// The matrix that the bytes of a file are.
@@ -298,6 +320,7 @@ pub fn answer_of<F: Folder>(
 {
     match command {
         Command::Netlist { form, sheets } => netlist(alloc, form, sheets, folder),
+        Command::Spice { sheets } => spice(alloc, sheets, folder),
         Command::Drc { matrix, sheets } => drc(alloc, matrix, sheets, folder),
         Command::Export { file } => export(alloc, file, folder),
         Command::Symcheck { symbols } => symcheck(alloc, symbols, folder),

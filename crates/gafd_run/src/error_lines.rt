@@ -2,6 +2,7 @@
 ghost use Rattle.std.specs.Prelude.{◌≡◌, ◌++◌, IfOk, IsErr, codes, string_bytes};
 ghost use Rattle.std.specs.Fmt.{decimal};
 ghost use Rattle.std.specs.Cow.{cow_str_bytes};
+ghost use Rattle.printed_texts.specs.PrintedTexts.{word};
 ghost use Rattle.gafd_run.specs.Faults.{error_line, kind_name, status_of};
 ghost use Rattle.project_files.specs.Counts.{counts};
 ghost use Rattle.sinks.specs.Streams.{stream};
@@ -10,6 +11,8 @@ ghost use Rattle.gafd_run.specs.steps.Passing.{Reports, TakesMemory};
 
 use crate::fault::RunFault;
 use geda_grammar::ReadKind;
+use geda_model::Line;
+use printed_texts::name_words;
 use sinks::Sink;
 use std::alloc::{AllocError, Global};
 use std::borrow::CowStr;
@@ -26,7 +29,11 @@ fn status_of(fault: &RunFault) -> u8
         | RunFault::BadRows { .. }
         | RunFault::TooManyObjects
         | RunFault::ProjectFull
-        | RunFault::TooManyInstances => 1,
+        | RunFault::TooManyInstances
+        | RunFault::NameClash { .. }
+        | RunFault::PinSet { .. }
+        | RunFault::TwoNets { .. }
+        | RunFault::NoValue { .. } => 1,
         RunFault::Usage => 2,
         RunFault::FolderFault => 3,
         RunFault::OutputFault => 4,
@@ -66,6 +73,16 @@ fn refused_line(alloc: Global, file: &str, line: u32, kind: &str) -> Result<Stri
     format!(in alloc; "gafd: {file}:{line}: {kind}\n")
 }
 
+/// The line of a package that keeps a net list from being a circuit, under the name of its fault.
+fn package_line(alloc: Global, kind: &str, refdes: &Line) -> Result<CowStr<'static>, AllocError>
+    ensures { IfOk result (λ line. cow_str_bytes line ≡ codes "gafd: " ++ kind.now
+        ++ codes " " ++ word refdes.now ++ codes "\n") }
+{
+    let words = name_words(alloc, refdes.as_str())?;
+    let refdes = words.as_str();
+    Ok(CowStr::Owned(format!(in alloc; "gafd: {kind} {refdes}\n")?))
+}
+
 /// The line of a stored row that is not accepted.
 fn row_line(alloc: Global, serial: u32) -> Result<String, AllocError>
     ensures { IfOk result (λ text. string_bytes text
@@ -74,7 +91,7 @@ fn row_line(alloc: Global, serial: u32) -> Result<String, AllocError>
     format!(in alloc; "gafd: stored row {serial} refused\n")
 }
 
-/// The line of a fault. Only one that names a file or a row takes memory.
+/// The line of a fault. Only one that names a file, a package or a row takes memory.
 fn error_line(alloc: Global, fault: &RunFault) -> Result<CowStr<'static>, AllocError>
     ensures line { IfOk result (λ line. cow_str_bytes line ≡ error_line fault.now) }
     ensures made { IsErr result → TakesMemory fault.now }
@@ -99,6 +116,10 @@ fn error_line(alloc: Global, fault: &RunFault) -> Result<CowStr<'static>, AllocE
         RunFault::TooManyObjects => Ok(CowStr::Borrowed("gafd: TooManyObjects\n")),
         RunFault::ProjectFull => Ok(CowStr::Borrowed("gafd: ProjectFull\n")),
         RunFault::TooManyInstances => Ok(CowStr::Borrowed("gafd: TooManyInstances\n")),
+        RunFault::NameClash { refdes } => package_line(alloc, "NameClash", refdes),
+        RunFault::PinSet { refdes } => package_line(alloc, "PinSet", refdes),
+        RunFault::TwoNets { refdes } => package_line(alloc, "TwoNets", refdes),
+        RunFault::NoValue { refdes } => package_line(alloc, "NoValue", refdes),
         RunFault::Usage => Ok(CowStr::Borrowed("gafd: usage\n")),
         RunFault::FolderFault => Ok(CowStr::Borrowed("gafd: folder fault\n")),
         RunFault::OutputFault => Ok(CowStr::Borrowed("gafd: output fault\n")),
@@ -127,8 +148,8 @@ pub fn report_want_of_memory<E: Sink>(err: &mut E) -> u8
     status_of(&RunFault::NoMemory)
 }
 
-/// Prints the line of a fault and answers its status. Where a line that names a file or a row finds
-/// no memory, they are those of want of memory.
+/// Prints the line of a fault and answers its status. Where a line that names a file, a package or
+/// a row finds no memory, they are those of want of memory.
 pub fn report<E: Sink>(alloc: Global, fault: &RunFault, err: &mut E) -> u8
     ensures { Reports (stream (E.written err.old) (E.written err.new)
         (counts (E.faults err.old) (E.faults err.new))) fault.now result }

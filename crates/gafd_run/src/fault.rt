@@ -1,17 +1,18 @@
 // Why the program ends otherwise than with an answer.
 ghost use Rattle.std.specs.Prelude.{◌≡◌};
-ghost use Rattle.gafd_run.specs.Faults.{renumber_fault, run_fault, serve_fault};
+ghost use Rattle.gafd_run.specs.Faults.{circuit_fault, renumber_fault, run_fault, serve_fault};
 ghost use Rattle.gafd_run.specs.steps.Passing.{FromElaboration, FromFolder, FromWords};
 ghost use Rattle.gafd_run.specs.declared.fault.RunFault.TheVariants.{NoMemory, OutputFault};
 
 use geda_grammar::ReadKind;
-use geda_model::Name;
+use geda_model::{Line, Name};
 use hall_server::ServeFault;
 use hierarchy::ElabFault;
 use option_words::WordFault;
 use project_files::{FileFault, FolderFault};
 use renum_files::RenumberFault;
 use sinks::SinkFault;
+use spice_out::SpiceFault;
 use std::alloc::{AllocError, AllocFailed};
 
 /// Why the program ends otherwise than with an answer (docs/FORMATS.md, "Statuses").
@@ -47,6 +48,26 @@ pub enum RunFault {
     ProjectFull,
     /// The sheets of the project have more instances, or heavier ones, than they may have.
     TooManyInstances,
+    /// The SPICE card of a package has the name of an earlier one, in whatever letters.
+    NameClash {
+        /// The refdes of the package.
+        refdes: Line,
+    },
+    /// A package has not exactly the pins of its SPICE card.
+    PinSet {
+        /// The refdes of the package.
+        refdes: Line,
+    },
+    /// A pin of a package with a SPICE card is a member of two nets.
+    TwoNets {
+        /// The refdes of the package.
+        refdes: Line,
+    },
+    /// A package with a SPICE card has neither value nor device.
+    NoValue {
+        /// The refdes of the package.
+        refdes: Line,
+    },
     /// The arguments ask for no command.
     Usage,
     /// The folder failed.
@@ -136,6 +157,20 @@ impl From<ElabFault> for RunFault {
         match fault {
             ElabFault::TooManyInstances => RunFault::TooManyInstances,
             ElabFault::NoMemory => RunFault::NoMemory,
+        }
+    }
+}
+
+impl From<SpiceFault> for RunFault {
+    ghost from_gives = { λ fault e. e ≡ circuit_fault fault };
+
+    fn from(fault: SpiceFault) -> RunFault {
+        match fault {
+            SpiceFault::NameClash { refdes } => RunFault::NameClash { refdes },
+            SpiceFault::PinSet { refdes } => RunFault::PinSet { refdes },
+            SpiceFault::TwoNets { refdes } => RunFault::TwoNets { refdes },
+            SpiceFault::NoValue { refdes } => RunFault::NoValue { refdes },
+            SpiceFault::NoMemory => RunFault::NoMemory,
         }
     }
 }

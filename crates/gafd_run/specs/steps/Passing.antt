@@ -67,12 +67,16 @@ IsOnFiles other = ⊤
 abbrev pub Over : Option Files → Command → Outcome → Type 0
 Over files command outcome = ComesTo files (Some command) outcome
 
--- the line of the fault takes memory: it names a file or a row
+-- the line of the fault takes memory: it names a file, a package or a row
 abbrev pub TakesMemory : RunFault → Type 0
 TakesMemory (faults.Missing file) = ⊤
 TakesMemory (faults.Refused file line kind) = ⊤
 TakesMemory (faults.BadToml file) = ⊤
 TakesMemory (faults.BadRows file) = ⊤
+TakesMemory (faults.NameClash refdes) = ⊤
+TakesMemory (faults.PinSet refdes) = ⊤
+TakesMemory (faults.TwoNets refdes) = ⊤
+TakesMemory (faults.NoValue refdes) = ⊤
 TakesMemory (faults.RowRefused serial) = ⊤
 TakesMemory other = ⊥
 
