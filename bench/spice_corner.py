@@ -1,10 +1,11 @@
 #!/usr/bin/env python3
 """Simulates the filter of examples/ with ngspice, and compares its corner with that of its parts.
 
-Usage: spice_corner.py [PROGRAM]. The text that PROGRAM (out/gafd of the repository) prints for
-filter.sch must be filter.spice, byte for byte; where there is no program, or it has no such form,
-this is left out. Where ngspice is installed, corner.cir is run over it, and the corner that it
-measures must be 1 / (2 pi R1 C1) within one in a thousand. Status 1 where something differs.
+Usage: spice_corner.py [PROGRAM]. The circuit is what PROGRAM (out/gafd of the repository) prints by
+`netlist --form spice filter.sch`, and that must be filter.cir, byte for byte; where there is no
+program, filter.cir is taken. Where ngspice is installed, corner.cir is run over the circuit, and
+the corner that it measures must be 1 / (2 pi R1 C1) within one in a thousand. Status 1 where
+something differs.
 """
 import math
 import pathlib
@@ -23,32 +24,31 @@ UNITS = {"": 1.0, "k": 1e3, "n": 1e-9}
 CLOSE = 1e-3
 
 
-def is_printed(program):
-    """Whether the program prints the text; True too where it cannot be asked."""
+def circuit(program):
+    """The circuit that the program prints, or the one of examples/ where there is none."""
+    wanted = (EXAMPLES / "filter.cir").read_text()
     if not pathlib.Path(program).exists():
         print(f"{program} is not built")
-        return True
+        return wanted
     words = [pathlib.Path(program).resolve(), "netlist", "--form", "spice", "filter.sch"]
-    run = subprocess.run(words, cwd=EXAMPLES, capture_output=True)
-    if run.returncode == 2:
-        print("the program has no such form")
-        return True
-    is_same = run.stdout == (EXAMPLES / "filter.spice").read_bytes()
-    print("filter.sch prints as filter.spice" if is_same else f"filter.sch prints {run}")
-    return is_same
+    run = subprocess.run(words, cwd=EXAMPLES, capture_output=True, text=True)
+    if run.returncode or run.stdout != wanted:
+        sys.exit(f"filter.sch prints {run}")
+    print("filter.sch prints as filter.cir")
+    return run.stdout
 
 
-def value_of(name):
+def value_of(text, name):
     """The value of a card, by its last field."""
-    card = re.search(rf"^{name} .* ([0-9.]+)([a-z]*)$", (EXAMPLES / "filter.spice").read_text(), re.M)
+    card = re.search(rf"^{name} .* ([0-9.]+)([a-z]*)$", text, re.M)
     return float(card[1]) * UNITS[card[2]]
 
 
-def measured():
+def measured(text):
     """The corner that ngspice measures."""
     with tempfile.TemporaryDirectory() as folder:
-        for name in ("filter.spice", "corner.cir"):
-            shutil.copy(EXAMPLES / name, folder)
+        pathlib.Path(folder, "filter.cir").write_text(text)
+        shutil.copy(EXAMPLES / "corner.cir", folder)
         run = subprocess.run(["ngspice", "-b", "corner.cir"], cwd=folder, capture_output=True,
                              text=True, timeout=60)
     found = re.search(r"^corner\s*=\s*(\S+)", run.stdout, re.M)
@@ -58,12 +58,12 @@ def measured():
 
 
 def main():
-    if not is_printed(sys.argv[1] if len(sys.argv) > 1 else PROGRAM):
-        return 1
+    text = circuit(sys.argv[1] if len(sys.argv) > 1 else PROGRAM)
     if not shutil.which("ngspice"):
         print("ngspice is not installed")
         return 0
-    wanted, got = 1 / (2 * math.pi * value_of("R1") * value_of("C1")), measured()
+    wanted = 1 / (2 * math.pi * value_of(text, "R1") * value_of(text, "C1"))
+    got = measured(text)
     print(f"corner at {got:.2f} Hz, by the parts at {wanted:.2f} Hz")
     return 0 if abs(got / wanted - 1) < CLOSE else 1
 
