@@ -1,6 +1,6 @@
 // A keeper in memory, of which one call waits. It tells no rows.
-ghost use Rattle.std.specs.Prelude.{◌≡◌, ◌≤◌, None};
-ghost use Rattle.geda_defs.specs.Causes.{HasRisen};
+ghost use Rattle.std.specs.Prelude.{◌≡◌, None};
+ghost use Rattle.geda_defs.specs.Causes.{HasCause};
 
 use crate::progress::{Milestone, Progress};
 use edit_entries::Entry;
@@ -61,12 +61,14 @@ impl<W: Wait + Clock> HeldKeeper<'_, W> {
         }
     }
 
-    /// Counts a call that failed.
-    fn count_fault(&mut self)
-        ensures later { self.old.faults ≤ self.new.faults }
-        ensures risen { HasRisen self.old.faults self.new.faults }
+    /// Counts a call that failed, and hands on what came of it.
+    fn counted<T: Drop>(&mut self, done: Result<T, KeepFault>) -> Result<T, KeepFault>
+        ensures { HasCause self.old.faults self.new.faults result KeepFault.Failed }
     {
-        self.faults = self.faults.saturating_add(1);
+        if matches!(done, Err(KeepFault::Failed)) {
+            self.faults = self.faults.saturating_add(1);
+        }
+        done
     }
 }
 
@@ -79,43 +81,25 @@ impl<W: Wait + Clock> Keeper for HeldKeeper<'_, W> {
 
     fn attach(&mut self, store: &str) -> Result<(), KeepFault> {
         if !self.begin_call() {
-            self.count_fault();
-            return Err(KeepFault::Failed);
+            return self.counted(Err(KeepFault::Failed));
         }
-        match self.keeper.attach(store) {
-            Err(KeepFault::Failed) => {
-                self.count_fault();
-                Err(KeepFault::Failed)
-            }
-            done => done,
-        }
+        let done = self.keeper.attach(store);
+        self.counted(done)
     }
 
     fn put(&mut self, serial: u32, entry: &Entry) -> Result<(), KeepFault> {
         if !self.begin_call() {
-            self.count_fault();
-            return Err(KeepFault::Failed);
+            return self.counted(Err(KeepFault::Failed));
         }
-        match self.keeper.put(serial, entry) {
-            Err(KeepFault::Failed) => {
-                self.count_fault();
-                Err(KeepFault::Failed)
-            }
-            done => done,
-        }
+        let done = self.keeper.put(serial, entry);
+        self.counted(done)
     }
 
     fn load(&mut self, serial: u32) -> Result<Option<Entry>, KeepFault> {
         if !self.begin_call() {
-            self.count_fault();
-            return Err(KeepFault::Failed);
+            return self.counted(Err(KeepFault::Failed));
         }
-        match self.keeper.load(serial) {
-            Err(KeepFault::Failed) => {
-                self.count_fault();
-                Err(KeepFault::Failed)
-            }
-            done => done,
-        }
+        let done = self.keeper.load(serial);
+        self.counted(done)
     }
 }

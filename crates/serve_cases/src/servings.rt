@@ -18,6 +18,7 @@ use std::sync::{Mutex, Wait};
 use std::thread::Threads;
 use std::time::Clock;
 
+/// How many bytes an output takes.
 const ROOM: usize = 1_000;
 
 /// The outputs of a run.
@@ -101,7 +102,8 @@ fn links_of<'a, W: Wait + Clock>(
     Ok(links)
 }
 
-/// Runs the program, and answers its status. Nothing in it can fail.
+/// Runs the program, and answers its status. Nothing in it can fail, and what goes away is given to
+/// `drop`, which is proved once for a type.
 fn run_with<'a, W: Threads + Wait + Clock + Sync>(
     rt: &'a W,
     alloc: Global,
