@@ -2,7 +2,7 @@
 use Rattle.std.proofs.Common.{◌≡◌, ◌≤◌, arith, ◌⊎◌, inl, inr, Option, None, Some, List, [], ◌∷◌, sym, subst, ◌∙◌}
 use Rattle.net_flood.specs.Grouping.{GroupsData}
 use Rattle.group_runs.specs.Runs.{SheetName, Coming, Leaving, sheets_in, sheets_of}
-use Rattle.group_runs.specs.Sheets.{AreGone, AreKept, IsAmong, IsApart, IsGone, IsKept, IsSound, KeepsGroups, KeepsOtherSheets, KeepsUntouched, Rows, asked_sum, row_at}
+use Rattle.group_runs.specs.Sheets.{AreGone, AreKept, HasEntry, IsAmong, IsApart, IsGone, IsKept, IsSound, KeepsGroups, KeepsOtherSheets, KeepsUntouched, Rows, asked_sum, row_at}
 use Rattle.group_runs.specs.steps.Running.{IsGivingUp, invalidated}
 use Rattle.group_runs.proofs.RowLemmas.{same_or_apart}
 
@@ -11,6 +11,7 @@ giving_begins before all = record {
   gone = λ s m. inr m;
   others = λ s h. (λ i. row_at before s, h);
   stays = λ s h. h;
+  entries = λ s h. h;
   counted = omega arith;
 }
 
@@ -30,11 +31,22 @@ giving_more before now after all t ts giving gone others fewer = record {
   ];
   others = λ s h. (others s ((giving.others s h).1.0) ∙ (giving.others s h).0, (giving.others s h).1.1);
   stays = λ s h. still s (giving.stays s h);
+  entries = λ s h. entry_still s (giving.entries s h);
   counted = let earlier = giving.counted in omega arith;
 }
   where
     here : IsGone (row_at after t)
     here = subst IsGone (sym gone) (is_gone (row_at now t))
+
+    has_entry : (r : Option (Option GroupsData)) → HasEntry r → HasEntry (invalidated r)
+    has_entry None h = h
+    has_entry (Some row) h = tt
+
+    entry_still : (s : SheetName) → HasEntry (row_at now s) → HasEntry (row_at after s)
+    entry_still s h = elim (same_or_apart s t) [
+      | inl e ↦ subst (λ x. HasEntry (row_at after x)) (sym e) (subst HasEntry (sym gone) (has_entry (row_at now t) (subst (λ x. HasEntry (row_at now x)) e h)))
+      | inr n ↦ subst HasEntry (sym (others s n)) h
+    ]
 
     still : (s : SheetName) → IsGone (row_at now s) → IsGone (row_at after s)
     still s g = elim (same_or_apart s t) [

@@ -6,7 +6,7 @@ use Rattle.std.proofs.lemmas.Slice.Eq.{bytes_eq-Decides}
 use Rattle.net_flood.specs.Grouping.{Conductors, GroupsData}
 use Rattle.group_runs.specs.steps.Running.{SetsSheet}
 use Rattle.group_runs.specs.Runs.{SheetName, with_sheet}
-use Rattle.group_runs.specs.Sheets.{IsKept, KeepsOtherSheets, Rows, conductors_of, kept_at, row_at}
+use Rattle.group_runs.specs.Sheets.{HasEntry, IsKept, KeepsEntries, KeepsOtherSheets, Rows, conductors_of, kept_at, row_at}
 
 pub same_sheet : (a b : SheetName) → (bytes_eq a b) ≡ true → a ≡ b
 same_sheet a b e = (bytes_eq-Decides a b).0 e
@@ -46,6 +46,13 @@ sheet_set old new sheet cs others are = λ i s. each s i
 
     each : (s : SheetName) → kept_at new s ≡ with_sheet (kept_at old) sheet cs s
     each s = go s (bytes_eq sheet s) refl
+
+-- each sheet keeps its entry, where this one has one
+pub entries_kept : (old new : Rows) (sheet : SheetName) → KeepsOtherSheets sheet old new → HasEntry (row_at new sheet) → KeepsEntries old new
+entries_kept old new sheet others entry s h = elim (same_or_apart s sheet) [
+  | inl e ↦ subst (λ t. HasEntry (row_at new t)) (sym e) entry
+  | inr n ↦ subst HasEntry (sym (others s n)) h
+]
 
 -- groups without conductors, where none were kept, change the conductors of no sheet
 pub opened_same : (old new : Rows) (sheet : SheetName) → KeepsOtherSheets sheet old new → kept_at new sheet ≡ kept_at old sheet → kept_at new ≡ kept_at old

@@ -4,9 +4,9 @@ use Rattle.std.specs.FinMap.{get, insert, remove}
 use Rattle.geda_geom.specs.declared.conductor.Key.{Key}
 use Rattle.net_flood.specs.Grouping.{HasSize, IsGroup}
 use Rattle.group_runs.specs.Runs.{SheetName, AreFree, AreThere, BySheet, Coming, IsRunBound, Leaving, SizesSum, less, more, sheets_in, sheets_of, with_all, without}
-use Rattle.group_runs.specs.Sheets.{KeepsOtherSheets, AreKept, IsApart, IsCounted, IsKept, Rows, asked_sum, kept_at, row_at}
+use Rattle.group_runs.specs.Sheets.{HasEntry, KeepsEntries, KeepsOtherSheets, AreKept, IsApart, IsCounted, IsKept, Rows, asked_sum, kept_at, row_at}
 use Rattle.group_runs.specs.steps.Running.{IsSumming, Sums, IsInserting, IsRemoving, SetsSheet}
-use Rattle.group_runs.proofs.RowLemmas.{same_or_apart, sheet_set}
+use Rattle.group_runs.proofs.RowLemmas.{entries_kept, same_or_apart, sheet_set}
 
 pub are_kept : (old new : Rows) → ((s : SheetName) → IsKept (row_at old s) → IsKept (row_at new s)) → (ss : List SheetName) → AreKept old ss → AreKept new ss
 are_kept old new kept [] h = tt
@@ -26,6 +26,7 @@ removing_begins before steps all kept there = record {
   same = refl;
   kept = λ s h. h;
   others = λ s h. (refl, h);
+  entries = λ s h. h;
   owes = λ sum sizes. record { rest = sum; sizes = sizes; few = omega arith };
   later = omega arith;
   counted = λ h. h;
@@ -50,14 +51,18 @@ module _ (before now : Rows) (sb sn : ℕ) (all : List Leaving) (l : Leaving) (l
   pub removal_apart : (after : Rows) → KeepsOtherSheets l.0 now after → (s : SheetName) → IsApart s (sheets_of all) → row_at after s ≡ row_at before s
   removal_apart after others s h = others s ((removing.others s h).1.0) ∙ (removing.others s h).0
 
-  pub removing_more : (after : Rows) (steps : ℕ) → SetsSheet l.0 (remove (kept_at now l.0) l.1) after → KeepsOtherSheets l.0 now after
+  pub removal_entries : (after : Rows) → KeepsOtherSheets l.0 now after → HasEntry (row_at after l.0) → KeepsEntries before after
+  removal_entries after others entry s h = entries_kept now after l.0 others entry s (removing.entries s h)
+
+  pub removing_more : (after : Rows) (steps : ℕ) → SetsSheet l.0 (remove (kept_at now l.0) l.1) after → KeepsOtherSheets l.0 now after → HasEntry (row_at after l.0)
       → ((keys : List Key) → IsGroup (kept_at now l.0) l.1 keys → steps ≤ sn + length keys) → sn ≤ steps → (IsCounted (asked_sum now) sn → IsCounted (asked_sum after) steps) → IsRemoving before after sb steps all ls
-  removing_more after steps sets others few later counted = record {
+  removing_more after steps sets others entry few later counted = record {
     left_kept = are_kept now after (still_kept now after l.0 others sets.kept) (sheets_of ls) removing.left_kept.1;
     there = subst (λ (at : BySheet). AreThere at ls) (sym is) removing.there.1;
     same = ap (λ (at : BySheet). without at ls) is ∙ removing.same;
     kept = λ s h. still_kept now after l.0 others sets.kept s (removing.kept s h);
     others = λ s h. (removal_apart after others s h, (removing.others s h).1.1);
+    entries = removal_entries after others entry;
     owes = λ sum sizes.
         let owes = removing.owes sum sizes in
         let step = few owes.sizes.0 owes.sizes.2 in
@@ -116,6 +121,7 @@ inserting_begins before steps all kept free = record {
   same = refl;
   kept = λ s h. h;
   others = λ s h. (refl, h);
+  entries = λ s h. h;
   few = omega arith;
   later = omega arith;
   counted = λ h. h;
@@ -134,14 +140,18 @@ module _ (before now : Rows) (sb sn : ℕ) (all : List Coming) (c : Coming) (cs 
   pub insertion_apart : (after : Rows) → KeepsOtherSheets c.0 now after → (s : SheetName) → IsApart s (sheets_in all) → row_at after s ≡ row_at before s
   insertion_apart after others s h = others s ((inserting.others s h).1.0) ∙ (inserting.others s h).0
 
-  pub inserting_more : (after : Rows) (steps : ℕ) → SetsSheet c.0 (insert (kept_at now c.0) c.1.0 c.1.1) after → KeepsOtherSheets c.0 now after
+  pub insertion_entries : (after : Rows) → KeepsOtherSheets c.0 now after → HasEntry (row_at after c.0) → KeepsEntries before after
+  insertion_entries after others entry s h = entries_kept now after c.0 others entry s (inserting.entries s h)
+
+  pub inserting_more : (after : Rows) (steps : ℕ) → SetsSheet c.0 (insert (kept_at now c.0) c.1.0 c.1.1) after → KeepsOtherSheets c.0 now after → HasEntry (row_at after c.0)
       → steps ≤ sn + 1 → sn ≤ steps → (IsCounted (asked_sum now) sn → IsCounted (asked_sum after) steps) → IsInserting before after sb steps all cs
-  inserting_more after steps sets others few later counted = record {
+  inserting_more after steps sets others entry few later counted = record {
     left_kept = are_kept now after (still_kept now after c.0 others sets.kept) (sheets_in cs) inserting.left_kept.1;
     free = subst (λ (at : BySheet). AreFree at cs) (sym is) inserting.free.1;
     same = ap (λ (at : BySheet). with_all at cs) is ∙ inserting.same;
     kept = λ s h. still_kept now after c.0 others sets.kept s (inserting.kept s h);
     others = λ s h. (insertion_apart after others s h, (inserting.others s h).1.1);
+    entries = insertion_entries after others entry;
     few = let earlier : sn + suc (length cs) ≤ sb + length all = inserting.few in omega arith;
     later = let earlier = inserting.later in omega arith;
     counted = λ h. counted (inserting.counted h);

@@ -1,8 +1,8 @@
 -- The groups of several sheets: which are kept, and which were given up (own).
-use Rattle.std.specs.Prelude.{◌≡◌, ◌≢◌, ◌⊎◌, ◌≤◌, ◌-◌, ◌^◌, ⊤, ℕ, true, Option, None, Some, List, [], ◌∷◌, min}
+use Rattle.std.specs.Prelude.{◌≡◌, ◌≢◌, ◌⊎◌, ◌≤◌, ◌-◌, ◌^◌, ⊤, ℕ, Bool, true, false, filter, Option, None, Some, List, [], ◌∷◌, min}
 use Rattle.std.specs.FinMap.{empty}
 use Rattle.std.specs.List.{sum_by}
-use Rattle.std.specs.Map.{lookup, values_of}
+use Rattle.std.specs.Map.{keys_of, lookup, values_of}
 use Rattle.std.specs.Str.{bytes_eq}
 use Rattle.net_flood.specs.Grouping.{Conductors, GroupsData}
 use Rattle.group_runs.specs.Runs.{BySheet, Coming, Leaving, SheetName, sheets_in, sheets_of}
@@ -73,6 +73,24 @@ IsGone (Some (Some g)) = ⊥
 abbrev pub KeepsUntouched : List Leaving → List Coming → Rows → Rows → Type 0
 KeepsUntouched leaving coming old new = (s : SheetName) → IsApart s (sheets_of leaving)
     → IsApart s (sheets_in coming) → row_at new s ≡ row_at old s
+
+-- the sheet has an entry: its groups are kept, or were given up
+abbrev pub HasEntry : Option (Option GroupsData) → Type 0
+HasEntry None = ⊥
+HasEntry (Some row) = ⊤
+
+-- each sheet that has an entry has one afterwards
+abbrev pub KeepsEntries : Rows → Rows → Type 0
+KeepsEntries old new = (s : SheetName) → HasEntry (row_at old s) → HasEntry (row_at new s)
+
+-- the groups were given up
+abbrev pub is_given_up : Option (Option GroupsData) → Bool
+is_given_up (Some None) = true
+is_given_up other = false
+
+-- the sheets whose groups were given up, in no order
+abbrev pub given_up : Rows → List SheetName
+given_up rows = filter (λ s. is_given_up (row_at rows s)) (keys_of rows)
 
 -- the groups of each of these sheets are given up
 abbrev pub AreGone : List SheetName → Rows → Type 0

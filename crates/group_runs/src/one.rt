@@ -3,7 +3,7 @@ ghost use Rattle.std.specs.Prelude.{◌≡◌, ◌≤◌, ◌+◌, ℕ, List, No
 ghost use Rattle.std.specs.FinMap.{get, insert, remove};
 ghost use Rattle.geda_geom.specs.declared.conductor.Key.{Key};
 ghost use Rattle.net_flood.specs.Grouping.{HasSize, IsGroup};
-ghost use Rattle.group_runs.specs.Sheets.{HasGroups, IsCounted, IsKept, KeepsOtherSheets, asked_of, asked_sum, kept_at, kept_of, row_at};
+ghost use Rattle.group_runs.specs.Sheets.{HasEntry, HasGroups, IsCounted, IsKept, KeepsOtherSheets, asked_of, asked_sum, kept_at, kept_of, row_at};
 ghost use Rattle.group_runs.specs.steps.Running.{SetsSheet, invalidated};
 
 use geda_geom::Key;
@@ -110,6 +110,7 @@ pub(crate) fn remove_one(
         (SetsSheet sheet.now (remove (kept_at rows.old.entries sheet.now) key) rows.new.entries) }
     ensures size { IfOk result (HasSize (kept_at rows.old.entries sheet.now) key) }
     ensures others { KeepsOtherSheets sheet.now rows.old.entries rows.new.entries }
+    ensures entry { HasEntry (row_at rows.new.entries sheet.now) }
     ensures steps { (keys : List Key) → IsGroup (kept_at rows.old.entries sheet.now) key keys
         → steps.new ≤ steps.old + length keys }
     ensures later { steps.old ≤ steps.new }
@@ -136,6 +137,7 @@ pub(crate) fn insert_one(
         (SetsSheet sheet.now (insert (kept_at rows.old.entries sheet.now) key sealed)
         rows.new.entries) }
     ensures others { KeepsOtherSheets sheet.now rows.old.entries rows.new.entries }
+    ensures entry { HasEntry (row_at rows.new.entries sheet.now) }
     ensures steps { steps.new ≤ steps.old + 1 }
     ensures later { steps.old ≤ steps.new }
     ensures counted { IsCounted (asked_sum rows.old.entries) steps.old

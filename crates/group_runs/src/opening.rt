@@ -1,8 +1,8 @@
 // The groups of a sheet are begun, and read.
-ghost use Rattle.std.specs.Prelude.{◌≡◌, ◌≤◌, ◌↔◌, true, IsSome, IsTrue, IfOk, OnOk, OnErr};
+ghost use Rattle.std.specs.Prelude.{◌≡◌, ◌≤◌, ◌↔◌, [], true, IsSome, IsTrue, IfOk, OnOk, OnErr};
 ghost use Rattle.std.specs.FinMap.{get};
 ghost use Rattle.net_flood.specs.Grouping.{IsGroup, IsLeast};
-ghost use Rattle.group_runs.specs.Sheets.{HasGroups, IsKept, IsSound, IsSoundRow, KeepsOtherSheets, asked_of, asked_sum, kept_at, kept_of, row_at};
+ghost use Rattle.group_runs.specs.Sheets.{HasGroups, IsKept, IsSound, IsSoundRow, KeepsOtherSheets, asked_of, asked_sum, given_up, is_given_up, kept_at, kept_of, row_at};
 ghost use Rattle.group_runs.specs.steps.Running.{SetsSheet};
 
 use geda_geom::Key;
@@ -53,6 +53,27 @@ pub(crate) fn is_kept(rows: &HashMap<Name, Option<Groups>>, sheet: &Name) -> boo
         Some(row) => row.is_some(),
         None => false,
     }
+}
+
+fn is_given_up(rows: &HashMap<Name, Option<Groups>>, sheet: &Name) -> bool
+    ensures { result ≡ is_given_up (row_at rows.now.entries sheet.now) }
+{
+    match rows.get(sheet) {
+        Some(row) => row.is_none(),
+        None => false,
+    }
+}
+
+/// Whether no groups were given up. It takes no memory.
+pub(crate) fn is_fresh(rows: &HashMap<Name, Option<Groups>>) -> bool
+    ensures { IsTrue result ↔ (given_up rows.now.entries ≡ []) }
+{
+    for sheet in rows.keys() {
+        if is_given_up(rows, sheet) {
+            return false;
+        }
+    }
+    true
 }
 
 fn row_group_of(row: &Option<Groups>, key: Key) -> Key

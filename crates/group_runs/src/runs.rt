@@ -1,7 +1,7 @@
 // Conductors leave, and come, one after the other.
 ghost use Rattle.std.specs.Prelude.{◌≡◌, ◌≤◌, ◌+◌, ℕ, IfOk, OnOk, OnErr, length};
 ghost use Rattle.group_runs.specs.Runs.{AreFree, AreThere, IsRunBound, SheetName, SizesSum, sheets_in, sheets_of, with_all, without};
-ghost use Rattle.group_runs.specs.Sheets.{AreGone, AreKept, IsCounted, IsGone, IsSound, KeepsGroups, KeepsOthers, KeepsUntouched, asked_sum, kept_at, row_at};
+ghost use Rattle.group_runs.specs.Sheets.{AreGone, AreKept, IsCounted, IsGone, IsSound, KeepsEntries, KeepsGroups, KeepsOthers, KeepsUntouched, asked_sum, kept_at, row_at};
 
 use crate::one::{insert_one, invalidate, remove_one};
 use geda_geom::{Conductor, Key};
@@ -25,6 +25,7 @@ pub(crate) fn remove_all(
     ensures kept { OnOk result (KeepsGroups rows.old.entries rows.new.entries) }
     ensures sizes { IfOk result (IsRunBound (kept_at rows.old.entries) leaving.now 0) }
     ensures others { KeepsOthers (sheets_of leaving.now) rows.old.entries rows.new.entries }
+    ensures entries { KeepsEntries rows.old.entries rows.new.entries }
     ensures steps { (sum : ℕ) → SizesSum (kept_at rows.old.entries) leaving.now sum
         → steps.new ≤ steps.old + sum }
     ensures later { steps.old ≤ steps.new }
@@ -51,6 +52,7 @@ pub(crate) fn insert_all(
         (kept_at rows.new.entries ≡ with_all (kept_at rows.old.entries) coming.now) }
     ensures kept { OnOk result (KeepsGroups rows.old.entries rows.new.entries) }
     ensures others { KeepsOthers (sheets_in coming.now) rows.old.entries rows.new.entries }
+    ensures entries { KeepsEntries rows.old.entries rows.new.entries }
     ensures steps { steps.new ≤ steps.old + length coming.now }
     ensures later { steps.old ≤ steps.new }
     ensures counted { IsCounted (asked_sum rows.old.entries) steps.old
@@ -65,6 +67,7 @@ pub(crate) fn insert_all(
 fn invalidate_left(rows: &mut HashMap<Name, Option<Groups>>, leaving: &[(Name, Key)])
     ensures gone { AreGone (sheets_of leaving.now) rows.new.entries }
     ensures others { KeepsOthers (sheets_of leaving.now) rows.old.entries rows.new.entries }
+    ensures entries { KeepsEntries rows.old.entries rows.new.entries }
     ensures stays { (s : SheetName) → IsGone (row_at rows.old.entries s)
         → IsGone (row_at rows.new.entries s) }
     ensures counted { asked_sum rows.new.entries ≤ asked_sum rows.old.entries }
@@ -77,6 +80,7 @@ fn invalidate_left(rows: &mut HashMap<Name, Option<Groups>>, leaving: &[(Name, K
 fn invalidate_coming(rows: &mut HashMap<Name, Option<Groups>>, coming: &[(Name, (Key, Conductor))])
     ensures gone { AreGone (sheets_in coming.now) rows.new.entries }
     ensures others { KeepsOthers (sheets_in coming.now) rows.old.entries rows.new.entries }
+    ensures entries { KeepsEntries rows.old.entries rows.new.entries }
     ensures stays { (s : SheetName) → IsGone (row_at rows.old.entries s)
         → IsGone (row_at rows.new.entries s) }
     ensures counted { asked_sum rows.new.entries ≤ asked_sum rows.old.entries }
@@ -102,6 +106,7 @@ fn run(
     ensures bound { IfOk result
         (IsRunBound (kept_at rows.old.entries) leaving.now (length coming.now)) }
     ensures others { KeepsUntouched leaving.now coming.now rows.old.entries rows.new.entries }
+    ensures entries { KeepsEntries rows.old.entries rows.new.entries }
     ensures steps { (sum : ℕ) → SizesSum (kept_at rows.old.entries) leaving.now sum
         → steps.new ≤ steps.old + (sum + length coming.now) }
     ensures later { steps.old ≤ steps.new }
@@ -136,6 +141,7 @@ pub(crate) fn apply_to(
     ensures left_gone { OnErr result (AreGone (sheets_of leaving.now) rows.new.entries) }
     ensures come_gone { OnErr result (AreGone (sheets_in coming.now) rows.new.entries) }
     ensures others { KeepsUntouched leaving.now coming.now rows.old.entries rows.new.entries }
+    ensures entries { KeepsEntries rows.old.entries rows.new.entries }
     ensures sound { (s : SheetName) → IsSound (row_at rows.new.entries s) }
     ensures steps { (sum : ℕ) → SizesSum (kept_at rows.old.entries) leaving.now sum
         → steps.new ≤ steps.old + (sum + length coming.now) }

@@ -4,9 +4,9 @@ ghost use Rattle.std.specs.FinMap.{get};
 ghost use Rattle.geda_geom.specs.declared.conductor.Key.{Key};
 ghost use Rattle.net_flood.specs.Grouping.{IsGroup, IsLeast};
 ghost use Rattle.group_runs.specs.Runs.{AreFree, AreThere, IsRunBound, SizesSum, sheets_in, sheets_of, with_all, without};
-ghost use Rattle.group_runs.specs.Sheets.{AreGone, AreKept, IsCounted, IsKept, KeepsGroups, KeepsOtherSheets, KeepsUntouched, asked_sum, kept_at, row_at};
+ghost use Rattle.group_runs.specs.Sheets.{AreGone, AreKept, IsCounted, IsKept, KeepsEntries, KeepsGroups, KeepsOtherSheets, KeepsUntouched, asked_sum, given_up, kept_at, row_at};
 
-use crate::opening::{group_of, is_kept, members, open};
+use crate::opening::{group_of, is_fresh, is_kept, members, open};
 use crate::runs::apply_to;
 use geda_geom::{Conductor, Key};
 use geda_model::Name;
@@ -80,6 +80,13 @@ impl SheetGroups {
         is_kept(&self.rows, sheet)
     }
 
+    /// Whether no groups were given up. It takes no memory.
+    pub fn is_fresh(&self) -> bool
+        ensures { IsTrue result ↔ (given_up self.now.rows ≡ []) }
+    {
+        is_fresh(&self.rows)
+    }
+
     /// The least key, by id, then place, of the group of a key that is there, on a sheet whose
     /// groups are kept. It takes no memory.
     pub fn group_of(&self, sheet: &Name, key: Key) -> Key
@@ -126,6 +133,7 @@ impl SheetGroups {
         ensures left_gone { OnErr result (AreGone (sheets_of leaving.now) self.new.rows) }
         ensures come_gone { OnErr result (AreGone (sheets_in coming.now) self.new.rows) }
         ensures others { KeepsUntouched leaving.now coming.now self.old.rows self.new.rows }
+        ensures entries { KeepsEntries self.old.rows self.new.rows }
         ensures steps { (sum : ℕ) → SizesSum (kept_at self.old.rows) leaving.now sum
             → self.new.steps ≤ self.old.steps + (sum + length coming.now) }
         ensures later { self.old.steps ≤ self.new.steps }

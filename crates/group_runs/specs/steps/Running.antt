@@ -3,7 +3,7 @@
 use Rattle.std.specs.Prelude.{◌≡◌, ◌⊎◌, ◌≤◌, ◌+◌, ◌-◌, ◌^◌, ℕ, Option, None, Some, List, length, min}
 use Rattle.net_flood.specs.Grouping.{Conductors, GroupsData}
 use Rattle.group_runs.specs.Runs.{AreFree, AreThere, BySheet, Coming, Leaving, SheetName, SizesSum, sheets_in, sheets_of, with_all, without}
-use Rattle.group_runs.specs.Sheets.{AreKept, IsAmong, IsApart, IsCounted, IsGone, IsKept, Rows, asked_sum, kept_at, row_at}
+use Rattle.group_runs.specs.Sheets.{AreKept, IsAmong, IsApart, IsCounted, IsGone, IsKept, KeepsEntries, Rows, asked_sum, kept_at, row_at}
 
 -- the groups of a sheet are given up, if it has any entry
 abbrev pub invalidated : Option (Option GroupsData) → Option (Option GroupsData)
@@ -35,6 +35,7 @@ pub record IsRemoving (before now : Rows) (steps_before steps_now : ℕ) (all le
   pub kept : (s : SheetName) → IsKept (row_at before s) → IsKept (row_at now s)
   pub others : (s : SheetName) → IsApart s (sheets_of all)
       → (row_at now s ≡ row_at before s) × IsApart s (sheets_of left)
+  pub entries : KeepsEntries before now
   pub owes : (sum : ℕ) → SizesSum (kept_at before) all sum
       → Owes now steps_before steps_now left sum
   pub later : steps_before ≤ steps_now
@@ -62,6 +63,7 @@ pub record IsInserting (before now : Rows) (steps_before steps_now : ℕ) (all l
   pub kept : (s : SheetName) → IsKept (row_at before s) → IsKept (row_at now s)
   pub others : (s : SheetName) → IsApart s (sheets_in all)
       → (row_at now s ≡ row_at before s) × IsApart s (sheets_in left)
+  pub entries : KeepsEntries before now
   pub few : steps_now + length left ≤ steps_before + length all
   pub later : steps_before ≤ steps_now
   pub counted : IsCounted (asked_sum before) steps_before → IsCounted (asked_sum now) steps_now
@@ -71,4 +73,5 @@ pub record IsGivingUp (before now : Rows) (all left : List SheetName) : Type 0 w
   pub gone : (s : SheetName) → IsAmong s all → IsGone (row_at now s) ⊎ IsAmong s left
   pub others : (s : SheetName) → IsApart s all → (row_at now s ≡ row_at before s) × IsApart s left
   pub stays : (s : SheetName) → IsGone (row_at before s) → IsGone (row_at now s)
+  pub entries : KeepsEntries before now
   pub counted : asked_sum now ≤ asked_sum before

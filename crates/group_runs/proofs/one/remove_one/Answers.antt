@@ -1,6 +1,6 @@
-use Rattle.std.proofs.Common.{◌≡◌, Some, refl, sym}
-use Rattle.group_runs.specs.Sheets.{row_at}
-use Rattle.group_runs.proofs.RowLemmas.{set_apart}
+use Rattle.std.proofs.Common.{◌≡◌, Some, refl, subst, sym}
+use Rattle.group_runs.specs.Sheets.{HasEntry, row_at}
+use Rattle.group_runs.proofs.RowLemmas.{set_apart, set_here}
 use Rattle.group_runs.proofs.SumLemmas.{counted_set}
 use Rattle.group_runs.proofs.one.remove_one.Goals as goal
 
@@ -9,6 +9,12 @@ returns-in-Some-clause-others c =
     let row = c.remove_in_row.new.row in
     let known : Some c.in-Some.row.now ≡ row_at c.args.rows.now.entries c.args.sheet.now = c.in-Some.ensures.value in
     set_apart c.args.rows.now.entries (c.get_mut.follows.lender row).entries c.args.sheet.now row ((c.get_mut.follows.holds row).3 (rw (sym known) refl)).0
+
+pub returns-in-Some-clause-entry : goal.returns-in-Some-clause-entry
+returns-in-Some-clause-entry c =
+    let row = c.remove_in_row.new.row in
+    let known : Some c.in-Some.row.now ≡ row_at c.args.rows.now.entries c.args.sheet.now = c.in-Some.ensures.value in
+    subst HasEntry (sym (set_here c.args.rows.now.entries (c.get_mut.follows.lender row).entries c.args.sheet.now row ((c.get_mut.follows.holds row).3 (rw (sym known) refl)).0)) tt
 
 pub returns-in-Some-clause-counted : goal.returns-in-Some-clause-counted
 returns-in-Some-clause-counted c =

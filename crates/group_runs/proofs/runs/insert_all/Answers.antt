@@ -31,4 +31,4 @@ loop-one-preserved c =
     inserting_more c.args.rows.now.entries l.rows.entries c.args.steps.now l.steps all x xs now
     c.insert_one.new.rows.entries c.insert_one.new.steps
     (subst (λ v. SetsSheet x.0 (insert (kept_at l.rows.entries x.0) x.1.0 v) c.insert_one.new.rows.entries) c.new.ensures.sealed c.in_ok-insert_one.ensures.sets)
-    c.insert_one.ensures.others c.insert_one.ensures.steps c.insert_one.ensures.later c.insert_one.ensures.counted
+    c.insert_one.ensures.others c.insert_one.ensures.entry c.insert_one.ensures.steps c.insert_one.ensures.later c.insert_one.ensures.counted

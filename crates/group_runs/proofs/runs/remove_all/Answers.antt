@@ -31,7 +31,7 @@ loop-place-preserved c =
     let now : IsSumming c.args.rows.now.entries l.rows.entries c.args.steps.now l.steps all (x ∷ xs) l.sum = rw (drop_more all l.place-index x c.loop-place-test.true, ← c.place-item.is) at kept in
     record {
       removing = removing_more c.args.rows.now.entries l.rows.entries c.args.steps.now l.steps all x xs now.removing
-          c.remove_one.new.rows.entries c.remove_one.new.steps c.in_ok-size.ensures.sets c.remove_one.ensures.others c.remove_one.ensures.steps c.remove_one.ensures.later c.remove_one.ensures.counted;
+          c.remove_one.new.rows.entries c.remove_one.new.steps c.in_ok-size.ensures.sets c.remove_one.ensures.others c.remove_one.ensures.entry c.remove_one.ensures.steps c.remove_one.ensures.later c.remove_one.ensures.counted;
       sums = sums_more c.args.rows.now.entries l.rows.entries c.remove_one.new.rows.entries all x xs l.sum c.in_ok-size.size now.sums c.in_ok-size.ensures.size
           (sheet_set l.rows.entries c.remove_one.new.rows.entries x.0 (remove (kept_at l.rows.entries x.0) x.1) c.remove_one.ensures.others c.in_ok-size.ensures.sets.are) _ c.saturating_add-sum.ensures;
     }
