@@ -2,3 +2,17 @@ pub mod ThingLemmas
 pub mod TouchedLemmas
 pub mod SizeLemmas
 pub mod ComingLemmas
+pub mod MemberLemmas
+pub mod PutLemmas
+pub mod StandLemmas
+pub mod DrawnLemmas
+pub mod ChangeLemmas
+pub mod GroupLemmas
+pub mod BoundLemmas
+pub mod GatherLemmas
+pub mod OwnLemmas
+pub mod HoldLemmas
+pub mod RenewLemmas
+pub mod RegroupLemmas
+pub mod BoardLemmas
+pub mod OpenLemmas

@@ -1,5 +1,5 @@
 -- Which conductors leave: by their ids, and none where a change touches no object of the project.
-use Rattle.std.proofs.Common.{◌≡◌, ◌||◌, ◌==◌, ℕ, zero, suc, Bool, true, false, List, [], ◌∷◌, ◌++◌, Option, Some, None, map, refl, sym, ap, ◌∙◌, arith}
+use Rattle.std.proofs.Common.{◌≡◌, ◌==◌, ℕ, zero, suc, Bool, true, false, List, [], ◌∷◌, ◌++◌, Option, Some, None, map, refl, sym, ap, ◌∙◌, arith}
 use Rattle.std.specs.FinMap.{entries, entries_sorted, get, get-entries}
 use Rattle.std.specs.List.{flat_map, list_any, slice_get}
 use Rattle.std.specs.Map.{keys_of}
@@ -35,7 +35,7 @@ id_laws : IsKey nat_cmp (eq_by_cmp nat_cmp)
 id_laws = record { total = nat_cmp_total; exact = exact_unsigned; agree = λ x y. refl }
 
 -- a row of a project is found by its id
-found_row : (p : ProjectData) (i : ℕ) (row : ℕ × Placed) → slice_get (entries p.objects) i ≡ Some row → get p.objects row.0 ≡ Some row.1
+pub found_row : (p : ProjectData) (i : ℕ) (row : ℕ × Placed) → slice_get (entries p.objects) i ≡ Some row → get p.objects row.0 ≡ Some row.1
 found_row p i row there =
     get-entries p.objects row.0 ∙ find_row id_laws (entries p.objects) row.0
     ∙ lookup_from_place (eq_by_cmp_equiv nat_cmp_total) (entries p.objects) i row.0 row.1 (IsDistinct-from_sorted nat_cmp (keys_of (entries p.objects)) (keys_sorted nat_cmp (entries p.objects) (entries_sorted p.objects))) there

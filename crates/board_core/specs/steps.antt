@@ -1,4 +1,7 @@
 -- Steps of the code; no public clause cites them.
+pub mod Members
 pub mod ChangedThings
 pub mod Sizes
 pub mod Coming
+pub mod Standing
+pub mod Kept

@@ -9,9 +9,12 @@ ghost use Rattle.board_core.specs.Bounds.{IsBound};
 ghost use Rattle.board_core.specs.Boards.{IsCounted, MayGiveUp, RenewsGroups, StaysInBound};
 
 use crate::bound::bound_of;
-use crate::put_in::put_in;
+use crate::grouped::grouped;
+use crate::put_in::with_room;
+use crate::regroup::regroup;
 use geda_geom::Key;
 use geda_model::{Head, Name};
+use group_runs::SheetGroups;
 use project_model::{Change, Project};
 use sheet_groups::local_groups;
 use std::alloc::{AllocError, Global};
@@ -20,18 +23,19 @@ use std::marker::Model;
 
 /// A project, with the groups of the conductors that touch on its sheets.
 ///
-/// Groups are not kept yet: each call that asks for them makes them anew, so none is ever given up
-/// and no step is counted.
+/// The groups of a sheet are kept from change to change, or they were given up for want of memory.
 #[derive(Drop)]
 pub struct Board {
     project: Project,
+    groups: SheetGroups,
 }
 
 impl Model for Board {
-    ghost use Rattle.std.specs.Prelude.{[]};
     ghost use Rattle.std.specs.FinMap as map;
     ghost use Rattle.std.specs.Coded.{codes};
-    ghost use Rattle.board_core.specs.Boards.{BoardData, IsCounted};
+    ghost use Rattle.group_runs.specs.Sheets.{asked_sum, given_up};
+    ghost use Rattle.board_core.specs.Boards.{BoardData};
+    ghost use Rattle.board_core.specs.steps.Kept.{IsSound};
 
     ghost Value = { BoardData };
 
@@ -39,17 +43,12 @@ impl Model for Board {
 
     ghost view = { λ b. record {
       project = b.project.contents;
-      invalidated = [];
-      asked = 0;
-      counted = 0;
+      invalidated = given_up b.groups.rows;
+      asked = b.groups.steps;
+      counted = asked_sum b.groups.rows;
     } };
 
-    ghost invariant = { λ b. IsCounted (record {
-      project = b.project.contents;
-      invalidated = [];
-      asked = 0;
-      counted = 0;
-    }) };
+    ghost invariant = { λ b. IsSound b.project.contents b.groups.rows b.groups.steps };
 }
 
 impl Board {
@@ -62,6 +61,7 @@ impl Board {
     {
         Board {
             project: Project::new(alloc),
+            groups: SheetGroups::new(alloc),
         }
     }
 
@@ -74,8 +74,10 @@ impl Board {
             (λ board. board.asked ≤ length (sheet_conductors project.now.contents)) }
         ensures counted { IfOk result IsCounted }
     {
+        let groups = grouped(alloc, project)?;
         Ok(Board {
             project: project.copy(alloc)?,
+            groups,
         })
     }
 
@@ -100,9 +102,7 @@ impl Board {
     pub fn is_fresh(&self) -> bool
         ensures { IsTrue result ↔ (self.now.invalidated ≡ []) }
     {
-        // A field is read so that its proof sees the board as what it is made of.
-        let _ = &self.project;
-        true
+        self.groups.is_fresh()
     }
 
     /// The steps that its groups took since the board was made, at most 2^64 - 1. One step asks
@@ -112,8 +112,7 @@ impl Board {
         ensures asked { result ≡ self.now.asked }
         ensures counted { IsCounted self.now }
     {
-        let _ = &self.project;
-        0
+        self.groups.steps()
     }
 
     /// Puts a change in (docs/RULES.md, "Groups").
@@ -132,7 +131,14 @@ impl Board {
         ensures counted { IsCounted self.new }
         ensures few { StaysInBound self.old change.now.items self.new }
     {
-        put_in(alloc, &mut self.project, change)
+        let copy = with_room(alloc, &mut self.project, change)?;
+        let regrouped = regroup(alloc, &self.project, &mut self.groups, change);
+        // The steps are read so that the proof knows that they are below 2^64.
+        let _ = self.groups.steps();
+        regrouped?;
+        // The project goes last, when nothing can fail any more.
+        self.project.apply(copy);
+        Ok(())
     }
 
     /// How many steps a change may take (docs/RULES.md, "Groups"): one for each conductor that

@@ -1,25 +1,31 @@
 // What a change has, for quick look-ups, and what it touches.
-ghost use Rattle.std.specs.Prelude.{◌≡◌, false, IfOk, OnOk};
+ghost use Rattle.std.specs.Prelude.{◌≡◌, false, IfOk, OnOk, map};
+ghost use Rattle.std.specs.BTreeSet.{IsOrdered};
 ghost use Rattle.std.specs.HashSet.{contains_text};
+ghost use Rattle.std.specs.Ordering.{nat_cmp};
 ghost use Rattle.std.specs.List.{list_any};
+ghost use Rattle.std.specs.Option.{option_map};
 ghost use Rattle.project_model.specs.Items.{Item};
 ghost use Rattle.board_core.specs.Changed.{has_symbol, has_symbol_of, has_thing};
 ghost use Rattle.board_core.specs.Changed.{is_changed, is_object};
 ghost use Rattle.board_core.specs.Bounds.{is_renewed};
 ghost use Rattle.board_core.specs.steps.ChangedThings.{AddsId, AddsSymbol, HasNoSymbol};
 ghost use Rattle.board_core.specs.steps.ChangedThings.{has_id, may_touch};
+ghost use Rattle.board_core.specs.steps.Standing.{found_row, found_rows, own_rows};
+ghost use Rattle.project_model.specs.Tables.{row_now};
 
+use crate::rows::push_some;
 use geda_model::{Body, Component, Object};
 use project_model::{Placed, Project, Thing, Value};
 use std::alloc::{AllocError, Global};
-use std::collections::HashSet;
+use std::collections::{BTreeSet, HashSet};
 use std::marker::Model;
 
 /// The items of a change, with the ids of its objects and the names of its symbols.
 #[derive(Drop)]
 pub(crate) struct Things<'a> {
     items: &'a [(Thing, Option<Value>)],
-    ids: HashSet<u32>,
+    ids: BTreeSet<u32>,
     symbols: HashSet<String>,
 }
 
@@ -38,7 +44,7 @@ impl<'a> Model for Things<'a> {
 
 fn add_thing(
     alloc: Global,
-    ids: &mut HashSet<u32>,
+    ids: &mut BTreeSet<u32>,
     symbols: &mut HashSet<String>,
     thing: &Thing,
 ) -> Result<(), AllocError>
@@ -58,6 +64,33 @@ fn add_thing(
     Ok(())
 }
 
+/// The object of a project that has an id, with the id. It takes no memory.
+fn found_row(project: &Project, id: u32) -> Option<(u32, &Placed)>
+    ensures { option_map row_now result ≡ found_row project.now.contents id }
+{
+    match project.object(id) {
+        Some(placed) => Some((id, placed)),
+        None => None,
+    }
+}
+
+/// The objects of these ids that stand in a project, by id.
+fn found_rows<'p>(
+    alloc: Global,
+    project: &'p Project,
+    ids: &BTreeSet<u32>,
+) -> Result<Vec<(u32, &'p Placed)>, AllocError>
+    ensures rows { IfOk result (λ rows. map row_now rows.items
+        ≡ found_rows project.now.contents ids.now.keys) }
+    ensures rising { OnOk result (IsOrdered nat_cmp ids.now) }
+{
+    let mut rows = Vec::new(alloc);
+    for id in ids {
+        push_some(&mut rows, found_row(project, *id))?;
+    }
+    Ok(rows)
+}
+
 impl<'a> Things<'a> {
     /// The things of a change.
     pub(crate) fn of(
@@ -66,7 +99,7 @@ impl<'a> Things<'a> {
     ) -> Result<Things<'a>, AllocError>
         ensures { IfOk result (λ things. things ≡ items.now) }
     {
-        let mut ids = HashSet::new(alloc);
+        let mut ids = BTreeSet::new(alloc);
         let mut symbols = HashSet::new(alloc);
         for item in items {
             add_thing(alloc, &mut ids, &mut symbols, &item.0)?;
@@ -83,6 +116,18 @@ impl<'a> Things<'a> {
         ensures { result.now ≡ self.now }
     {
         self.items
+    }
+
+    /// The objects of a project that the change has, by id.
+    pub(crate) fn own_rows<'p>(
+        &self,
+        alloc: Global,
+        project: &'p Project,
+    ) -> Result<Vec<(u32, &'p Placed)>, AllocError>
+        ensures { IfOk result (λ rows. map row_now rows.items
+            ≡ own_rows project.now.contents self.now) }
+    {
+        found_rows(alloc, project, &self.ids)
     }
 
     /// Whether the change has any symbol. It takes no memory.

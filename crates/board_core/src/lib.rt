@@ -8,7 +8,12 @@ mod board;
 mod bound;
 mod changed;
 mod coming;
+mod drawn;
+mod grouped;
 mod put_in;
+mod regroup;
+mod renewing;
+mod rows;
 mod sizes;
 
 pub use board::Board;

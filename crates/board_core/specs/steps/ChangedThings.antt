@@ -1,10 +1,11 @@
 -- Steps of the code; no public clause cites them.
 -- The things of a change as sets of ids and of names of symbols, and whether it may take away any
 -- conductor of a project.
-use Rattle.std.specs.Prelude.{◌≡◌, ◌==◌, ℕ, Bool, true, false, cond, List}
+use Rattle.std.specs.Prelude.{◌≡◌, ℕ, Bool, true, false, cond, List}
 use Rattle.std.specs.FinMap as map
-use Rattle.std.specs.HashSet.{HashSet, contains}
+use Rattle.std.specs.BTreeSet.{BTreeSet, contains}
 use Rattle.std.specs.Option.{is_some}
+use Rattle.std.specs.Ordering.{nat_cmp}
 use Rattle.project_model.specs.declared.change.Thing.{Thing}
 use Rattle.project_model.specs.declared.change.Thing.TheVariants as things
 use Rattle.project_model.specs.Items.{Item}
@@ -12,8 +13,8 @@ use Rattle.project_model.specs.Projects.{ProjectData}
 use Rattle.board_core.specs.Changed.{has_thing, is_object, is_symbol}
 
 -- the set has this id
-abbrev pub has_id : {S : Type 0} → HashSet ℕ S → ℕ → Bool
-has_id ids = contains ◌==◌ ids
+abbrev pub has_id : BTreeSet ℕ → ℕ → Bool
+has_id ids = contains nat_cmp ids
 
 -- sets of ids and of names that have exactly the objects and the symbols of a change
 pub record HasThings (items : List Item) (ids : ℕ → Bool) (symbols : List ℕ → Bool)
