@@ -1,8 +1,7 @@
 -- A board through a change: the sheets that it touches, and those that are given up.
-use Rattle.std.proofs.Common.{◌≡◌, ◌≢◌, ◌≤◌, ◌<◌, ◌+◌, ◌-◌, ◌^◌, min, ◌⊎◌, inl, inr, ◌||◌, ℕ, Bool, true, false, cond, List, [], ◌∷◌, ◌++◌, Option, Some, None, Contains, IsSome, is_some, filter, length, map, refl, sym, ap, subst, ◌∙◌, arith}
-use Rattle.std.specs.FinMap.{entries, get}
-use Rattle.std.specs.List.{filter_map}
-use Rattle.std.specs.Map.{keys_of, lookup}
+use Rattle.std.proofs.Common.{◌≡◌, ◌<◌, ◌^◌, ◌⊎◌, inl, inr, ◌||◌, ℕ, Bool, true, false, cond, List, [], ◌∷◌, ◌++◌, Option, Some, None, Contains, IsSome, filter, refl, sym, ap, subst, ◌∙◌, arith}
+use Rattle.std.specs.FinMap.{entries}
+use Rattle.std.specs.Map.{keys_of}
 use Rattle.std.specs.Str.{bytes_eq}
 use Rattle.std.proofs.lemmas.Map.Views.{Contains-keys_from_lookup}
 use Rattle.std.proofs.lemmas.Slice.Eq.{bytes_eq-Decides}
@@ -14,16 +13,16 @@ use Rattle.project_model.specs.Items.{Item}
 use Rattle.project_model.specs.Projects.{ProjectData}
 use Rattle.project_model.specs.Changes.{AreDistinct, put}
 use Rattle.group_runs.specs.Runs.{SheetName}
-use Rattle.group_runs.specs.Sheets.{IsKept, Rows, given_up, is_given_up, row_at}
+use Rattle.group_runs.specs.Sheets.{Rows, given_up, is_given_up, row_at}
 use Rattle.group_runs.proofs.RowLemmas.{same_or_apart}
 use Rattle.board_core.specs.Boards.{AreKept, BoardData, MayGiveUp, RenewsGroups, StaysInBound}
-use Rattle.board_core.specs.Bounds.{IsBound, coming_count, is_renewed}
-use Rattle.board_core.specs.Changed.{HasChanged, TouchesSheet, has_symbol_of, has_thing, is_changed, is_object, is_sheet}
+use Rattle.board_core.specs.Bounds.{is_renewed}
+use Rattle.board_core.specs.Changed.{HasChanged, TouchesSheet, has_thing, is_changed, is_sheet}
 use Rattle.board_core.specs.steps.Members.{In}
-use Rattle.board_core.specs.steps.Standing.{changed_rows, coming_drawn, coming_rows, given_row, given_rows, renewed_rows}
+use Rattle.board_core.specs.steps.Standing.{changed_rows, coming_rows, given_row, given_rows, renewed_rows}
 use Rattle.board_core.specs.steps.Kept.{IsPartly, IsRegrouped, NoneGivenUp, StaysWithin, named_by, sheets_at, sheets_named, touched_sheets}
-use Rattle.board_core.proofs.MemberLemmas.{contains_in, filtered, found, in_contains, in_either, in_filter, in_found, in_left, in_map, in_right, mapped}
-use Rattle.board_core.proofs.PutLemmas.{IsGiven, Stays, given_or_stays, given_own, given_stands, has_member, in_entries, things_distinct}
+use Rattle.board_core.proofs.MemberLemmas.{contains_in, filtered, found, in_contains, in_either, in_filter, in_found, in_left, in_right, mapped}
+use Rattle.board_core.proofs.PutLemmas.{given_or_stays, given_own, given_stands, has_member, in_entries, things_distinct}
 use Rattle.board_core.proofs.ChangeLemmas.{changed_own, changed_symbol, coming_counted, renewed_parts, row_there}
 use Rattle.board_core.proofs.BoundLemmas.{sizes_on_sheets}
 use Rattle.board_core.proofs.HoldLemmas.{kept_not_gone}

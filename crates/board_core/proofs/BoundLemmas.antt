@@ -1,24 +1,23 @@
 -- The sum of the sizes of the classes of conductors that leave is that of the sizes of their groups.
-use Rattle.std.proofs.Common.{◌≡◌, ◌≢◌, ◌⊎◌, inl, inr, ℕ, zero, suc, ◌+◌, Bool, true, false, cond, List, [], ◌∷◌, ◌++◌, Option, Some, None, length, map, filter, append_assoc, refl, sym, ap, subst, ◌∙◌, arith}
+use Rattle.std.proofs.Common.{◌≡◌, ◌≢◌, inl, inr, ℕ, ◌+◌, Bool, true, false, List, [], ◌∷◌, ◌++◌, Some, length, map, filter, append_assoc, refl, sym, ap, subst, ◌∙◌}
 use Rattle.std.specs.FinMap.{entries, get}
 use Rattle.std.specs.List.{AllByRecursion, flat_map, slice_get}
 use Rattle.std.specs.List.Sorted.{IsStrictlySortedBy}
 use Rattle.std.specs.declared.cmp.Ordering.TheVariants.{Less}
-use Rattle.std.proofs.lemmas.List.{append-nil, map-append}
+use Rattle.std.proofs.lemmas.List.{map-append}
 use Rattle.geda_geom.specs.declared.conductor.Conductor.{Conductor}
 use Rattle.geda_geom.specs.declared.conductor.Key.{Key}
 use Rattle.geda_geom.specs.Keys.{by_key}
-use Rattle.net_flood.specs.Grouping.{IsGroup}
 use Rattle.project_model.specs.declared.change.Placed.{Placed}
 use Rattle.project_model.specs.Items.{Item}
 use Rattle.project_model.specs.Projects.{ProjectData}
 use Rattle.group_runs.specs.Runs as runs
 use Rattle.group_runs.specs.Runs.{BySheet, SheetName, less}
-use Rattle.sheet_groups.specs.Conductors.{SheetConductor, conductors_at, sheet_conductors}
+use Rattle.sheet_groups.specs.Conductors.{SheetConductor, conductors_at}
 use Rattle.sheet_groups.proofs.OrderLemmas.{conductor_keys_rise}
 use Rattle.board_core.specs.Changed.{is_changed}
 use Rattle.board_core.specs.Bounds.{Leaving, SizesSum, leaving}
-use Rattle.board_core.specs.steps.Standing.{by_sheet, changed_rows, drawn_in, leave, leaving_drawn, on_sheet}
+use Rattle.board_core.specs.steps.Standing.{by_sheet, drawn_in, leave, leaving_drawn, on_sheet}
 use Rattle.board_core.specs.steps.Members.{Distinct, In}
 use Rattle.board_core.proofs.MemberLemmas.{in_either, in_left, in_map, in_right}
 use Rattle.board_core.proofs.StandLemmas.{less_cases, less_keeps, same_conductors}

@@ -1,8 +1,8 @@
 -- The conductors of a project after a change: those that were there without those that left, and
 -- those that came.
-use Rattle.std.proofs.Common.{◌≡◌, ◌≢◌, ◌⊎◌, inl, inr, ◌||◌, ◌&&◌, not, ℕ, ◌+◌, Bool, true, false, cond, List, [], ◌∷◌, ◌++◌, Option, Some, None, IsSome, is_some, length, length-append, map, filter, refl, sym, ap, subst, ◌∙◌, arith}
+use Rattle.std.proofs.Common.{◌≡◌, inl, inr, ◌||◌, ◌&&◌, not, ℕ, ◌+◌, Bool, true, false, List, [], ◌∷◌, ◌++◌, Option, Some, None, IsSome, is_some, length, length-append, map, refl, sym, ap, subst, ◌∙◌, arith}
 use Rattle.std.specs.FinMap.{entries, get}
-use Rattle.std.specs.List.{filter_map, flat_map, sum_by}
+use Rattle.std.specs.List.{sum_by}
 use Rattle.std.proofs.lemmas.Grind.{flat_map-append}
 use Rattle.std.proofs.lemmas.List.Sums.{sum_by-cons}
 use Rattle.std.proofs.lemmas.Option.{same_Some}
@@ -11,23 +11,20 @@ use Rattle.geda_geom.specs.declared.conductor.Key.{Key}
 use Rattle.project_model.specs.declared.change.Placed.{Placed}
 use Rattle.project_model.specs.declared.change.Thing.{Thing}
 use Rattle.project_model.specs.declared.change.Thing.TheVariants as things
-use Rattle.project_model.specs.declared.change.Value.{Value}
 use Rattle.project_model.specs.declared.change.Value.TheVariants as values
 use Rattle.project_model.specs.Items.{Item}
 use Rattle.project_model.specs.Projects.{ProjectData}
 use Rattle.project_model.specs.Changes.{AreDistinct, put}
-use Rattle.attr_rules.specs.Libraries.{library_of}
-use Rattle.pin_place.specs.Pins.{conductors_of}
-use Rattle.group_runs.specs.Runs.{AreFree, AreThere, BySheet, Coming, Leaving, SheetName, with_all, without}
+use Rattle.group_runs.specs.Runs.{AreFree, AreThere, Coming, Leaving, SheetName, with_all, without}
 use Rattle.sheet_groups.specs.Conductors.{SheetConductor, conductors_at, sheet_conductor, sheet_conductors}
 use Rattle.board_core.specs.Changed.{has_symbol_of, has_thing, is_changed, is_object}
 use Rattle.board_core.specs.Bounds.{coming_count, given_count, is_renewed}
 use Rattle.board_core.specs.steps.Standing.{changed_rows, come, coming_drawn, coming_rows, drawn_in, given_row, given_rows, leave, leaving_drawn, on_sheet, renewed_rows}
 use Rattle.board_core.specs.steps.Members.{Distinct, In}
 use Rattle.board_core.proofs.MemberLemmas.{at_place, distinct_append, distinct_filter, filtered, flat, found, in_either, in_filter, in_flat, in_found, in_left, in_map, in_right, mapped, IsFlat}
-use Rattle.board_core.proofs.PutLemmas.{IsGiven, Stays, drawn_stays, given_has, given_or_stays, given_own, given_stands, in_entries, objects_apart, things_distinct}
+use Rattle.board_core.proofs.PutLemmas.{Stays, drawn_stays, given_has, given_or_stays, given_own, given_stands, in_entries, objects_apart, things_distinct}
 use Rattle.board_core.proofs.StandLemmas.{are_free, are_there, same_conductors, with_cases, with_has, with_keeps, without_cases, without_keeps}
-use Rattle.board_core.proofs.DrawnLemmas.{came, coming_distinct, conductor, id_of, ids_at, ids_distinct, keys_at, keys_distinct, leaving_distinct, project_keys, stands, stood}
+use Rattle.board_core.proofs.DrawnLemmas.{came, coming_distinct, conductor, id_of, ids_at, ids_distinct, keys_distinct, leaving_distinct, project_keys, stands, stood}
 use Rattle.board_core.proofs.TouchedLemmas.{found_row}
 
 -- a row among the entries is that of its id

@@ -1,7 +1,7 @@
 -- The conductors of objects: each key stands once.
-use Rattle.std.proofs.Common.{◌≡◌, ◌≢◌, ◌⊎◌, inl, inr, ℕ, Bool, true, false, List, [], ◌∷◌, ◌++◌, Option, Some, None, map, filter, refl, sym, ap, subst, ◌∙◌}
+use Rattle.std.proofs.Common.{◌≡◌, inl, inr, ℕ, List, [], ◌∷◌, Some, map, refl, sym, ap, subst, ◌∙◌}
 use Rattle.std.specs.FinMap.{FinMap, empty, entries, entries_sorted, get, get-empty}
-use Rattle.std.specs.List.{AllByRecursion, flat_map}
+use Rattle.std.specs.List.{AllByRecursion}
 use Rattle.std.specs.List.Sorted.{IsStrictlySortedBy}
 use Rattle.std.specs.Cmp.{nat_cmp_is}
 use Rattle.std.specs.declared.cmp.Ordering.{Ordering}
@@ -20,9 +20,9 @@ use Rattle.pin_place.specs.Pins.{conductors_of}
 use Rattle.group_runs.specs.Runs.{AreFree, Coming, Leaving, SheetName}
 use Rattle.sheet_groups.specs.Conductors.{SheetConductor, conductors_at, sheet_conductor, sheet_conductors}
 use Rattle.sheet_groups.proofs.OrderLemmas.{places_of, places_rise}
-use Rattle.board_core.specs.steps.Standing.{by_sheet, come, drawn_in, leave, on_sheet}
+use Rattle.board_core.specs.steps.Standing.{by_sheet, come, drawn_in, leave}
 use Rattle.board_core.specs.steps.Members.{Distinct, In}
-use Rattle.board_core.proofs.MemberLemmas.{distinct_append, distinct_map, flat, in_flat, in_map, mapped}
+use Rattle.board_core.proofs.MemberLemmas.{distinct_append, distinct_map, flat, in_map, mapped}
 use Rattle.board_core.proofs.StandLemmas.{are_free, with_cases, with_has}
 
 -- the keys of conductors

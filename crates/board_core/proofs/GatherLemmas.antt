@@ -1,14 +1,14 @@
 -- Lists that are gathered from objects, one after the other.
-use Rattle.std.proofs.Common.{◌≡◌, ◌<◌, ◌+◌, ℕ, Bool, true, false, cond, List, [], ◌∷◌, ◌++◌, Option, Some, None, Result, Ok, Err, IfOk, OnOk, OnErr, append_assoc, drop, filter, get_or, length, map, refl, sym, ap, subst, ◌∙◌}
+use Rattle.std.proofs.Common.{◌≡◌, ◌<◌, ◌+◌, ℕ, Bool, true, false, cond, List, [], ◌∷◌, ◌++◌, Option, Some, None, Result, Ok, Err, IfOk, OnOk, OnErr, append_assoc, drop, filter, get_or, length, map, refl, sym, ap, ◌∙◌}
 use Rattle.std.specs.Borrow.{Bor}
-use Rattle.std.specs.List.{filter_map, flat_map}
+use Rattle.std.specs.List.{filter_map}
 use Rattle.std.specs.Option.{option_map}
 use Rattle.std.proofs.lemmas.List.{append-nil, drop_more, map-append}
 use Rattle.project_model.specs.declared.change.Placed.{Placed}
 use Rattle.project_model.specs.Projects.{ProjectData}
 use Rattle.project_model.specs.Tables.{row_now}
 use Rattle.sheet_groups.specs.Conductors.{SheetConductor, conductors_at}
-use Rattle.group_runs.specs.Runs.{Coming, Leaving}
+use Rattle.group_runs.specs.Runs.{Coming}
 use Rattle.project_model.specs.Items.{Item}
 use Rattle.board_core.specs.steps.Kept.{named_by, sheets_at, sheets_named}
 use Rattle.board_core.specs.steps.Standing.{come, drawn_in, leave, some_row, without_shape}

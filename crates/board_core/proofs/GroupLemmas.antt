@@ -1,5 +1,5 @@
 -- The classes of touching by labels, and the groups of each sheet.
-use Rattle.std.proofs.Common.{◌≡◌, ◌≢◌, ◌⊎◌, inl, inr, ◌↔◌, ◌==◌, ℕ, zero, suc, ◌+◌, ◌<◌, Bool, true, false, cond, List, [], ◌∷◌, ◌++◌, Option, Some, None, IsSome, is_some, length, map, get_or, slice_index, refl, sym, ap, subst, ◌∙◌, arith}
+use Rattle.std.proofs.Common.{◌≡◌, ◌≢◌, ◌⊎◌, inl, inr, ◌==◌, ℕ, zero, suc, ◌<◌, Bool, true, false, cond, List, [], ◌∷◌, Option, Some, None, is_some, length, get_or, refl, sym, ap, subst, ◌∙◌, arith}
 use Rattle.std.specs.Prelude.{Contains}
 use Rattle.std.specs.FinMap.{get}
 use Rattle.std.specs.List.{AllByRecursion, count_by, slice_get}
@@ -7,19 +7,16 @@ use Rattle.std.specs.List.Sorted.{IsStrictlySortedBy}
 use Rattle.std.specs.declared.cmp.Ordering.TheVariants.{Less}
 use Rattle.std.proofs.lemmas.List.Sums.{sum_by-cons}
 use Rattle.std.proofs.lemmas.Option.{none-some, same_Some}
-use Rattle.geda_defs.specs.Classes.{AreClasses, Joined}
+use Rattle.geda_defs.specs.Classes.{Joined}
 use Rattle.geda_geom.specs.declared.conductor.Conductor.{Conductor}
 use Rattle.geda_geom.specs.declared.conductor.Key.{Key}
 use Rattle.geda_geom.specs.Keys.{by_key}
-use Rattle.geda_geom.specs.Touch.{Touch}
 use Rattle.geda_geom.proofs.TouchLemmas.{touch_turn}
 use Rattle.touch_index.specs.Index.{DoTouch as TouchOf, IsNeighbour}
 use Rattle.net_flood.specs.Grouping.{InGroup, IsGroup}
-use Rattle.net_flood.proofs.ConductorLemmas.{near_second}
 use Rattle.net_flood.proofs.KeyLemmas as keys
 use Rattle.net_flood.proofs.RelationLemmas.{along, joined_itself, joined_more}
 use Rattle.pair_classes.proofs.LabelLemmas.{joined_back, joined_keeps, joined_then, labels_agree}
-use Rattle.group_runs.specs.Runs.{SheetName}
 use Rattle.sheet_groups.specs.Conductors.{SheetConductor}
 use Rattle.sheet_groups.specs.Groups.{AreLabels, AreTouching, DoTouch, TouchAt}
 use Rattle.board_core.specs.GroupSizes.{IsGroupSize}

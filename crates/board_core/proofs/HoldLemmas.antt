@@ -1,8 +1,6 @@
 -- The groups that are kept are those of the conductors of a project, through each change.
-use Rattle.std.proofs.Common.{◌≡◌, ◌≢◌, ◌≤◌, ◌+◌, ◌⊎◌, inl, inr, ℕ, Bool, true, false, cond, List, [], ◌∷◌, ◌++◌, Option, Some, None, filter, length, map, refl, sym, ap, subst, ◌∙◌, arith}
+use Rattle.std.proofs.Common.{◌≡◌, ◌≢◌, ◌≤◌, ◌+◌, inl, inr, ℕ, true, false, List, [], ◌∷◌, Option, Some, None, length, map, refl, sym, ap, subst, ◌∙◌, arith}
 use Rattle.std.specs.FinMap.{empty, entries, get, get-empty}
-use Rattle.std.specs.List.{filter_map, flat_map}
-use Rattle.std.specs.Str.{bytes_eq}
 use Rattle.std.proofs.lemmas.Option.{none-some}
 use Rattle.std.proofs.lemmas.Slice.Eq.{bytes_eq-Decides}
 use Rattle.geda_geom.specs.declared.conductor.Conductor.{Conductor}
@@ -12,7 +10,7 @@ use Rattle.net_flood.specs.Grouping.{Conductors, GroupsData}
 use Rattle.project_model.specs.declared.change.Placed.{Placed}
 use Rattle.project_model.specs.Projects.{ProjectData, is_on}
 use Rattle.group_runs.specs.Runs.{AreFree, BySheet, Coming, Leaving, SheetName, SizesSum, sheets_in, sheets_of, with_all, without}
-use Rattle.group_runs.specs.Sheets.{AreGone, AreKept, HasEntry, HasGroups, IsAmong, IsApart, IsGone, IsKept, KeepsEntries, KeepsGroups, KeepsOtherSheets, KeepsUntouched, Rows, conductors_of, is_given_up, kept_at, row_at}
+use Rattle.group_runs.specs.Sheets.{AreGone, AreKept, HasEntry, IsAmong, IsApart, IsGone, IsKept, KeepsEntries, KeepsGroups, KeepsOtherSheets, KeepsUntouched, Rows, conductors_of, is_given_up, kept_at, row_at}
 use Rattle.group_runs.proofs.GoneLemmas.{among_or_apart}
 use Rattle.group_runs.proofs.RowLemmas.{same_or_apart}
 use Rattle.group_runs.proofs.ValueLemmas.{AreAlike, with_alike, without_alike}

@@ -1,7 +1,6 @@
 pub mod ThingLemmas
 pub mod TouchedLemmas
 pub mod SizeLemmas
-pub mod ComingLemmas
 pub mod MemberLemmas
 pub mod PutLemmas
 pub mod StandLemmas

@@ -1,21 +1,20 @@
 -- Sheets that are opened, and the groups of all sheets of a project.
-use Rattle.std.proofs.Common.{◌≡◌, ◌≢◌, ◌≤◌, ◌+◌, ◌⊎◌, inl, inr, ℕ, Bool, true, false, List, [], ◌∷◌, ◌++◌, Option, Some, None, length, map, refl, sym, ap, subst, ◌∙◌, arith}
-use Rattle.std.specs.Borrow.{Bor}
+use Rattle.std.proofs.Common.{◌≡◌, ◌≤◌, ◌+◌, ◌⊎◌, inl, inr, ℕ, false, List, [], ◌∷◌, Option, Some, None, length, map, refl, sym, ap, subst, ◌∙◌, arith}
 use Rattle.std.specs.FinMap.{empty, entries, len-empty, len-entries}
 use Rattle.std.specs.List.{flat_map}
 use Rattle.std.specs.Ordering.{nat_cmp}
 use Rattle.std.proofs.lemmas.List.{length-map}
-use Rattle.net_flood.specs.Grouping.{Conductors, GroupsData}
+use Rattle.net_flood.specs.Grouping.{GroupsData}
 use Rattle.project_model.specs.declared.change.Placed.{Placed}
 use Rattle.project_model.specs.Projects.{ProjectData, empty_project}
 use Rattle.group_runs.specs.Runs.{AreFree, BySheet, Coming, SheetName, SizesSum, sheets_in, with_all, without}
-use Rattle.group_runs.specs.Sheets.{AreKept, IsApart, IsKept, KeepsGroups, KeepsOtherSheets, KeepsUntouched, Rows, conductors_of, is_given_up, kept_at, row_at}
+use Rattle.group_runs.specs.Sheets.{AreKept, IsKept, KeepsGroups, KeepsOtherSheets, KeepsUntouched, Rows, conductors_of, is_given_up, kept_at, row_at}
 use Rattle.group_runs.proofs.GoneLemmas.{among_or_apart}
 use Rattle.group_runs.proofs.RowLemmas.{same_or_apart}
-use Rattle.sheet_groups.specs.Conductors.{SheetConductor, conductors_at, sheet_conductors}
+use Rattle.sheet_groups.specs.Conductors.{conductors_at, sheet_conductors}
 use Rattle.board_core.specs.steps.Members.{In}
-use Rattle.board_core.specs.steps.Standing.{by_sheet, come, on_sheet}
-use Rattle.board_core.specs.steps.Kept.{AreAllKept, AreBare, Holds, HoldsProject, HoldsSheet, IsGrouped, sheets_at}
+use Rattle.board_core.specs.steps.Standing.{come}
+use Rattle.board_core.specs.steps.Kept.{AreAllKept, AreBare, HoldsProject, HoldsSheet, IsGrouped, sheets_at}
 use Rattle.board_core.proofs.MemberLemmas.{flat, in_map, mapped}
 use Rattle.board_core.proofs.DrawnLemmas.{all_free, project_keys, sheet_of}
 use Rattle.board_core.proofs.HoldLemmas.{among_kept, holds_kept, holds_on_ok, kept_not_gone}

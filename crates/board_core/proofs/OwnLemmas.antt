@@ -1,8 +1,7 @@
 -- The objects of a change, by id: looked up one by one, or told from all those of the project.
-use Rattle.std.proofs.Common.{◌≡◌, ◌⊎◌, ◌&&◌, ◌||◌, inl, inr, ℕ, ◌<◌, Bool, true, false, cond, not, List, [], ◌∷◌, ◌++◌, Option, Some, None, Contains, filter, map, refl, sym, ap, subst, ◌∙◌, arith}
+use Rattle.std.proofs.Common.{◌≡◌, ◌&&◌, ◌||◌, inl, inr, ℕ, ◌<◌, Bool, true, false, cond, not, List, [], ◌∷◌, ◌++◌, Option, Some, None, filter, map, refl, sym, ap, subst, ◌∙◌, arith}
 use Rattle.std.specs.BTreeSet.{BTreeSet, contains}
 use Rattle.std.specs.FinMap.{entries, entries_sorted, get}
-use Rattle.std.specs.List.{filter_map, flat_map}
 use Rattle.std.specs.List.Sorted.{IsStrictlySortedBy}
 use Rattle.std.specs.Option.{option_map}
 use Rattle.std.specs.Ordering.{nat_cmp}
@@ -18,14 +17,12 @@ use Rattle.project_model.specs.Items.{Item}
 use Rattle.project_model.specs.Projects.{ProjectData}
 use Rattle.project_model.specs.Changes.{put}
 use Rattle.project_model.proofs.OrderedRows.{keys_sorted}
-use Rattle.attr_rules.specs.Libraries.{library_of}
-use Rattle.pin_place.specs.Pins.{conductors_of}
 use Rattle.sheet_groups.specs.Conductors.{conductors_at, sheet_conductor}
 use Rattle.board_core.specs.Bounds.{is_renewed}
 use Rattle.board_core.specs.Changed.{has_symbol_of, has_thing, is_changed, is_object}
 use Rattle.board_core.specs.steps.ChangedThings.{HasNoSymbol}
 use Rattle.board_core.specs.steps.Members.{In}
-use Rattle.board_core.specs.steps.Standing.{changed_rows, coming_rows, drawn_in, found_row, found_rows, given_rows, own_rows, renewed_rows}
+use Rattle.board_core.specs.steps.Standing.{changed_rows, coming_rows, drawn_in, found_row, found_rows, given_rows, own_rows}
 use Rattle.board_core.proofs.MemberLemmas.{contains_in, filtered, found, in_contains, in_filter, in_found}
 use Rattle.board_core.proofs.PutLemmas.{drawn_stays, in_entries}
 use Rattle.board_core.proofs.ChangeLemmas.{row_there}

@@ -1,5 +1,5 @@
 -- The objects and the symbols of a project after a change.
-use Rattle.std.proofs.Common.{◌≡◌, ◌≢◌, ◌⊎◌, inl, inr, ◌||◌, ◌==◌, ℕ, zero, suc, Bool, true, false, cond, not, ◌&&◌, ◌<◌, codes, if◌then◌else◌, List, [], ◌∷◌, Option, Some, None, filter, map, refl, sym, ap, subst, ◌∙◌, arith, length}
+use Rattle.std.proofs.Common.{◌≡◌, ◌⊎◌, inl, inr, ◌||◌, ◌==◌, ℕ, zero, suc, Bool, true, false, cond, codes, if◌then◌else◌, List, [], ◌∷◌, Option, Some, None, map, refl, sym, ap, subst, ◌∙◌, arith}
 use Rattle.std.specs.FinMap.{FinMap, entries, find, get, get-entries, get-insert, get-remove}
 use Rattle.std.specs.List.{filter_map, slice_get}
 use Rattle.std.specs.Ordering.{eq_by_cmp, nat_cmp}

@@ -1,20 +1,19 @@
 -- The groups of a project through a change.
-use Rattle.std.proofs.Common.{◌≡◌, ◌≢◌, ◌≤◌, ◌+◌, ◌⊎◌, inl, inr, ℕ, Bool, true, false, List, [], ◌∷◌, ◌++◌, Option, Some, None, IsSome, length, map, refl, sym, ap, subst, ◌∙◌, arith}
+use Rattle.std.proofs.Common.{◌≡◌, ◌≢◌, ◌≤◌, ◌+◌, inl, inr, ℕ, List, [], ◌∷◌, ◌++◌, length, map, refl, sym, ap, subst, ◌∙◌, arith}
 use Rattle.std.specs.FinMap.{entries}
 use Rattle.std.proofs.lemmas.List.{length-map}
-use Rattle.net_flood.specs.Grouping.{Conductors}
 use Rattle.project_model.specs.declared.change.Placed.{Placed}
 use Rattle.project_model.specs.Items.{Item}
 use Rattle.project_model.specs.Projects.{ProjectData}
 use Rattle.project_model.specs.Changes.{AreDistinct, put}
 use Rattle.group_runs.specs.Runs.{AreFree, AreThere, Coming, Leaving, SheetName, SizesSum, sheets_in, sheets_of, with_all, without}
-use Rattle.group_runs.specs.Sheets.{AreGone, AreKept, IsApart, IsKept, KeepsEntries, KeepsGroups, KeepsUntouched, Rows, is_given_up, kept_at, row_at}
+use Rattle.group_runs.specs.Sheets.{AreGone, AreKept, IsApart, IsKept, KeepsEntries, KeepsGroups, KeepsUntouched, Rows, kept_at, row_at}
 use Rattle.group_runs.proofs.ValueLemmas.{AreAlike, free_alike, sizes_alike, there_alike, without_alike}
-use Rattle.sheet_groups.specs.Conductors.{SheetConductor, conductors_at}
+use Rattle.sheet_groups.specs.Conductors.{conductors_at}
 use Rattle.board_core.specs.Changed.{is_changed}
 use Rattle.board_core.specs.steps.Members.{In}
 use Rattle.board_core.specs.steps.Standing.{changed_rows, come, coming_drawn, coming_rows, leave, leaving_drawn, on_sheet}
-use Rattle.board_core.specs.steps.Kept.{AreRenewed, HoldsProject, HoldsSheet, IsPartly, IsRegrouped, NoneGivenUp, Renews, StaysWithin, sheets_at, sheets_named, touched_sheets}
+use Rattle.board_core.specs.steps.Kept.{AreRenewed, HoldsProject, HoldsSheet, IsPartly, IsRegrouped, Renews, StaysWithin, sheets_at, sheets_named, touched_sheets}
 use Rattle.board_core.proofs.MemberLemmas.{flat, in_filter, in_left, in_map, in_right, mapped}
 use Rattle.board_core.proofs.DrawnLemmas.{sheet_of}
 use Rattle.board_core.proofs.ChangeLemmas.{coming_free, leaving_there, left_of, on_sheet-put}

@@ -1,12 +1,11 @@
 -- Sheets that are grouped anew, one after the other.
-use Rattle.std.proofs.Common.{◌≡◌, ◌≢◌, ◌≤◌, ◌⊎◌, inl, inr, ℕ, Bool, true, false, cond, List, [], ◌∷◌, ◌++◌, append_assoc, Option, Some, None, refl, sym, ap, subst, ◌∙◌, arith}
+use Rattle.std.proofs.Common.{◌≡◌, ◌≤◌, inl, inr, ℕ, Bool, true, false, List, [], ◌∷◌, ◌++◌, append_assoc, refl, sym, ap, subst, ◌∙◌, arith}
 use Rattle.std.proofs.lemmas.List.{append-nil}
 use Rattle.project_model.specs.Projects.{ProjectData}
 use Rattle.group_runs.specs.Runs.{SheetName}
 use Rattle.group_runs.specs.Sheets.{IsKept, KeepsGroups, KeepsOtherSheets, Rows, is_given_up, row_at}
 use Rattle.group_runs.proofs.RowLemmas.{same_or_apart}
-use Rattle.board_core.specs.steps.Members.{In}
-use Rattle.board_core.specs.steps.Kept.{AreRenewed, GivesUpNoMore, HoldsProject, NoneGivenUp, Renews}
+use Rattle.board_core.specs.steps.Kept.{AreRenewed, HoldsProject, NoneGivenUp, Renews}
 use Rattle.board_core.proofs.MemberLemmas.{in_either, in_left, in_right}
 use Rattle.board_core.proofs.HoldLemmas.{kept_not_gone}
 

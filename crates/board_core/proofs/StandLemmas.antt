@@ -1,16 +1,14 @@
 -- What stands on each sheet when conductors have left and come, conductor by conductor.
-use Rattle.std.proofs.Common.{◌≡◌, ◌≢◌, ◌⊎◌, inl, inr, ◌↔◌, ℕ, zero, suc, Bool, true, false, cond, List, [], ◌∷◌, ◌++◌, Option, Some, None, IsSome, is_some, filter, map, refl, sym, ap, subst, ◌∙◌, arith}
-use Rattle.std.specs.FinMap.{empty, get, get-empty, insert, remove, same_map}
-use Rattle.std.specs.Str.{bytes_eq}
+use Rattle.std.proofs.Common.{◌≡◌, ◌≢◌, ◌⊎◌, inl, inr, true, false, cond, List, [], ◌∷◌, Option, Some, None, IsSome, is_some, map, refl, sym, ap, subst, ◌∙◌}
+use Rattle.std.specs.FinMap.{get, insert, remove, same_map}
 use Rattle.geda_geom.specs.declared.conductor.Conductor.{Conductor}
 use Rattle.geda_geom.specs.declared.conductor.Key.{Key}
-use Rattle.geda_geom.specs.Keys.{by_key}
 use Rattle.geda_geom.proofs.KeyLemmas.{by_key_total, exact_keys}
 use Rattle.net_flood.specs.Grouping.{Conductors}
-use Rattle.net_flood.proofs.ConductorLemmas.{get_inserted, get_removed, none_removed, removed_apart, some_inserted}
+use Rattle.net_flood.proofs.ConductorLemmas.{get_inserted, get_removed, removed_apart, some_inserted}
 use Rattle.net_flood.proofs.KeyLemmas as keys
 use Rattle.group_runs.specs.Runs.{AreFree, AreThere, BySheet, Coming, Leaving, SheetName, less, more, with_all, with_sheet, without}
-use Rattle.group_runs.proofs.RowLemmas.{apart, here, same_or_apart, same_sheet}
+use Rattle.group_runs.proofs.RowLemmas.{apart, here, same_or_apart}
 use Rattle.board_core.specs.steps.Members.{Distinct, In}
 use Rattle.board_core.proofs.MemberLemmas.{in_map}
 

@@ -2,6 +2,5 @@
 pub mod Members
 pub mod ChangedThings
 pub mod Sizes
-pub mod Coming
 pub mod Standing
 pub mod Kept

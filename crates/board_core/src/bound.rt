@@ -4,7 +4,8 @@ ghost use Rattle.project_model.specs.Changes.{CanApply};
 ghost use Rattle.board_core.specs.Bounds.{IsBound};
 
 use crate::changed::Things;
-use crate::coming::coming_of;
+use crate::drawn::coming_drawn;
+use crate::rows::coming_rows;
 use crate::sizes::sizes_of;
 use project_model::{Change, Project};
 use std::alloc::{AllocError, Global};
@@ -16,6 +17,7 @@ pub(crate) fn bound_of(alloc: Global, project: &Project, change: &Change) -> Res
 {
     let things = Things::of(alloc, change.items.as_slice())?;
     let sizes = sizes_of(alloc, project, &things)?;
-    let coming = coming_of(alloc, project, change, &things)?;
-    Ok(sizes.saturating_add(coming))
+    let rows = coming_rows(alloc, project, &things)?;
+    let coming = coming_drawn(alloc, project, change, &things, &rows)?;
+    Ok(sizes.saturating_add(coming.len() as u64))
 }

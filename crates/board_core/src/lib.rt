@@ -7,7 +7,6 @@
 mod board;
 mod bound;
 mod changed;
-mod coming;
 mod drawn;
 mod grouped;
 mod put_in;

@@ -1,6 +1,6 @@
 -- Steps of the code; no public clause cites them.
 -- The groups that a board keeps, and sheets whose groups are made anew (own).
-use Rattle.std.specs.Prelude.{◌≡◌, ◌≤◌, ◌+◌, ◌-◌, ◌^◌, min, length, ⊤, ℕ, Bool, true, false, List, [], ◌∷◌, ◌++◌, Option, Some, None, map}
+use Rattle.std.specs.Prelude.{◌≡◌, ◌≤◌, ◌+◌, ◌-◌, ◌^◌, min, length, ⊤, ℕ, true, false, List, [], ◌++◌, Option, Some, None, map}
 use Rattle.std.specs.FinMap.{empty}
 use Rattle.std.specs.List.{filter_map}
 use Rattle.net_flood.specs.Grouping.{Conductors, GroupsData}

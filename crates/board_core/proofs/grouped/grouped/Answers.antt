@@ -1,7 +1,7 @@
-use Rattle.std.proofs.Common.{◌≡◌, ◌≤◌, ◌+◌, List, [], length, map, sym, ap, subst, ◌∙◌, arith}
+use Rattle.std.proofs.Common.{◌≡◌, List, [], length, map, sym, ap, subst, ◌∙◌, arith}
 use Rattle.project_model.specs.Tables.{row_now}
 use Rattle.group_runs.specs.Runs.{AreFree, Coming, sheets_in, with_all, without}
-use Rattle.group_runs.specs.Sheets.{AreKept, KeepsUntouched, Rows, SheetsData, kept_at}
+use Rattle.group_runs.specs.Sheets.{AreKept, KeepsUntouched, SheetsData, kept_at}
 use Rattle.board_core.specs.steps.Kept.{AreAllKept, AreBare, sheets_at}
 use Rattle.board_core.specs.steps.Standing.{come, drawn_in}
 use Rattle.board_core.proofs.OpenLemmas.{all, all_grouped, all_kept, none_bare, opened_free}

@@ -3,7 +3,7 @@ use Rattle.std.proofs.lemmas.List.{drop_all}
 use Rattle.project_model.specs.Tables.{row_now}
 use Rattle.board_core.specs.steps.Kept.{sheets_at}
 use Rattle.board_core.proofs.GatherLemmas.{next_sheet}
-use Rattle.board_core.proofs.OpenLemmas.{IsOpening, opening_begins, opening_ends, opening_more}
+use Rattle.board_core.proofs.OpenLemmas.{IsOpening, opening_ends, opening_more}
 use Rattle.board_core.proofs.grouped.open_all.Goals as goal
 
 pub loop-row-preserved : goal.loop-row-preserved

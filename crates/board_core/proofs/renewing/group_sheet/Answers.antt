@@ -1,4 +1,4 @@
-use Rattle.std.proofs.Common.{◌≡◌, ◌≤◌, ◌+◌, List, [], length, sym, ap, subst, ◌∙◌, arith}
+use Rattle.std.proofs.Common.{◌≡◌, List, [], length, sym, ap, subst, ◌∙◌, arith}
 use Rattle.group_runs.specs.Runs.{AreFree, Coming, sheets_in, with_all, without}
 use Rattle.group_runs.specs.Sheets.{AreGone, AreKept, KeepsUntouched, kept_at}
 use Rattle.board_core.proofs.HoldLemmas.{fresh, renewed_err, renewed_ok, renewed_others, renewed_still, renewing_free, renewing_free_steps, renewing_kept}

@@ -1,4 +1,4 @@
-use Rattle.std.proofs.Common.{◌≡◌, ◌≤◌, ◌∷◌, ◌++◌, ◌+◌, List, [], drop, length, map, rules, subst, arith}
+use Rattle.std.proofs.Common.{◌≤◌, ◌+◌, drop, length, rules, subst, arith}
 use Rattle.std.proofs.lemmas.List.{drop_all}
 use Rattle.project_model.specs.Items.{Item}
 use Rattle.board_core.specs.steps.Kept.{named_by, sheets_named}

@@ -1,5 +1,4 @@
-use Rattle.std.proofs.Common.{◌≡◌, ◌≤◌, ◌∷◌, ◌++◌, ◌+◌, List, [], drop, length, map, rules, subst, arith}
-use Rattle.group_runs.specs.Runs.{SheetName}
+use Rattle.std.proofs.Common.{◌≤◌, ◌∷◌, ◌+◌, [], drop, length, map, rules, subst, arith}
 use Rattle.std.proofs.lemmas.List.{drop_all}
 use Rattle.project_model.specs.Tables.{row_now}
 use Rattle.board_core.specs.steps.Kept.{sheets_at}

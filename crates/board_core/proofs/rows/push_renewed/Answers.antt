@@ -1,4 +1,4 @@
-use Rattle.std.proofs.Common.{◌≡◌, ◌++◌, ◌+◌, drop, filter, map, sym, ap, ◌∙◌, arith}
+use Rattle.std.proofs.Common.{◌++◌, ◌+◌, drop, filter, map, ap, ◌∙◌, arith}
 use Rattle.project_model.specs.Tables.{row_now}
 use Rattle.board_core.specs.Bounds.{is_renewed}
 use Rattle.board_core.proofs.GatherLemmas.{filtered_more}

@@ -1,6 +1,5 @@
-use Rattle.std.proofs.Common.{◌≡◌, ◌<◌, ◌^◌, ap, subst, arith}
+use Rattle.std.proofs.Common.{◌<◌, ◌^◌, subst, arith}
 use Rattle.net_flood.proofs.Outcomes.{on_err}
-use Rattle.project_model.specs.Changes.{put}
 use Rattle.project_model.specs.Projects.{ProjectData}
 use Rattle.group_runs.specs.Sheets.{asked_sum}
 use Rattle.board_core.specs.Boards.{BoardData, MayGiveUp, RenewsGroups, StaysInBound}

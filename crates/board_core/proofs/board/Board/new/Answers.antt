@@ -1,4 +1,4 @@
-use Rattle.std.proofs.Common.{◌≡◌, ◌≤◌, ◌-◌, ◌^◌, min, [], refl, sym, ap, subst, arith}
+use Rattle.std.proofs.Common.{◌≡◌, ◌≤◌, ◌-◌, ◌^◌, min, [], refl, sym, subst, arith}
 use Rattle.project_model.specs.Projects.{empty_project}
 use Rattle.group_runs.specs.Sheets.{SheetsData, asked_sum}
 use Rattle.board_core.specs.steps.Kept.{HoldsProject}
