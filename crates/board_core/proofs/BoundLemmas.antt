@@ -1,13 +1,15 @@
 -- The sum of the sizes of the classes of conductors that leave is that of the sizes of their groups.
-use Rattle.std.proofs.Common.{◌≡◌, ◌≢◌, inl, inr, ℕ, ◌+◌, Bool, true, false, List, [], ◌∷◌, ◌++◌, Some, length, map, filter, append_assoc, refl, sym, ap, subst, ◌∙◌}
+use Rattle.std.proofs.Common.{Bool, List, Some, [], ap, append_assoc, false, filter, get_or, inl, inr, length, map, refl, subst, sym, true, ℕ, ◌++◌, ◌+◌, ◌∙◌, ◌∷◌, ◌≡◌, ◌≢◌}
 use Rattle.std.specs.FinMap.{entries, get}
 use Rattle.std.specs.List.{AllByRecursion, flat_map, slice_get}
 use Rattle.std.specs.List.Sorted.{IsStrictlySortedBy}
-use Rattle.std.specs.declared.cmp.Ordering.TheVariants.{Less}
+use Rattle.std.specs.declared.cmp.Ordering.TheVariants.{Less, Equal}
 use Rattle.std.proofs.lemmas.List.{map-append}
 use Rattle.geda_geom.specs.declared.conductor.Conductor.{Conductor}
 use Rattle.geda_geom.specs.declared.conductor.Key.{Key}
 use Rattle.geda_geom.specs.Keys.{by_key}
+use Rattle.net_flood.specs.Grouping.{Conductors, IsGroup}
+use Rattle.geda_geom.proofs.KeyLemmas.{by_key_total}
 use Rattle.project_model.specs.declared.change.Placed.{Placed}
 use Rattle.project_model.specs.Items.{Item}
 use Rattle.project_model.specs.Projects.{ProjectData}
@@ -16,13 +18,15 @@ use Rattle.group_runs.specs.Runs.{BySheet, SheetName, less}
 use Rattle.sheet_groups.specs.Conductors.{SheetConductor, conductors_at}
 use Rattle.sheet_groups.proofs.OrderLemmas.{conductor_keys_rise}
 use Rattle.board_core.specs.Changed.{is_changed}
+use Rattle.board_core.specs.GroupSizes.{IsGroupSize}
 use Rattle.board_core.specs.Bounds.{Leaving, SizesSum, leaving}
 use Rattle.board_core.specs.steps.Standing.{by_sheet, drawn_in, leave, leaving_drawn, on_sheet}
 use Rattle.board_core.specs.steps.Members.{Distinct, In}
-use Rattle.board_core.proofs.MemberLemmas.{in_either, in_left, in_map, in_right}
+use Rattle.board_core.proofs.MemberLemmas.{in_either, in_left, in_map, in_right, contains_in, in_contains}
 use Rattle.board_core.proofs.StandLemmas.{less_cases, less_keeps, same_conductors}
-use Rattle.board_core.proofs.DrawnLemmas.{conductor, keys_at, keys_rise_distinct, stands, stood}
-use Rattle.board_core.proofs.GroupLemmas.{Rise, group_of_size}
+use Rattle.board_core.proofs.DrawnLemmas.{conductor, keys_at, keys_rise_distinct, stands, stood, all_in, key_itself}
+use Rattle.board_core.proofs.GroupLemmas.{Rise, group_labelled, group_of_size, labelled, labelled_count}
+use Rattle.board_core.proofs.LabelLemmas.{labels_of}
 
 -- conductors, of those that are told whether they leave
 abbrev firsts : List Leaving → List SheetConductor
@@ -108,6 +112,65 @@ sizes_of_groups kept ((c, true) ∷ fs) sum rise sizes =
       sizes.4 ∙ ap (λ (n : ℕ). n + sizes.1) group.2,
     )
 
+-- no two keys are below each other
+below_once : (x y : Key) → by_key x y ≡ Less → by_key y x ≡ Less → ⊥
+below_once x y more less = (let around : by_key x x ≡ Less = by_key_total.trans x y x more less in let clash : Equal ≡ Less = sym (key_itself x) ∙ around in absurd (cc))
+
+-- keys in order are told by what they contain
+first_same : (x y : Key) (xs ys : List Key) → IsStrictlySortedBy by_key (x ∷ xs) → IsStrictlySortedBy by_key (y ∷ ys) → In x (y ∷ ys) → In y (x ∷ xs) → x ≡ y
+unfolding IsStrictlySortedBy
+first_same x y xs ys first second (inl e) k = sym e
+first_same x y xs ys first second (inr h) (inl e) = e
+first_same x y xs ys first second (inr h) (inr k) = absurd (below_once x y (all_in (λ q. by_key x q ≡ Less) xs y first.0 k) (all_in (λ q. by_key y q ≡ Less) ys x second.0 h))
+
+later_in : (x y z : Key) (xs ys : List Key) → IsStrictlySortedBy by_key (x ∷ xs) → x ≡ y → In z xs → In z (y ∷ ys) → In z ys
+unfolding IsStrictlySortedBy
+later_in x y z xs ys first same h (inr k) = k
+later_in x y z xs ys first same h (inl e) =
+    absurd (let less : by_key x z ≡ Less = all_in (λ q. by_key x q ≡ Less) xs z first.0 h in let clash : Equal ≡ Less = sym (key_itself x) ∙ ap (by_key x) (same ∙ e) ∙ less in cc)
+
+same_keys : (xs ys : List Key) → IsStrictlySortedBy by_key xs → IsStrictlySortedBy by_key ys → ((q : Key) → In q xs → In q ys) → ((q : Key) → In q ys → In q xs) → xs ≡ ys
+unfolding IsStrictlySortedBy
+same_keys [] [] first second to back = refl
+same_keys [] (y ∷ ys) first second to back = absurd (back y (inl refl))
+same_keys (x ∷ xs) [] first second to back = absurd (to x (inl refl))
+same_keys (x ∷ xs) (y ∷ ys) first second to back =
+    let same = first_same x y xs ys first second (to x (inl refl)) (back y (inl refl)) in
+    let rest = same_keys xs ys first.1 second.1 (λ z h. later_in x y z xs ys first same h (to z (inr h))) (λ z h. later_in y x z ys xs second (sym same) h (back z (inr h))) in
+    λ i. same i ∷ rest i
+
+-- two lists of the keys of one group are the same
+pub same_group : (cs : Conductors) (k : Key) (xs ys : List Key) → IsGroup cs k xs → IsGroup cs k ys → xs ≡ ys
+same_group cs k xs ys first second =
+    same_keys xs ys first.rising second.rising
+    (λ q h. contains_in q ys ((second.same q).1 ((first.same q).0 (in_contains q xs h))))
+    (λ q h. contains_in q xs ((first.same q).1 ((second.same q).0 (in_contains q ys h))))
+
+-- a group is as large as the class of its conductor
+size_of_group : (cs : List SheetConductor) → Rise cs → (i : ℕ) (c : SheetConductor) → slice_get cs i ≡ Some c → (keys : List Key) → IsGroup (by_sheet cs c.sheet) c.key keys → IsGroupSize cs i (length keys)
+size_of_group cs rise i c here keys group =
+    let labels = labels_of cs in
+    record {
+      labels = labels.0;
+      are_labels = labels.1;
+      counted = ap length (same_group (by_sheet cs c.sheet) c.key keys (labelled (get_or labels.0 i 0) cs labels.0) group (group_labelled cs rise i c here labels.0 labels.1))
+          ∙ sym (labelled_count (get_or labels.0 i 0) cs labels.0 labels.1.len);
+    }
+
+-- the sizes of groups are those of classes
+sizes_of_classes : (kept : List SheetConductor) (fs : List Leaving) (sum : ℕ) → Rise (kept ++ firsts fs) → runs.SizesSum (by_sheet (kept ++ firsts fs)) (map leave (left_in fs)) sum
+    → SizesSum kept fs sum
+sizes_of_classes kept [] sum rise sizes = sizes
+sizes_of_classes kept ((c, false) ∷ fs) sum rise sizes =
+    let same : (kept ++ c ∷ []) ++ firsts fs ≡ kept ++ c ∷ firsts fs = append_assoc kept (c ∷ []) (firsts fs) in
+    sizes_of_classes (kept ++ c ∷ []) fs sum (subst Rise (sym same) rise)
+    (subst (λ (cs : List SheetConductor). runs.SizesSum (by_sheet cs) (map leave (left_in fs)) sum) (sym same) sizes)
+sizes_of_classes kept ((c, true) ∷ fs) sum rise sizes =
+    let size = size_of_group (kept ++ c ∷ firsts fs) rise (length kept) c (behind kept (firsts fs) c) sizes.0 sizes.2 in
+    let rest = sizes_of_classes kept fs sizes.1 (rise_without kept (firsts fs) c rise)
+    (subst (λ (at : BySheet). runs.SizesSum at (map leave (left_in fs)) sizes.1) (less_by_sheet kept (firsts fs) c rise) sizes.3) in
+    (length sizes.0, sizes.1, size, rest, sizes.4)
+
 module _ (p : ProjectData) (items : List Item) where
   abbrev flags : List (ℕ × Placed) → List Leaving
   flags rows = flat_map (λ row. map (λ c. (c, is_changed items row)) (conductors_at p row)) rows
@@ -152,3 +215,12 @@ module _ (p : ProjectData) (items : List Item) where
       subst (λ (cs : List SheetConductor). runs.SizesSum (on_sheet p) (map leave cs) sum) some
       (subst (λ (cs : List SheetConductor). runs.SizesSum (by_sheet cs) (map leave (left_in (leaving p items))) sum) all
       (sizes_of_groups [] (leaving p items) sum (subst Rise (sym all) (conductor_keys_rise p)) sizes))
+
+  -- and the sizes of their groups are those of the classes
+  pub sizes_in_classes : (sum : ℕ) → runs.SizesSum (on_sheet p) (map leave (leaving_drawn p items)) sum → SizesSum [] (leaving p items) sum
+  sizes_in_classes sum sizes =
+      let all = firsts_flags (entries p.objects) in
+      let some = left_flags (entries p.objects) in
+      sizes_of_classes [] (leaving p items) sum (subst Rise (sym all) (conductor_keys_rise p))
+      (subst (λ (cs : List SheetConductor). runs.SizesSum (by_sheet cs) (map leave (left_in (leaving p items))) sum) (sym all)
+      (subst (λ (cs : List SheetConductor). runs.SizesSum (on_sheet p) (map leave cs) sum) (sym some) sizes))

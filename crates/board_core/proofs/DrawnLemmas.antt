@@ -47,7 +47,7 @@ rising_distinct (x ∷ xs) h = (
   rising_distinct xs h.1,
 )
 
-key_itself : (k : Key) → by_key k k ≡ Equal
+pub key_itself : (k : Key) → by_key k k ≡ Equal
 key_itself k = ap (λ (r : Ordering). ordering_then r (nat_cmp k.place k.place)) (sym (nat_cmp_is k.id k.id Equal refl)) ∙ sym (nat_cmp_is k.place k.place Equal refl)
 
 -- keys that rise are distinct

@@ -30,7 +30,7 @@ abbrev pub Rise : List SheetConductor → Type 0
 Rise cs = IsStrictlySortedBy by_key (keys_at cs)
 
 -- touching goes both ways
-turn_touch : (o p : Option SheetConductor) → DoTouch o p → DoTouch p o
+pub turn_touch : (o p : Option SheetConductor) → DoTouch o p → DoTouch p o
 turn_touch (Some c) (Some d) t = record { together = sym t.together; touch = touch_turn c.shape d.shape t.touch }
 turn_touch (Some c) None t = absurd t
 turn_touch None p t = absurd t
@@ -40,7 +40,8 @@ within [] i x e = absurd (none-some x e)
 within (y ∷ xs) zero x e = omega arith
 within (y ∷ xs) (suc i) x e = let rest = within xs i x e in omega arith
 
-first_within : (cs : List SheetConductor) (i j : ℕ) → TouchAt cs i j → i < length cs
+-- what touches stands in the list
+pub first_within : (cs : List SheetConductor) (i j : ℕ) → TouchAt cs i j → i < length cs
 first_within cs i j t = by (slice_get cs i) refl t
   where
     by : (o : Option SheetConductor) → slice_get cs i ≡ o → DoTouch o (slice_get cs j) → i < length cs
@@ -52,7 +53,7 @@ abbrev pub labelled : ℕ → List SheetConductor → List ℕ → List Key
 labelled l (c ∷ cs) (m ∷ ms) = cond (m == l) (c.key ∷ labelled l cs ms) (labelled l cs ms)
 labelled l cs ms = []
 
-labelled_count : (l : ℕ) (cs : List SheetConductor) (ms : List ℕ) → length ms ≡ length cs → count_by (λ m. m == l) ms ≡ length (labelled l cs ms)
+pub labelled_count : (l : ℕ) (cs : List SheetConductor) (ms : List ℕ) → length ms ≡ length cs → count_by (λ m. m == l) ms ≡ length (labelled l cs ms)
 labelled_count l [] [] long = refl
 labelled_count l [] (m ∷ ms) long = absurd (omega (arith, long))
 labelled_count l (c ∷ cs) [] long = absurd (omega (arith, long))

@@ -15,3 +15,4 @@ pub mod RenewLemmas
 pub mod RegroupLemmas
 pub mod BoardLemmas
 pub mod OpenLemmas
+pub mod LabelLemmas

@@ -6,17 +6,19 @@ use Rattle.project_model.specs.declared.change.Placed.{Placed}
 use Rattle.project_model.specs.Items.{Item}
 use Rattle.project_model.specs.Projects.{ProjectData}
 use Rattle.project_model.specs.Changes.{AreDistinct, put}
-use Rattle.group_runs.specs.Runs.{AreFree, AreThere, Coming, Leaving, SheetName, SizesSum, sheets_in, sheets_of, with_all, without}
+use Rattle.group_runs.specs.Runs.{AreFree, AreThere, Coming, IsRunBound, Leaving, SheetName, SizesSum, sheets_in, sheets_of, with_all, without}
 use Rattle.group_runs.specs.Sheets.{AreGone, AreKept, IsApart, IsKept, KeepsEntries, KeepsGroups, KeepsUntouched, Rows, kept_at, row_at}
 use Rattle.group_runs.proofs.ValueLemmas.{AreAlike, free_alike, sizes_alike, there_alike, without_alike}
 use Rattle.sheet_groups.specs.Conductors.{conductors_at}
+use Rattle.board_core.specs.Bounds.{IsBound}
 use Rattle.board_core.specs.Changed.{is_changed}
 use Rattle.board_core.specs.steps.Members.{In}
 use Rattle.board_core.specs.steps.Standing.{changed_rows, come, coming_drawn, coming_rows, leave, leaving_drawn, on_sheet}
 use Rattle.board_core.specs.steps.Kept.{AreRenewed, HoldsProject, HoldsSheet, IsPartly, IsRegrouped, Renews, StaysWithin, sheets_at, sheets_named, touched_sheets}
 use Rattle.board_core.proofs.MemberLemmas.{flat, in_filter, in_left, in_map, in_right, mapped}
 use Rattle.board_core.proofs.DrawnLemmas.{sheet_of}
-use Rattle.board_core.proofs.ChangeLemmas.{coming_free, leaving_there, left_of, on_sheet-put}
+use Rattle.board_core.proofs.ChangeLemmas.{coming_counted, coming_free, leaving_there, left_of, on_sheet-put}
+use Rattle.board_core.proofs.BoundLemmas.{sizes_in_classes}
 use Rattle.board_core.proofs.HoldLemmas.{alike_holds, holds_on_err, holds_on_ok}
 
 -- an object's sheet is among those of the objects
@@ -85,6 +87,15 @@ module _ (p : ProjectData) (items : List Item) where
         let free = renews.free none in
         let long = length-map (coming_drawn p items) come in
         omega (arith, bound, free, long)
+
+    -- what the run may cost is the bound of the change
+    pub bounded : (bound : ℕ) → IsRunBound (kept_at mid) ls (length cs) bound → IsBound p items bound
+    bounded bound is =
+        let sizes = sizes_alike mid (kept_at mid) (on_sheet p) ls is.sum (alike_holds (on_sheet p) mid renews.held) left_kept is.sizes in
+        let long = length-map (coming_drawn p items) come in
+        let counted = coming_counted p items in
+        let total = is.total in
+        record { sizes = is.sum; left = sizes_in_classes p items is.sum sizes; total = omega (arith, long, counted, total) }
 
     module _ (new : Rows) (others : KeepsUntouched ls cs mid new) where
       apart : (s : SheetName) → (In s (touched_sheets p items) → ⊥) → row_at new s ≡ row_at old s

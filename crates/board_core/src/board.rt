@@ -131,14 +131,31 @@ impl Board {
         ensures counted { IsCounted self.new }
         ensures few { StaysInBound self.old change.now.items self.new }
     {
+        self.apply_with_bound(alloc, change)?;
+        Ok(())
+    }
+
+    /// Puts a change in as `apply` does, and answers its bound. To do both at once costs no more
+    /// than `apply`: the size of each group is known when a conductor leaves it.
+    pub fn apply_with_bound(&mut self, alloc: Global, change: &Change) -> Result<u64, AllocError>
+        requires { CanApply change.now.items }
+        ensures ok { OnOk result (self.new.project ≡ put self.old.project change.now.items) }
+        ensures err { OnErr result (self.new.project ≡ self.old.project) }
+        ensures renewed { OnOk result (RenewsGroups self.old change.now.items self.new) }
+        ensures given_up { OnErr result (MayGiveUp self.old change.now.items self.new) }
+        ensures later { self.old.asked ≤ self.new.asked }
+        ensures counted { IsCounted self.new }
+        ensures bound { IfOk result (IsBound self.old.project change.now.items) }
+        ensures few { StaysInBound self.old change.now.items self.new }
+    {
         let copy = with_room(alloc, &mut self.project, change)?;
         let regrouped = regroup(alloc, &self.project, &mut self.groups, change);
         // The steps are read so that the proof knows that they are below 2^64.
         let _ = self.groups.steps();
-        regrouped?;
+        let bound = regrouped?;
         // The project goes last, when nothing can fail any more.
         self.project.apply(copy);
-        Ok(())
+        Ok(bound)
     }
 
     /// How many steps a change may take (docs/RULES.md, "Groups"): one for each conductor that

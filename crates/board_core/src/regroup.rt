@@ -2,6 +2,7 @@
 ghost use Rattle.std.specs.Prelude.{◌≡◌, ◌≤◌, ◌++◌, map, IfOk, OnOk, OnErr};
 ghost use Rattle.project_model.specs.Changes.{CanApply};
 ghost use Rattle.project_model.specs.Tables.{row_now};
+ghost use Rattle.board_core.specs.Bounds.{IsBound};
 ghost use Rattle.board_core.specs.steps.Kept.{AreMoves, AreRenewed, HoldsProject, IsPartly, IsRegrouped, Renews, StaysWithin, sheets_at, sheets_named, touched_sheets};
 
 use crate::changed::Things;
@@ -71,7 +72,8 @@ fn renew_touched(
     renew_named(alloc, project, groups, items)
 }
 
-/// Groups the touched sheets anew that are not kept; then conductors leave, and others come.
+/// Groups the touched sheets anew that are not kept; then conductors leave, and others come. It
+/// answers the bound of the change.
 fn move_all(
     alloc: Global,
     project: &Project,
@@ -88,6 +90,7 @@ fn move_all(
         groups.old.rows groups.new.rows) }
     ensures err { OnErr result (IsPartly project.now.contents change.now.items
         groups.old.rows groups.new.rows) }
+    ensures bound { IfOk result (IsBound project.now.contents change.now.items) }
     ensures later { groups.old.steps ≤ groups.new.steps }
     ensures few { StaysWithin project.now.contents change.now.items groups.old.rows
         groups.old.steps groups.new.steps }
@@ -97,8 +100,8 @@ fn move_all(
     groups.apply(&moves.leaving, &moves.coming)
 }
 
-/// Makes the groups of a project those of the project after a change. It answers how many steps
-/// that may take, where the groups of all touched sheets were kept.
+/// Makes the groups of a project those of the project after a change. It answers the bound of the
+/// change.
 pub(crate) fn regroup(
     alloc: Global,
     project: &Project,
@@ -111,6 +114,7 @@ pub(crate) fn regroup(
         groups.old.rows groups.new.rows) }
     ensures err { OnErr result (IsPartly project.now.contents change.now.items
         groups.old.rows groups.new.rows) }
+    ensures bound { IfOk result (IsBound project.now.contents change.now.items) }
     ensures later { groups.old.steps ≤ groups.new.steps }
     ensures few { StaysWithin project.now.contents change.now.items groups.old.rows
         groups.old.steps groups.new.steps }

@@ -5,21 +5,21 @@ use Rattle.group_runs.specs.Sheets.{asked_sum}
 use Rattle.board_core.specs.Boards.{BoardData, MayGiveUp, RenewsGroups, StaysInBound}
 use Rattle.board_core.specs.steps.Kept.{IsPartly, IsRegrouped, StaysWithin}
 use Rattle.board_core.proofs.BoardLemmas.{board_of, may_give_up, renews_groups, stays_in_bound}
-use Rattle.board_core.proofs.board.Board.apply.Goals as goal
+use Rattle.board_core.proofs.board.Board.apply_with_bound.Goals as goal
 
-pub returns-in_err-regrouped-clause-given_up : goal.returns-in_err-regrouped-clause-given_up
-returns-in_err-regrouped-clause-given_up c =
+pub returns-in_err-bound-clause-given_up : goal.returns-in_err-bound-clause-given_up
+returns-in_err-bound-clause-given_up c =
     let items = c.args.change.now.items in
     let old = c.self.inside.groups in
     let new = c.regroup-regrouped.new.groups in
     let p = c.self.inside.project.contents in
-    let done = subst (λ (q : ProjectData). IsPartly q items old.rows new.rows) c.with_room.ensures.contents c.in_err-regrouped.ensures.err in
-    on_err c.from_residual-in_err-regrouped.result
+    let done = subst (λ (q : ProjectData). IsPartly q items old.rows new.rows) c.with_room.ensures.contents c.in_err-bound.ensures.err in
+    on_err c.from_residual-in_err-bound.result
     (subst (λ (v : BoardData). MayGiveUp v items (board_of c.with_room.new.project.contents new.rows new.steps (asked_sum new.rows))) c.self.view_is
     (may_give_up p c.with_room.new.project.contents items old.rows new.rows old.steps new.steps (asked_sum old.rows) (asked_sum new.rows) c.requires.distinct done))
 
-pub returns-in_err-regrouped-clause-few : goal.returns-in_err-regrouped-clause-few
-returns-in_err-regrouped-clause-few c =
+pub returns-in_err-bound-clause-few : goal.returns-in_err-bound-clause-few
+returns-in_err-bound-clause-few c =
     let items = c.args.change.now.items in
     let old = c.self.inside.groups in
     let new = c.regroup-regrouped.new.groups in
@@ -35,7 +35,7 @@ returns-clause-renewed c =
     let old = c.self.inside.groups in
     let new = c.regroup-regrouped.new.groups in
     let p = c.self.inside.project.contents in
-    let done = subst (λ (q : ProjectData). IsRegrouped q items old.rows new.rows) c.with_room.ensures.contents c.in_ok-regrouped.ensures.ok in
+    let done = subst (λ (q : ProjectData). IsRegrouped q items old.rows new.rows) c.with_room.ensures.contents c.in_ok-bound.ensures.ok in
     subst (λ (v : BoardData). RenewsGroups v items (board_of p new.rows new.steps 0)) c.self.view_is
     (renews_groups p p items old.rows new.rows old.steps new.steps (asked_sum old.rows) 0 done)
 
