@@ -14,6 +14,7 @@ fn row<W: Threads + Wait + Sync>(
 ) -> Result<String, CaseFault> {
     match kind {
         "command" => programs::command(rt, alloc, cells, files),
+        "work" => programs::work(rt, alloc, cells, files),
         "rewritten" => rewrites::rewritten(rt, alloc, cells, files),
         _ => Err(CaseFault::BadCase),
     }

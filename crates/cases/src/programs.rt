@@ -134,6 +134,30 @@ pub fn command<W: Threads + Wait + Sync>(
     Ok(ran_text(alloc, &ran)?)
 }
 
+/// Words for a number of steps, of which the rules fix the bound alone.
+fn steps_words(bound: &str, steps: &str) -> Result<&'static str, CaseFault> {
+    let bound = call_of(bound)?;
+    match call_of(steps)? {
+        0 => Ok("none"),
+        steps if steps <= bound => Ok("within the bound"),
+        _ => Ok("beyond the bound"),
+    }
+}
+
+/// What a command of the work comes to, as `command` tells it, with words for its calls.
+pub fn work<W: Threads + Wait + Sync>(
+    rt: &W,
+    alloc: Global,
+    cells: &[&str],
+    files: &TableFiles,
+) -> Result<String, CaseFault> {
+    let told = command(rt, alloc, cells, files)?;
+    let (before, counts) = told.split_once("\nbound ").ok_or(CaseFault::BadCase)?;
+    let (bound, steps) = counts.split_once("\ncalls ").ok_or(CaseFault::BadCase)?;
+    let words = steps_words(bound, steps)?;
+    Ok(format!(in alloc; "{before}\nbound {bound}\ncalls {words}")?)
+}
+
 /// The status, the output and the errors, in a line.
 pub fn ran_text(alloc: Global, ran: &Ran) -> Result<String, AllocError> {
     let mut text = format!(in alloc; "{}", ran.status)?;
