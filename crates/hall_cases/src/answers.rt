@@ -11,7 +11,7 @@ fn answer<W: Wait>(rt: &W, alloc: Global, case: &Case<'_>) -> Result<String, Cas
     match case.kind {
         "connections" => questions::connections(rt, alloc, words, case.files),
         "openings" => questions::opening(rt, alloc, words, case.files),
-        "steps of groups" => questions::asked(rt, alloc, words, case.files),
+        "steps of groups" => questions::steps(rt, alloc, words, case.files),
         "each call of the keeper fails" => questions::each_call(rt, alloc, words, case.files),
         _ => Err(CaseFault::BadCase),
     }

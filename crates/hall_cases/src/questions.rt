@@ -102,22 +102,28 @@ fn front_line(alloc: Global, served: &Served) -> Result<String, CaseFault> {
     }
 }
 
-fn asked_line(alloc: Global, served: &Served) -> Result<String, CaseFault> {
+/// Words for the steps of a board, of which the rules fix the greatest number alone.
+fn steps_line(alloc: Global, served: &Served, most: u32) -> Result<String, CaseFault> {
     match served.last_look {
-        Some((_, asked)) => Ok(format!(in alloc; "> {asked}\n")?),
+        Some((_, 0)) => Ok(String::from_str(alloc, "> none\n")?),
+        Some((_, steps)) if steps <= u64::from(most) => Ok(String::from_str(alloc, "> some\n")?),
+        Some((_, steps)) => Ok(format!(in alloc; "> {steps}\n")?),
         None => Ok(String::from_str(alloc, "> NoEntry\n")?),
     }
 }
 
-/// The steps that the groups of the board took, after the connections of files.
-pub fn asked<W: Wait>(
+/// Whether the groups of the board took any steps, and at most so many, after the connections of
+/// files: `ann bob at most 9`.
+pub fn steps<W: Wait>(
     rt: &W,
     alloc: Global,
     words: &str,
     files: &TableFiles,
 ) -> Result<String, CaseFault> {
-    match serve_failing(rt, alloc, words, 0, files) {
-        Ok(served) => asked_line(alloc, &served),
+    let (names, most) = words.split_once(" at most ").ok_or(CaseFault::BadCase)?;
+    let most = number_of(most)?;
+    match serve_failing(rt, alloc, names, 0, files) {
+        Ok(served) => steps_line(alloc, &served, most),
         Err(fault) => fault_line(alloc, fault),
     }
 }
