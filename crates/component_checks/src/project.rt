@@ -49,7 +49,7 @@ fn components_among(
     alloc: Global,
     project: &Project,
     instances: &[Instance],
-    occurrences: &[Occurrence],
+    occurrences: &[Occurrence<'_>],
 ) -> Result<Vec<CheckedComponent>, AllocError>
     requires { instances.now ≡ instances_of project.now.contents }
     ensures { IfOk result (λ components. components.items ≡

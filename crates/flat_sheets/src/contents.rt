@@ -138,7 +138,7 @@ pub fn contents_of(
     alloc: Global,
     project: &Project,
     instances: &[Instance],
-    occurrences: &[Occurrence],
+    occurrences: &[Occurrence<'_>],
 ) -> Result<ProjectContents, AllocError>
     requires { instances.now ≡ instances_of project.now.contents }
     ensures drawn { IfOk result (λ s. s.conductors.drawn.items ≡

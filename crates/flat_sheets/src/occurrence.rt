@@ -1,29 +1,28 @@
 // The objects of a project as they stand in the instances of its sheets.
-use geda_model::Items;
 use std::cmp::Ordering;
 use std::marker::Model;
 
 /// An object in an instance of its sheet. Occurrences are ordered by route, number by number, then
 /// by id.
 #[derive(Debug, Drop)]
-pub struct Occurrence {
-    /// The route of the instance.
-    pub route: Items<u32>,
+pub struct Occurrence<'a> {
+    /// The route of the instance, lent.
+    pub route: &'a [u32],
     /// The place of the instance among all instances, counted from 0. It is not compared.
     pub instance: usize,
     /// The id of the object.
     pub id: u32,
 }
 
-impl Model for Occurrence {
+impl<'a> Model for Occurrence<'a> {
     ghost use Rattle.flat_sheets.specs.Occurrences.{OccurrenceData};
 
     ghost Value = { OccurrenceData };
 
-    ghost view = { λ o. record { route = o.route; instance = o.instance; id = o.id } };
+    ghost view = { λ o. record { route = o.route.now; instance = o.instance; id = o.id } };
 }
 
-impl PartialEq for Occurrence {
+impl<'a> PartialEq for Occurrence<'a> {
     ghost use Rattle.std.proofs.Common.{rules};
     ghost use Rattle.std.specs.Cmp.Rules.{comparing};
     ghost use Rattle.std.specs.Ordering.{eq_by_cmp};
@@ -33,19 +32,19 @@ impl PartialEq for Occurrence {
 
     ghost laws = { Prim.search (comparing, rules) };
 
-    fn eq(&self, other: &Occurrence) -> bool {
+    fn eq(&self, other: &Occurrence<'a>) -> bool {
         self.cmp(other).is_eq()
     }
 }
 
-impl Eq for Occurrence {
+impl<'a> Eq for Occurrence<'a> {
     ghost use Rattle.std.proofs.Common.{rules};
     ghost use Rattle.std.specs.Cmp.Rules.{comparing};
 
     ghost laws = { Prim.search (comparing, rules) };
 }
 
-impl PartialOrd for Occurrence {
+impl<'a> PartialOrd for Occurrence<'a> {
     ghost use Rattle.std.proofs.Common.{rules};
     ghost use Rattle.std.specs.Cmp.{partial_order_from_own_ties};
     ghost use Rattle.std.specs.Cmp.Rules.{comparing};
@@ -57,12 +56,12 @@ impl PartialOrd for Occurrence {
     ghost laws = { partial_order_from_own_ties
         (Prim.search (comparing, rules)) (Prim.search (comparing, rules)) };
 
-    fn partial_cmp(&self, other: &Occurrence) -> Option<Ordering> {
+    fn partial_cmp(&self, other: &Occurrence<'a>) -> Option<Ordering> {
         Some(self.cmp(other))
     }
 }
 
-impl Ord for Occurrence {
+impl<'a> Ord for Occurrence<'a> {
     ghost use Rattle.std.proofs.Common.{rules};
     ghost use Rattle.std.specs.Cmp.Rules.{comparing};
     ghost use Rattle.flat_sheets.specs.Occurrences.{by_occurrence};
@@ -75,8 +74,8 @@ impl Ord for Occurrence {
 
     ghost matches_eq = { Prim.search (comparing, rules) };
 
-    fn cmp(&self, other: &Occurrence) -> Ordering {
-        let by_route = self.route.as_slice().cmp(other.route.as_slice());
+    fn cmp(&self, other: &Occurrence<'a>) -> Ordering {
+        let by_route = self.route.cmp(other.route);
         by_route.then(self.id.cmp(&other.id))
     }
 }

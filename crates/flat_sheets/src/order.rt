@@ -7,50 +7,42 @@ ghost use Rattle.flat_sheets.specs.steps.SheetIds.{occurrence};
 use crate::occurrence::Occurrence;
 use crate::once::once_in_order;
 use crate::sheet_ids::{ids_at, ids_by_sheet};
-use geda_model::Items;
 use hierarchy::Instance;
 use project_model::Project;
 use std::alloc::{AllocError, Global};
 
-fn occurrence(
-    alloc: Global,
-    place: usize,
-    instance: &Instance,
-    id: u32,
-) -> Result<Occurrence, AllocError>
-    ensures { IfOk result (λ o. o ≡ occurrence place instance.now id) }
+fn occurrence(place: usize, instance: &Instance, id: u32) -> Occurrence<'_>
+    ensures { result ≡ occurrence place instance.now id }
 {
-    let route = instance.route.as_slice().to_vec(alloc)?;
-    Ok(Occurrence {
-        route: Items::from_vec(route),
+    Occurrence {
+        route: instance.route.as_slice(),
         instance: place,
         id,
-    })
+    }
 }
 
 /// Adds the objects of an instance.
-fn push_ids(
-    alloc: Global,
-    listed: &mut Vec<Occurrence>,
+fn push_ids<'a>(
+    listed: &mut Vec<Occurrence<'a>>,
     place: usize,
-    instance: &Instance,
+    instance: &'a Instance,
     ids: &[u32],
 ) -> Result<(), AllocError>
     ensures { OnOk result (listed.new.items ≡
         listed.old.items ++ map (occurrence place instance.now) ids.now) }
 {
     for id in ids {
-        listed.push(occurrence(alloc, place, instance, *id)?)?;
+        listed.push(occurrence(place, instance, *id))?;
     }
     Ok(())
 }
 
 /// All objects in all instances, one instance after the other.
-fn listed_by_instance(
+fn listed_by_instance<'a>(
     alloc: Global,
     project: &Project,
-    instances: &[Instance],
-) -> Result<Vec<Occurrence>, AllocError>
+    instances: &'a [Instance],
+) -> Result<Vec<Occurrence<'a>>, AllocError>
     ensures { IfOk result
         (λ listed. listed.items ≡ occurrences_from project.now.contents 0 instances.now) }
 {
@@ -59,17 +51,17 @@ fn listed_by_instance(
     for place in 0..instances.len() {
         let instance = &instances[place];
         let ids = ids_at(&table, &instance.sheet);
-        push_ids(alloc, &mut listed, place, instance, ids)?;
+        push_ids(&mut listed, place, instance, ids)?;
     }
     Ok(listed)
 }
 
 /// All objects in all instances, in order.
-pub fn occurrences(
+pub fn occurrences<'a>(
     alloc: Global,
     project: &Project,
-    instances: &[Instance],
-) -> Result<Vec<Occurrence>, AllocError>
+    instances: &'a [Instance],
+) -> Result<Vec<Occurrence<'a>>, AllocError>
     requires { instances.now ≡ instances_of project.now.contents }
     ensures { IfOk result (λ listed. listed.items ≡ occurrences project.now.contents) }
 {
