@@ -1,23 +1,21 @@
 -- The components among the objects that stand there are those of the project.
-use Rattle.std.proofs.Common.{◌≡◌, ℕ, List, refl, subst, sym}
+use Rattle.std.proofs.Common.{◌≡◌, List, refl, subst}
 use Rattle.std.specs.List.{filter_map}
 use Rattle.geda_model.specs.declared.object.Body.TheVariants as bodies
 use Rattle.geda_model.specs.Shapes.{ComponentData}
-use Rattle.geda_model.specs.Sheets.{ObjectData}
 use Rattle.project_model.specs.Projects.{ProjectData}
 use Rattle.attr_rules.specs.Libraries.{library_of}
-use Rattle.hierarchy.specs.declared.instances.Instance.{Instance}
-use Rattle.flat_sheets.specs.Occurrences.{OccurrenceData, object_at}
+use Rattle.instance_objects.specs.Occurrences.{FlatObject, OccurrenceData, object_at}
+use Rattle.instance_objects.proofs.FlatObjects.{with_body-same}
 use Rattle.component_checks.specs.CheckedComponents.{checked_component, checked_object}
-use Rattle.component_checks.specs.steps.CheckedObjects.{checked_at, checked_if, flat}
+use Rattle.component_checks.specs.steps.CheckedObjects.{checked_at, checked_if}
 use Rattle.component_checks.proofs.ListLemmas.{filter_map-twice}
 
 -- an object that is this component
-pub checked_object-component : (p : ProjectData) (place : ℕ) (i : Instance) (id : ℕ) (o : ObjectData) (c : ComponentData)
-    → o.body ≡ bodies.Component c → checked_component p (flat place i id o) c (library_of p o) ≡ checked_object p (flat place i id o)
-checked_object-component p place i id o c e =
-    let as_component : record { body = bodies.Component c; attrs = o.attrs } ≡ o = λ j. record { body = sym e j; attrs = o.attrs } in
-    subst (λ (x : ObjectData). checked_component p (flat place i id x) c (library_of p x) ≡ checked_object p (flat place i id x)) as_component refl
+pub checked_object-component : (p : ProjectData) (f : FlatObject) (c : ComponentData)
+    → f.object.body ≡ bodies.Component c → checked_component p f c (library_of p f.object) ≡ checked_object p f
+checked_object-component p f c e =
+    subst (λ (x : FlatObject). checked_component p x c (library_of p x.object) ≡ checked_object p x) (with_body-same f (bodies.Component c) e) refl
 
 -- all of them
 pub checked_at-are : (p : ProjectData) (os : List OccurrenceData)

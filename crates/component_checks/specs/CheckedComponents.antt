@@ -15,9 +15,9 @@ use Rattle.attr_rules.specs.declared.slots.SlotFault.{SlotFault}
 use Rattle.hierarchy.specs.declared.instances.Instance.{Instance}
 use Rattle.pin_place.specs.declared.pins.PlacedPin.{PlacedPin}
 use Rattle.pin_place.specs.Pins.{pins_of}
-use Rattle.flat_sheets.specs.Occurrences.{FlatObject, flat_objects}
-use Rattle.flat_sheets.specs.Ports.{is_port}
-use Rattle.flat_sheets.specs.ListedParts.{under}
+use Rattle.instance_objects.specs.Occurrences.{FlatObject, flat_objects}
+use Rattle.instance_objects.specs.Texts.{under}
+use Rattle.instance_objects.specs.Ports.{is_port}
 use Rattle.flat_sheets.specs.Conductors.{is_drawn}
 
 -- a component in an instance, which is not graphical: its sheet, its id and the name of its symbol,

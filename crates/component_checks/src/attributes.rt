@@ -5,16 +5,16 @@ ghost use Rattle.attr_rules.specs.Attributes.{attr, attrs};
 ghost use Rattle.attr_rules.specs.Components.{refdes_of};
 ghost use Rattle.attr_rules.specs.Slots.{slot_count};
 ghost use Rattle.pin_place.specs.Pins.{pins_of};
+ghost use Rattle.instance_objects.specs.Texts.{under};
 ghost use Rattle.flat_sheets.specs.Conductors.{is_drawn};
-ghost use Rattle.flat_sheets.specs.ListedParts.{under};
 ghost use Rattle.component_checks.specs.CheckedComponents.{is_bad_net, slot_fault};
 
 use attr_rules::{
     NetFault, SlotFault, attr_of, attrs_of, net_entries, refdes_of, short_number, slot_pins,
 };
-use flat_sheets::line_under;
 use geda_model::{Block, Line, Object, Symbol};
 use hierarchy::Instance;
+use instance_objects::line_under;
 use pin_place::{PlacedPin, pins_of};
 use std::alloc::{AllocError, Global};
 

@@ -1,80 +1,52 @@
 // The components of a project as the check sees them.
-ghost use Rattle.std.specs.Prelude.{◌≡◌, IfOk, OnOk, option_copied};
-ghost use Rattle.std.specs.List.{filter_map, slice_get};
-ghost use Rattle.hierarchy.specs.Instances.{instances_of};
-ghost use Rattle.flat_sheets.specs.LabelSets.{AreLabelSets};
+ghost use Rattle.std.specs.Prelude.{◌≡◌, IfOk};
+ghost use Rattle.std.specs.List.{filter_map};
+ghost use Rattle.instance_objects.specs.Occurrences.{occurrences};
 ghost use Rattle.component_checks.specs.CheckedComponents.{checked_components};
-ghost use Rattle.component_checks.specs.steps.CheckedObjects.{checked_at, checked_if, object_in};
+ghost use Rattle.component_checks.specs.steps.CheckedObjects.{checked_at};
 
 use crate::checked::CheckedComponent;
 use crate::gathering::checked_object;
 use crate::lists::push_if;
-use flat_sheets::{LabelSets, Occurrence, occurrences};
-use hierarchy::Instance;
-use project_model::Project;
+use instance_objects::{InstanceObjects, Occurrence};
 use std::alloc::{AllocError, Global};
-use std::collections::HashMap;
 
-fn instance_at(instances: &[Instance], place: usize) -> Option<&Instance>
-    ensures { option_copied result ≡ slice_get instances.now place }
-{
-    instances.get(place)
-}
-
-/// What stands in the instance at a place under an id, if it is checked.
-fn checked_in(
+/// What stands there, if it is checked.
+fn checked_at(
     alloc: Global,
-    project: &Project,
-    known: &mut LabelSets,
-    instances: &[Instance],
-    place: usize,
-    id: u32,
+    objects: &InstanceObjects<'_>,
+    occurrence: &Occurrence<'_>,
 ) -> Result<Option<CheckedComponent>, AllocError>
-    requires known { AreLabelSets project.now.contents known.old }
-    ensures made { IfOk result (λ made. made ≡ checked_if project.now.contents
-        (object_in project.now.contents instances.now place id)) }
-    ensures known { OnOk result (AreLabelSets project.now.contents known.new) }
+    ensures { IfOk result (λ made. made ≡ checked_at objects.now occurrence.now) }
 {
-    let Some(instance) = instance_at(instances, place) else {
+    let Some(found) = objects.object(occurrence) else {
         return Ok(None);
     };
-    let Some(placed) = project.object(id) else {
-        return Ok(None);
-    };
-    checked_object(alloc, project, known, instance, id, &placed.object)
+    checked_object(alloc, &found)
 }
 
 #[tactic(auto, using(crate::proofs::ListLemmas::push_more))]
 fn components_among(
     alloc: Global,
-    project: &Project,
-    instances: &[Instance],
-    occurrences: &[Occurrence<'_>],
+    objects: &InstanceObjects<'_>,
 ) -> Result<Vec<CheckedComponent>, AllocError>
-    requires { instances.now ≡ instances_of project.now.contents }
     ensures { IfOk result (λ components. components.items ≡
-        filter_map (checked_at project.now.contents) occurrences.now) }
+        filter_map (checked_at objects.now) (occurrences objects.now)) }
 {
+    let occurrences = objects.occurrences();
     let mut components = Vec::new(alloc);
-    let mut known: LabelSets = HashMap::new(alloc);
     for occurrence in occurrences {
-        let (place, id) = (occurrence.instance, occurrence.id);
-        let made = checked_in(alloc, project, &mut known, instances, place, id)?;
-        push_if(&mut components, made)?;
+        push_if(&mut components, checked_at(alloc, objects, occurrence)?)?;
     }
     Ok(components)
 }
 
-/// All components in these instances that are not graphical, by route and then by id.
+/// All components in all instances that are not graphical, by route and then by id.
 pub fn checked_components(
     alloc: Global,
-    project: &Project,
-    instances: &[Instance],
+    objects: &InstanceObjects<'_>,
 ) -> Result<Vec<CheckedComponent>, AllocError>
-    requires { instances.now ≡ instances_of project.now.contents }
-    ensures { IfOk result
-        (λ components. components.items ≡ checked_components project.now.contents) }
+    ensures { IfOk result (λ components. components.items ≡ checked_components objects.now) }
 {
-    let occurrences = occurrences(alloc, project, instances)?;
-    components_among(alloc, project, instances, &occurrences)
+    components_among(alloc, objects)
 }

@@ -8,6 +8,7 @@ ghost use Rattle.drc_rules.specs.Findings.{findings, lost_finding};
 use component_checks::{add_on_components, add_on_packages, checked_components};
 use drc_findings::{Finding, add_error, add_warning, listed};
 use hierarchy::{Hierarchy, Lost};
+use instance_objects::InstanceObjects;
 use net_checks::add_on_nets;
 use net_names::Nets;
 use pin_matrix::Matrix;
@@ -46,9 +47,32 @@ fn add_lost(alloc: Global, found: &mut BTreeSet<Finding>, lost: &[Lost]) -> Resu
     Ok(())
 }
 
+/// The findings of a project by its objects in the instances of its sheets, what its hierarchy
+/// leaves out and this net list, under a matrix, in order, equal ones once (docs/RULES.md,
+/// "Findings").
+#[tactic(auto, using(drc_findings::proofs::FoundLemmas::with_append))]
+pub fn findings_on(
+    alloc: Global,
+    objects: &InstanceObjects<'_>,
+    lost: &[Lost],
+    nets: &Nets,
+    matrix: &Matrix,
+) -> Result<Vec<Finding>, AllocError>
+    requires lost { lost.now ≡ lost_of objects.now }
+    ensures findings { IfOk result (λ list. list.items ≡ findings objects.now nets.now matrix.now) }
+    ensures rising { IfOk result (λ list. IsStrictlySortedBy by_finding list.items) }
+{
+    let components = checked_components(alloc, objects)?;
+    let mut found = BTreeSet::new(alloc);
+    add_on_components(alloc, &mut found, &components)?;
+    add_on_packages(alloc, &mut found, &components, nets.packages.as_slice())?;
+    add_on_nets(alloc, &mut found, matrix, nets.nets.as_slice())?;
+    add_lost(alloc, &mut found, lost)?;
+    listed(alloc, found)
+}
+
 /// The findings of a project with this hierarchy and this net list under a matrix, in order, equal
 /// ones once (docs/RULES.md, "Findings").
-#[tactic(auto, using(drc_findings::proofs::FoundLemmas::with_append))]
 pub fn findings(
     alloc: Global,
     project: &Project,
@@ -62,11 +86,6 @@ pub fn findings(
         (λ list. list.items ≡ findings project.now.contents nets.now matrix.now) }
     ensures rising { IfOk result (λ list. IsStrictlySortedBy by_finding list.items) }
 {
-    let components = checked_components(alloc, project, hierarchy.instances.as_slice())?;
-    let mut found = BTreeSet::new(alloc);
-    add_on_components(alloc, &mut found, &components)?;
-    add_on_packages(alloc, &mut found, &components, nets.packages.as_slice())?;
-    add_on_nets(alloc, &mut found, matrix, nets.nets.as_slice())?;
-    add_lost(alloc, &mut found, hierarchy.lost.as_slice())?;
-    listed(alloc, found)
+    let objects = InstanceObjects::of(alloc, project, hierarchy.instances.as_slice())?;
+    findings_on(alloc, &objects, hierarchy.lost.as_slice(), nets, matrix)
 }

@@ -7,6 +7,6 @@
 
 mod check;
 
-pub use check::findings;
+pub use check::{findings, findings_on};
 pub use drc_findings::{Finding, order_law, report_text};
 pub use pin_matrix::{Level, Matrix, MatrixFault};

@@ -22,12 +22,12 @@ use Rattle.attr_rules.specs.declared.kinds.PinKind.TheVariants as kinds
 use Rattle.geda_geom.specs.declared.conductor.Point.{Point}
 use Rattle.geda_geom.specs.declared.conductor.Conductor.TheVariants.{Segment}
 use Rattle.hierarchy.specs.declared.instances.Instance.{Instance}
-use Rattle.geda_defs.specs.Order.{once_in_order}
-use Rattle.flat_sheets.specs.Occurrences.{OccurrenceData, by_occurrence}
-use Rattle.flat_sheets.specs.Ports.{labels_of, labels_on, pins_at}
-use Rattle.flat_sheets.specs.ListedParts.{is_no_part, under}
-use Rattle.flat_sheets.specs.Conductors.{RoleData, drawn_of, hidden_pins, pins_below}
-use Rattle.flat_sheets.specs.steps.ObjectContents.{flat, role_in}
+use Rattle.instance_objects.specs.Occurrences.{FlatObject}
+use Rattle.instance_objects.specs.Texts.{under}
+use Rattle.instance_objects.specs.Ports.{labels_of, labels_on}
+use Rattle.flat_sheets.specs.Ports.{pins_at}
+use Rattle.flat_sheets.specs.ListedParts.{is_no_part}
+use Rattle.flat_sheets.specs.Conductors.{RoleData, drawn_of, hidden_pins, pins_below, role_of}
 
 abbrev text : List ℕ → TextData
 text content = record { x = pos 0; y = pos 0; color = pos 5; size = pos 8; visible = 0; show = 0; angle = 0; align = 0; content = content }
@@ -63,11 +63,9 @@ labels_above =
     let is : labels_on project (Some (record { sheet = codes "a"; object = above })) ≡ codes "IN" ∷ [] = refl in
     ap (labels_on project) (finite.get-from_sorted nat_cmp objects 3 tt) ∙ is
 
-under_a_path : under (codes "X1") (codes "R1") ≡ codes "X1/R1"
-under_a_path = refl
-
-under_none : under [] (codes "R1") ≡ codes "R1"
-under_none = refl
+-- an object under the id 7 on that sheet, whose instance is the second
+abbrev placed : ObjectData → FlatObject
+placed o = record { place = 1; instance = below; id = 7; object = o }
 
 -- ---- roles of components on the sheet below
 
@@ -94,7 +92,7 @@ abbrev part_role : RoleData
 part_role = record { refdes = Some (codes "X1/U1"); leads_down = false; leads_up = None }
 
 -- a part is listed under its path
-part_below : role_in project below part None ≡ part_role
+part_below : role_of project (placed part) None ≡ part_role
 unfolding attr attrs split_of chars encode
 part_below =
     let is : role_by part (codes "IN" ∷ []) ≡ part_role = refl in
@@ -104,7 +102,7 @@ abbrev graphical : ObjectData
 graphical = component [] (codes "refdes=U1" ∷ codes "graphical=1" ∷ [])
 
 -- a graphical component is no part
-graphical_below : role_in project below graphical None ≡ unlisted false
+graphical_below : role_of project (placed graphical) None ≡ unlisted false
 unfolding attr attrs split_of chars encode
 graphical_below =
     let is : role_by graphical (codes "IN" ∷ []) ≡ unlisted false = refl in
@@ -114,7 +112,7 @@ abbrev hierarchical : ObjectData
 hierarchical = component [] (codes "refdes=U1" ∷ codes "source=c" ∷ [])
 
 -- nor is one with sheets below, to which it leads down
-hierarchical_below : role_in project below hierarchical None ≡ unlisted true
+hierarchical_below : role_of project (placed hierarchical) None ≡ unlisted true
 unfolding attr attrs split_of chars encode
 hierarchical_below =
     let is : role_by hierarchical (codes "IN" ∷ []) ≡ unlisted true = refl in
@@ -128,7 +126,7 @@ abbrev port_role : RoleData
 port_role = record { refdes = None; leads_down = false; leads_up = Some (record { instance = 0; id = 3; label = codes "IN" }) }
 
 -- nor is a port
-port_below : role_in project below port None ≡ port_role
+port_below : role_of project (placed port) None ≡ port_role
 unfolding attr attrs split_of chars encode
 port_below =
     let is : role_by port (codes "IN" ∷ []) ≡ port_role = refl in
@@ -137,7 +135,7 @@ port_below =
 -- ---- what joins of them
 
 -- the hidden pin of a part has its global name without a path, and the refdes under its path
-hidden_pin : hidden_pins (flat 1 below 7 part) None part_role ≡ record {
+hidden_pin : hidden_pins (placed part) None part_role ≡ record {
   instance = 1;
   key = record { id = 7; place = 0 };
   shape = None;
@@ -151,14 +149,14 @@ unfolding attr attrs split_of net_entry cut_of pin_numbers is_utf8 chars encode
 hidden_pin = refl
 
 -- a port has none
-hidden_pin_of_port : hidden_pins (flat 1 below 7 port) None port_role ≡ []
+hidden_pin_of_port : hidden_pins (placed port) None port_role ≡ []
 hidden_pin_of_port = refl
 
 abbrev at : Point
 at = record { x = pos 0; y = pos 0 }
 
 -- the `netname` of a segment gets the path
-segment_below : drawn_of project (flat 1 below 7 (record { body = bodies.Shape (shapes.Net (pos 0) (pos 0) (pos 0) (pos 0) (pos 4)); attrs = text (codes "netname=N") ∷ [] })) ≡ record {
+segment_below : drawn_of project (placed (record { body = bodies.Shape (shapes.Net (pos 0) (pos 0) (pos 0) (pos 0) (pos 4)); attrs = text (codes "netname=N") ∷ [] })) ≡ record {
   instance = 1;
   key = record { id = 7; place = 0 };
   shape = Some (Segment at at);
@@ -174,13 +172,3 @@ segment_below = refl
 -- a pin leads down by its label
 label_leads_down : pins_below 0 3 true (Some (codes "IN")) ≡ Some (record { instance = 0; id = 3; label = codes "IN" })
 label_leads_down = refl
-
--- ---- order
-
-abbrev occurrence : List ℕ → ℕ → ℕ → OccurrenceData
-occurrence route place id = record { route = route; instance = place; id = id }
-
--- by route first, then by id; of equals the first
-in_order : once_in_order by_occurrence (occurrence (3 ∷ []) 1 2 ∷ occurrence [] 0 9 ∷ occurrence [] 0 3 ∷ occurrence [] 2 9 ∷ []) ≡
-    occurrence [] 0 3 ∷ occurrence [] 0 9 ∷ occurrence (3 ∷ []) 1 2 ∷ []
-in_order = refl

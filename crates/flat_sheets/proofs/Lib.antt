@@ -1,6 +1,2 @@
-pub mod Outcomes
-pub mod SheetIdLemmas
-pub mod LabelLemmas
-pub mod LineLemmas
 pub mod ObjectLemmas
 pub mod Cases

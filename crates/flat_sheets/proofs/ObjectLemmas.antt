@@ -11,14 +11,14 @@ use Rattle.geda_model.specs.Sheets.{ObjectData}
 use Rattle.project_model.specs.Projects.{ProjectData}
 use Rattle.attr_rules.specs.Attributes.{attrs, attached, or_else}
 use Rattle.attr_rules.specs.Libraries.{library_of}
-use Rattle.hierarchy.specs.declared.instances.Instance.{Instance}
 use Rattle.pin_place.specs.declared.pins.PlacedPin.{PlacedPin}
 use Rattle.pin_place.specs.Pins.{pins_of}
+use Rattle.instance_objects.specs.Occurrences.{FlatObject, OccurrenceData, object_at}
+use Rattle.instance_objects.proofs.FlatObjects.{with_body, with_body-same}
 use Rattle.flat_sheets.specs.declared.package.Package.{Package}
-use Rattle.flat_sheets.specs.Occurrences.{FlatObject, OccurrenceData, object_at}
 use Rattle.flat_sheets.specs.ListedParts.{listed_part}
 use Rattle.flat_sheets.specs.Conductors.{RoleData, drawn_of, hidden_of, hidden_pins, is_drawn, pin_conductor}
-use Rattle.flat_sheets.specs.steps.ObjectContents.{drawn_if, drawn_in, drawn_of_component, drawn_pin, flat, hidden_if, hidden_in, hidden_of_component, hidden_pin, part_if, parts_in, role_at}
+use Rattle.flat_sheets.specs.steps.ObjectContents.{drawn_if, drawn_in, drawn_of_component, drawn_pin, hidden_if, hidden_in, hidden_of_component, hidden_pin, part_if, parts_in, role_at}
 
 or_else-none : (values : List (List ℕ)) → or_else values [] ≡ values
 or_else-none [] = refl
@@ -63,28 +63,26 @@ module _ (place id : ℕ) (role : RoleData) where
   no_hidden_pins unlisted [] = refl
   no_hidden_pins unlisted (pin ∷ pins) = rw unlisted (no_hidden_pins unlisted pins)
 
-module _ (p : ProjectData) (place : ℕ) (i : Instance) (id : ℕ) where
-  drawn_of-pins : (o : ObjectData) → map (pin_conductor place id (role_at p i o)) (filter is_drawn (pins_of o (library_of p o))) ≡ drawn_of_component p place i id o
-  drawn_of-pins o = drawn_pins-are place id (role_at p i o) (pins_of o (library_of p o))
+module _ (p : ProjectData) where
+  drawn_of-pins : (f : FlatObject) → map (pin_conductor f.place f.id (role_at p f)) (filter is_drawn (pins_of f.object (library_of p f.object))) ≡ drawn_of_component p f
+  drawn_of-pins f = drawn_pins-are f.place f.id (role_at p f) (pins_of f.object (library_of p f.object))
 
-  hidden_of-pins : (o : ObjectData) → hidden_pins (flat place i id o) (library_of p o) (role_at p i o) ≡ hidden_of_component p place i id o
-  hidden_of-pins o = by (is_some (role_at p i o).refdes) refl
+  hidden_of-pins : (f : FlatObject) → hidden_pins f (library_of p f.object) (role_at p f) ≡ hidden_of_component p f
+  hidden_of-pins f = by (is_some (role_at p f).refdes) refl
     where
-      by : (b : Bool) → is_some (role_at p i o).refdes ≡ b → hidden_pins (flat place i id o) (library_of p o) (role_at p i o) ≡ hidden_of_component p place i id o
-      by true e = rw e (hidden_pins-are place id (role_at p i o) e (pins_of o (library_of p o)))
-      by false e = rw e (sym (no_hidden_pins place id (role_at p i o) e (pins_of o (library_of p o))))
+      by : (b : Bool) → is_some (role_at p f).refdes ≡ b → hidden_pins f (library_of p f.object) (role_at p f) ≡ hidden_of_component p f
+      by true e = rw e (hidden_pins-are f.place f.id (role_at p f) e (pins_of f.object (library_of p f.object)))
+      by false e = rw e (sym (no_hidden_pins f.place f.id (role_at p f) e (pins_of f.object (library_of p f.object))))
 
   -- what is drawn of a component
-  pub drawn_of-component : (o : ObjectData) (c : ComponentData) → o.body ≡ bodies.Component c → drawn_of_component p place i id o ≡ drawn_of p (flat place i id o)
-  drawn_of-component o c e =
-      let as_component : record { body = bodies.Component c; attrs = o.attrs } ≡ o = λ j. record { body = sym e j; attrs = o.attrs } in
-      subst (λ (x : ObjectData). drawn_of_component p place i id x ≡ drawn_of p (flat place i id x)) as_component (sym (drawn_of-pins (record { body = bodies.Component c; attrs = o.attrs })))
+  pub drawn_of-component : (f : FlatObject) (c : ComponentData) → f.object.body ≡ bodies.Component c → drawn_of_component p f ≡ drawn_of p f
+  drawn_of-component f c e =
+      subst (λ (x : FlatObject). drawn_of_component p x ≡ drawn_of p x) (with_body-same f (bodies.Component c) e) (sym (drawn_of-pins (with_body f (bodies.Component c))))
 
   -- its hidden pins
-  pub hidden_of-component : (o : ObjectData) (c : ComponentData) → o.body ≡ bodies.Component c → hidden_of_component p place i id o ≡ hidden_of p (flat place i id o)
-  hidden_of-component o c e =
-      let as_component : record { body = bodies.Component c; attrs = o.attrs } ≡ o = λ j. record { body = sym e j; attrs = o.attrs } in
-      subst (λ (x : ObjectData). hidden_of_component p place i id x ≡ hidden_of p (flat place i id x)) as_component (sym (hidden_of-pins (record { body = bodies.Component c; attrs = o.attrs })))
+  pub hidden_of-component : (f : FlatObject) (c : ComponentData) → f.object.body ≡ bodies.Component c → hidden_of_component p f ≡ hidden_of p f
+  hidden_of-component f c e =
+      subst (λ (x : FlatObject). hidden_of_component p x ≡ hidden_of p x) (with_body-same f (bodies.Component c) e) (sym (hidden_of-pins (with_body f (bodies.Component c))))
 
 module _ (p : ProjectData) where
   -- what is drawn of the objects that stand there

@@ -17,9 +17,10 @@ use Rattle.pin_place.specs.Pins.{pins_of}
 use Rattle.link_classes.specs.declared.member.Member.{Member}
 use Rattle.link_classes.specs.declared.conductors.FlatConductor.{FlatConductor}
 use Rattle.link_classes.specs.declared.conductors.PortPins.{PortPins}
-use Rattle.flat_sheets.specs.Occurrences.{FlatObject, flat_objects}
+use Rattle.instance_objects.specs.Occurrences.{FlatObject, flat_objects}
+use Rattle.instance_objects.specs.Texts.{under}
 use Rattle.flat_sheets.specs.Ports.{pins_at, pins_above}
-use Rattle.flat_sheets.specs.ListedParts.{refdes_in, under}
+use Rattle.flat_sheets.specs.ListedParts.{refdes_in}
 
 -- what a component is in an instance: its printed refdes if it is a listed part, whether it leads
 -- down to sheets below, and the pins above for which it stands if it is a port

@@ -1,5 +1,5 @@
 -- The parts that a net list has (own).
-use Rattle.std.specs.Prelude.{ℕ, ◌||◌, if◌then◌else◌, Bool, List, [], ◌∷◌, ◌++◌, Option, None, Some, codes}
+use Rattle.std.specs.Prelude.{ℕ, ◌||◌, if◌then◌else◌, Bool, List, Option, None, Some, codes}
 use Rattle.std.specs.List.{filter_map}
 use Rattle.geda_model.specs.declared.object.Body.{Body}
 use Rattle.geda_model.specs.declared.object.Body.TheVariants as bodies
@@ -9,14 +9,10 @@ use Rattle.attr_rules.specs.Attributes.{attr}
 use Rattle.attr_rules.specs.Libraries.{library_of}
 use Rattle.attr_rules.specs.Components.{has_sources, is_graphical, refdes_of}
 use Rattle.hierarchy.specs.declared.instances.Instance.{Instance}
+use Rattle.instance_objects.specs.Occurrences.{FlatObject, flat_objects}
+use Rattle.instance_objects.specs.Texts.{under}
+use Rattle.instance_objects.specs.Ports.{is_port}
 use Rattle.flat_sheets.specs.declared.package.Package.{Package}
-use Rattle.flat_sheets.specs.Occurrences.{FlatObject, flat_objects}
-use Rattle.flat_sheets.specs.Ports.{is_port}
-
--- a text as it prints in an instance: the path of a sheet below comes before it
-abbrev pub under : List ℕ → List ℕ → List ℕ
-under [] text = text
-under (b ∷ bs) text = b ∷ bs ++ 47 ∷ text
 
 -- a component that is no part, whatever its refdes: it is graphical, or has sheets below
 abbrev pub is_no_part : ObjectData → Option SymbolData → Bool

@@ -1,4 +1,2 @@
 -- Steps of the code; no public clause cites them.
-pub mod SheetIds
-pub mod PortLabels
 pub mod ObjectContents

@@ -10,8 +10,8 @@ use crate::roles::Role;
 use crate::texts::names_under;
 use attr_rules::{PinKind, attrs_of};
 use geda_geom::{Conductor, Key, Point};
-use geda_model::{Block, Items, Line, Object, Shape, Word};
-use hierarchy::Instance;
+use geda_model::{Block, Items, Line, Shape, Word};
+use instance_objects::InstanceObject;
 use link_classes::{FlatConductor, Member, PortPins};
 use pin_place::PlacedPin;
 use std::alloc::{AllocError, Global};
@@ -143,31 +143,31 @@ impl FlatConductors {
         Ok(())
     }
 
-    /// Takes in a shape that stands in an instance, at a place among all: a net segment joins, with
-    /// its attached `netname`s as they print there; no other shape does.
+    /// Takes in an object that is this shape: a net segment joins, with its attached `netname`s as
+    /// they print in its instance; no other shape does.
     pub fn push_shape(
         &mut self,
         alloc: Global,
-        place: usize,
-        instance: &Instance,
-        id: u32,
-        object: &Object,
+        found: &InstanceObject<'_>,
         shape: &Shape,
     ) -> Result<(), AllocError>
-        requires body { object.now.body ≡ bodies.Shape shape.now }
+        requires body { found.now.flat.object.body ≡ bodies.Shape shape.now }
         ensures drawn { OnOk result (self.new.drawn.items ≡
-            self.old.drawn.items ++ drawn_of_shape place instance.now id object.now shape.now) }
+            self.old.drawn.items ++ drawn_of_shape found.now.flat shape.now) }
         ensures hidden { OnOk result (self.new.hidden.items ≡ self.old.hidden.items) }
     {
         match shape {
             Shape::Net { x1, y1, x2, y2, .. } => {
-                let names = attrs_of(alloc, object, None, "netname")?;
-                let printed = names_under(alloc, &instance.path, names.into_vec())?;
+                let names = attrs_of(alloc, found.object(), None, "netname")?;
+                let printed = names_under(alloc, &found.instance().path, names.into_vec())?;
                 let a = Point { x: *x1, y: *y1 };
                 let b = Point { x: *x2, y: *y2 };
                 self.drawn.push(FlatConductor {
-                    instance: place,
-                    key: Key { id, place: 0 },
+                    instance: found.place(),
+                    key: Key {
+                        id: found.id(),
+                        place: 0,
+                    },
                     shape: Some(Conductor::Segment { a, b }),
                     global_names: Items::from_vec(Vec::new(alloc)),
                     drawn_names: Items::from_vec(printed),

@@ -1,19 +1,18 @@
 // What a component is in an instance of its sheet.
-ghost use Rattle.std.specs.Prelude.{◌≡◌, ◌||◌, if◌then◌else◌, All, IfOk, OnOk};
+ghost use Rattle.std.specs.Prelude.{◌≡◌, ◌||◌, if◌then◌else◌, All, IfOk};
 ghost use Rattle.std.specs.Prelude.{None, Some, option_copied};
 ghost use Rattle.geda_model.specs.Names.{IsLineByte};
 ghost use Rattle.attr_rules.specs.Components.{has_sources};
-ghost use Rattle.flat_sheets.specs.ListedParts.{is_no_part, under};
-ghost use Rattle.flat_sheets.specs.LabelSets.{AreLabelSets};
-ghost use Rattle.flat_sheets.specs.steps.ObjectContents.{role_in};
+ghost use Rattle.instance_objects.specs.Texts.{under};
+ghost use Rattle.flat_sheets.specs.ListedParts.{is_no_part};
+ghost use Rattle.flat_sheets.specs.Conductors.{role_of};
 
-use crate::ports::{LabelSets, is_port, pins_above};
-use crate::texts::line_under;
+use crate::ports::pins_above;
 use attr_rules::{has_sources, is_graphical, refdes_of};
 use geda_model::{Line, Object, Symbol};
 use hierarchy::Instance;
+use instance_objects::{InstanceObject, line_under};
 use link_classes::PortPins;
-use project_model::Project;
 use std::alloc::{AllocError, Global};
 use std::marker::Model;
 
@@ -63,21 +62,16 @@ fn printed_refdes(
     Ok(Some(line_under(alloc, &instance.path, refdes)?))
 }
 
-/// What a component is in an instance of its sheet (docs/RULES.md, "Packages" and "Ports"). The
-/// labels of components above are kept.
+/// What a component is in an instance of its sheet (docs/RULES.md, "Packages" and "Ports").
 pub fn role_of(
     alloc: Global,
-    project: &Project,
-    known: &mut LabelSets,
-    instance: &Instance,
-    object: &Object,
+    found: &InstanceObject<'_>,
     library: Option<&Symbol>,
 ) -> Result<Role, AllocError>
-    requires known { AreLabelSets project.now.contents known.old }
-    ensures role { IfOk result (λ role. role ≡
-        role_in project.now.contents instance.now object.now (option_copied library.entry)) }
-    ensures known { OnOk result (AreLabelSets project.now.contents known.new) }
+    ensures { IfOk result (λ role. role ≡
+        role_of found.now.project found.now.flat (option_copied library.entry)) }
 {
+    let object = found.object();
     let leads_down = has_sources(object, library);
     let Some(refdes) = refdes_of(object, library) else {
         return Ok(Role {
@@ -86,11 +80,11 @@ pub fn role_of(
             leads_up: None,
         });
     };
-    let is_port = is_port(alloc, project, known, instance, refdes)?;
+    let is_port = found.is_port(refdes);
     let is_unlisted = is_unlisted(object, library, leads_down, is_port);
     Ok(Role {
-        refdes: printed_refdes(alloc, is_unlisted, instance, refdes)?,
+        refdes: printed_refdes(alloc, is_unlisted, found.instance(), refdes)?,
         leads_down,
-        leads_up: pins_above(alloc, is_port, instance, refdes)?,
+        leads_up: pins_above(alloc, is_port, found.instance(), refdes)?,
     })
 }

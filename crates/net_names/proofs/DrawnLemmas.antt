@@ -23,9 +23,9 @@ use Rattle.pin_place.specs.declared.pins.PlacedPin.{PlacedPin}
 use Rattle.pin_place.specs.Pins.{conductors_of as drawn_on, drawn_end, pins_of}
 use Rattle.sheet_groups.specs.Conductors.{SheetConductor, conductors_at, sheet_conductor, sheet_conductors}
 use Rattle.link_classes.specs.declared.conductors.FlatConductor.{FlatConductor}
-use Rattle.flat_sheets.specs.Occurrences.{FlatObject, flat_objects}
+use Rattle.instance_objects.specs.Occurrences.{FlatObject, flat_objects}
+use Rattle.instance_objects.proofs.FlatObjects.{flat, with_body}
 use Rattle.flat_sheets.specs.Conductors.{RoleData, conductors_of, drawn_of, hidden_of, is_drawn, pin_conductor, role_of}
-use Rattle.flat_sheets.specs.steps.ObjectContents.{flat}
 use Rattle.net_names.proofs.FlatLemmas.{IsFlat, are_flat, is_flat_in}
 use Rattle.net_names.proofs.PlaceLemmas.{of_map}
 
@@ -53,10 +53,6 @@ pins_are place id role (pin ∷ pins) = by pin.end (pins_are place id role pins)
         → map seen (map (pin_conductor place id role) (filter is_drawn (with_end pin end ∷ pins))) ≡ map (seen_at place id) (filter_map drawn_end (with_end pin end ∷ pins))
     by None h = h
     by (Some at) h = ap (λ (rest : List Seen). seen_at place id (pin.place, End at) ∷ rest) h
-
--- an object with this body, in an instance
-abbrev with_body : FlatObject → Body → FlatObject
-with_body f body = flat f.place f.instance f.id (record { body = body; attrs = f.object.attrs })
 
 module _ (p : ProjectData) where
   -- what is drawn of an object in an instance is what is drawn of it on its sheet

@@ -24,10 +24,10 @@ use Rattle.hierarchy.specs.declared.instances.Instance.{Instance}
 use Rattle.hierarchy.specs.Instances.{instances_of}
 use Rattle.hierarchy.proofs.KnownLemmas.{known_by_object}
 use Rattle.hierarchy.proofs.ListLemmas.{all_filter_map, all_map, all_none, contains_filter_map, contains_map}
-use Rattle.flat_sheets.specs.Occurrences.{FlatObject, OccurrenceData, by_occurrence, flat_object, flat_objects, object_at, occurrences, occurrences_at, occurrences_from}
+use Rattle.instance_objects.specs.Occurrences.{FlatObject, OccurrenceData, by_occurrence, flat_object, flat_objects, object_at, occurrences, occurrences_at, occurrences_from}
 use Rattle.geda_defs.specs.Order.{is_equal}
-use Rattle.flat_sheets.specs.steps.ObjectContents.{flat}
-use Rattle.flat_sheets.specs.steps.SheetIds.{occurrence}
+use Rattle.instance_objects.specs.steps.SheetIds.{occurrence}
+use Rattle.instance_objects.proofs.FlatObjects.{flat}
 use Rattle.geda_defs.proofs.OnceLaws.{find_once, is_once_in_order}
 use Rattle.net_names.proofs.PlaceLemmas.{contains_filter, found, is_found, place_in}
 

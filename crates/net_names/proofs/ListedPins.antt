@@ -14,8 +14,8 @@ use Rattle.pin_place.specs.Pins.{pins_of}
 use Rattle.link_classes.specs.declared.conductors.FlatConductor.{FlatConductor}
 use Rattle.flat_sheets.specs.Conductors.{conductors_of, drawn_of, drawn_pins, hidden_of, hidden_pins, is_drawn, member_under, pin_conductor, role_of}
 use Rattle.flat_sheets.specs.ListedParts.{listed_refdes}
-use Rattle.flat_sheets.specs.Occurrences.{FlatObject, flat_objects}
-use Rattle.flat_sheets.specs.steps.ObjectContents.{flat}
+use Rattle.instance_objects.specs.Occurrences.{FlatObject, flat_objects}
+use Rattle.instance_objects.proofs.FlatObjects.{with_body}
 use Rattle.net_names.specs.NetLaws.{EachPinStands}
 use Rattle.net_names.proofs.PlaceLemmas.{contains_filter, place_in}
 
@@ -24,10 +24,6 @@ record IsOneOf (p : ProjectData) (f : FlatObject) (refdes : List ℕ) (pin : Pla
   conductor : FlatConductor
   there : Contains (drawn_of p f) conductor ⊎ Contains (hidden_of p f) conductor
   prints : conductor.member ≡ Some (member_under pin refdes)
-
--- an object with this body, in an instance
-abbrev with_body : FlatObject → Body → FlatObject
-with_body f body = flat f.place f.instance f.id (record { body = body; attrs = f.object.attrs })
 
 module _ (p : ProjectData) where
   -- a pin of a component that is listed is drawn or hidden

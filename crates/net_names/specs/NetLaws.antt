@@ -11,7 +11,7 @@ use Rattle.link_classes.specs.declared.member.Member.{Member}
 use Rattle.link_classes.specs.Links.{Linked}
 use Rattle.flat_sheets.specs.Conductors.{conductors_of, member_under}
 use Rattle.flat_sheets.specs.ListedParts.{listed_refdes}
-use Rattle.flat_sheets.specs.Occurrences.{FlatObject, flat_objects}
+use Rattle.instance_objects.specs.Occurrences.{FlatObject, flat_objects}
 use Rattle.net_names.specs.declared.nets.Net.{Net}
 
 -- no two nets have one name

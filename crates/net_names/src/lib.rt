@@ -18,5 +18,5 @@ mod taken;
 pub use flat_sheets::Package;
 pub use laws::{each_pin_has_one_net, each_stands_once, names_differ, one_net_list};
 pub use link_classes::Member;
-pub use net_list::join;
+pub use net_list::{join, join_objects};
 pub use nets::{Members, Net, NetList, NetSort, Nets, Packages};

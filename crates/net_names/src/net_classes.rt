@@ -11,7 +11,7 @@ use crate::gathering::GrowingClass;
 use crate::named::{NamedNet, net_of};
 use crate::names::CountedName;
 use crate::nets::NetSort;
-use flat_sheets::once_in_order;
+use instance_objects::once_in_order;
 use std::alloc::{AllocError, Global};
 use std::cmp::Ordering;
 use std::marker::Model;

@@ -11,10 +11,28 @@ use crate::packages::packages_of;
 use flat_sheets::{FlatProject, flatten};
 use geda_geom::Key;
 use hierarchy::Hierarchy;
+use instance_objects::InstanceObjects;
 use link_classes::class_labels;
 use project_model::Project;
 use std::alloc::{AllocError, Global};
 use std::collections::BTreeMap;
+
+/// The net list of a project by its objects in the instances of its sheets, with these groups of
+/// touching conductors (docs/RULES.md, "Nets", "Packages", "Names of nets").
+pub fn join_objects(
+    alloc: Global,
+    objects: &InstanceObjects<'_>,
+    groups: &BTreeMap<Key, Key>,
+) -> Result<Nets, AllocError>
+    requires groups { AreGroups (sheet_conductors objects.now) groups.now.entries }
+    ensures { IfOk result (IsNetListOf objects.now) }
+{
+    let FlatProject { conductors, parts } = flatten(alloc, objects)?;
+    let packages = packages_of(alloc, parts)?;
+    let labels = class_labels(alloc, conductors.as_slice(), groups)?;
+    let nets = nets_by(alloc, conductors, labels.as_slice())?;
+    Ok(Nets { packages, nets })
+}
 
 /// The net list of a project with this hierarchy and these groups of touching conductors
 /// (docs/RULES.md, "Nets", "Packages", "Names of nets").
@@ -28,13 +46,6 @@ pub fn join(
     requires groups { AreGroups (sheet_conductors project.now.contents) groups.now.entries }
     ensures { IfOk result (IsNetListOf project.now.contents) }
 {
-    let FlatProject { conductors, parts } = flatten(
-        alloc,
-        project,
-        hierarchy.instances.as_slice(),
-    )?;
-    let packages = packages_of(alloc, parts)?;
-    let labels = class_labels(alloc, conductors.as_slice(), groups)?;
-    let nets = nets_by(alloc, conductors, labels.as_slice())?;
-    Ok(Nets { packages, nets })
+    let objects = InstanceObjects::of(alloc, project, hierarchy.instances.as_slice())?;
+    join_objects(alloc, &objects, groups)
 }

@@ -1,5 +1,5 @@
 -- What a net list comes to, when more is made of it.
-use Rattle.std.proofs.Common.{Result, Ok, inl, inr, ap}
+use Rattle.std.proofs.Common.{Result, inl, inr, ap}
 use Rattle.std.specs.Result.{result_map_both}
 use Rattle.project_model.specs.Projects.{ProjectData}
 use Rattle.net_names.specs.declared.nets.Nets.{Nets}

@@ -7,10 +7,11 @@ ghost use Rattle.reports.specs.NetLists.{Elaborates, OfNetList, checked, seen};
 use crate::check_report::{Check, reported};
 use backends::{Form, net_text};
 use board_core::Board;
-use drc_rules::{Matrix, findings};
+use drc_rules::{Matrix, findings_on};
 use geda_geom::Key;
 use hierarchy::{ElabFault, elaborate};
-use net_names::{Nets, join};
+use instance_objects::InstanceObjects;
+use net_names::{Nets, join, join_objects};
 use project_model::Project;
 use sheet_groups::local_groups;
 use std::alloc::{AllocError, Global};
@@ -67,7 +68,8 @@ pub(crate) fn board_report(alloc: Global, form: Form, board: &Board) -> Result<V
     net_report_by(alloc, form, board.project(), &groups)
 }
 
-/// The report of the check of a project with these groups, under a matrix.
+/// The report of the check of a project with these groups, under a matrix. Its objects in instances
+/// are made once, for the net list and for the findings.
 fn check_by(
     alloc: Global,
     matrix: &Matrix,
@@ -80,8 +82,9 @@ fn check_by(
         project.now.contents) result }
 {
     let hierarchy = elaborate(alloc, project)?;
-    let nets = join(alloc, project, &hierarchy, groups)?;
-    let found = findings(alloc, project, &hierarchy, &nets, matrix)?;
+    let objects = InstanceObjects::of(alloc, project, hierarchy.instances.as_slice())?;
+    let nets = join_objects(alloc, &objects, groups)?;
+    let found = findings_on(alloc, &objects, hierarchy.lost.as_slice(), &nets, matrix)?;
     Ok(reported(alloc, &found)?)
 }
 

@@ -8,14 +8,14 @@ ghost use Rattle.project_model.specs.Projects.{ProjectData, is_on};
 ghost use Rattle.geda_model.specs.declared.object.Body.TheVariants as bodies;
 ghost use Rattle.geda_grammar.specs.Canonical.{sheet_text};
 ghost use Rattle.printed_texts.specs.PrintedTexts.{word};
-ghost use Rattle.flat_sheets.specs.SheetIds.{AreIdsBySheet};
+ghost use Rattle.instance_objects.specs.SheetIds.{AreIdsBySheet};
 ghost use Rattle.reports.specs.SheetTexts.{letter_of, object_line, objects_on, objects_text};
 ghost use Rattle.reports.specs.SheetTexts.{sheet_line, sheet_of, sheets_text};
 ghost use Rattle.reports.specs.steps.Rows.{row_text};
 
-use flat_sheets::{ids_at, ids_by_sheet};
 use geda_model::{Body, Head, Items, Name, Object, Shape};
 use geda_write::{head_text, object_text};
+use instance_objects::{ids_at, ids_by_sheet};
 use printed_texts::put_word;
 use project_model::{Placed, Project};
 use std::alloc::{AllocError, Global};

@@ -1,34 +1,23 @@
 -- Steps of the code; no public clause cites them.
 -- What each object adds to the conductors and the listed parts of a project.
 use Rattle.std.specs.Prelude.{ℕ, ◌&&◌, if◌then◌else◌, not, List, [], ◌∷◌, Option, Some, None, codes, is_some, map}
-use Rattle.std.specs.FinMap.{get}
-use Rattle.std.specs.List.{flat_map, slice_get}
+use Rattle.std.specs.List.{flat_map}
 use Rattle.std.specs.Option.{option_to_list}
 use Rattle.geda_model.specs.declared.shape.Shape.{Shape}
 use Rattle.geda_model.specs.declared.shape.Shape.TheVariants as shapes
-use Rattle.geda_model.specs.Sheets.{ObjectData, SymbolData}
 use Rattle.project_model.specs.Projects.{ProjectData}
 use Rattle.attr_rules.specs.Attributes.{attached}
-use Rattle.attr_rules.specs.Components.{has_sources, refdes_of}
 use Rattle.attr_rules.specs.Libraries.{library_of}
-use Rattle.hierarchy.specs.declared.instances.Instance.{Instance}
 use Rattle.pin_place.specs.declared.pins.PlacedPin.{PlacedPin}
 use Rattle.pin_place.specs.Pins.{pins_of}
 use Rattle.pin_place.specs.SymbolPins.{point}
 use Rattle.link_classes.specs.declared.conductors.FlatConductor.{FlatConductor}
+use Rattle.instance_objects.specs.Occurrences.{FlatObject, OccurrenceData, object_at}
+use Rattle.instance_objects.specs.Texts.{under}
 use Rattle.flat_sheets.specs.declared.package.Package.{Package}
-use Rattle.flat_sheets.specs.Occurrences.{FlatObject, OccurrenceData, flat_object, object_at}
-use Rattle.flat_sheets.specs.Ports.{pins_above}
-use Rattle.flat_sheets.specs.ListedParts.{listed_part, package_under, refdes_in, under}
-use Rattle.flat_sheets.specs.Conductors.{RoleData, drawn_of, hidden_of, is_drawn, pin_conductor, segment_conductor}
-
--- the role of a component with a library symbol in an instance
-abbrev pub role_in : ProjectData → Instance → ObjectData → Option SymbolData → RoleData
-role_in p i o library = record {
-  refdes = refdes_in p i o library;
-  leads_down = has_sources o library;
-  leads_up = pins_above p i (refdes_of o library);
-}
+use Rattle.flat_sheets.specs.ListedParts.{listed_part, package_under}
+use Rattle.flat_sheets.specs.Conductors.{RoleData, drawn_of, hidden_of, is_drawn, pin_conductor}
+use Rattle.flat_sheets.specs.Conductors.{role_of, segment_conductor}
 
 -- the pin, if it is drawn
 abbrev pub drawn_pin : ℕ → ℕ → RoleData → PlacedPin → List FlatConductor
@@ -40,38 +29,31 @@ abbrev pub hidden_pin : ℕ → ℕ → RoleData → PlacedPin → List FlatCond
 hidden_pin place id role pin =
     if is_some role.refdes && not (is_drawn pin) then pin_conductor place id role pin ∷ [] else []
 
--- an object as it stands in the instance at a place
-abbrev pub flat : ℕ → Instance → ℕ → ObjectData → FlatObject
-flat place i id o = record { place = place; instance = i; id = id; object = o }
-
 -- what is drawn of an object that is this shape: a segment with its `netname`s
-abbrev pub drawn_of_shape : ℕ → Instance → ℕ → ObjectData → Shape → List FlatConductor
-drawn_of_shape place i id o (shapes.Net x1 y1 x2 y2 color) =
-    segment_conductor place id (map (under i.path) (attached o (codes "netname")))
+abbrev pub drawn_of_shape : FlatObject → Shape → List FlatConductor
+drawn_of_shape f (shapes.Net x1 y1 x2 y2 color) =
+    segment_conductor f.place f.id
+    (map (under f.instance.path) (attached f.object (codes "netname")))
     (point x1 y1) (point x2 y2) ∷ []
-drawn_of_shape place i id o other = []
+drawn_of_shape f other = []
 
 -- the role of a component of the project
-abbrev pub role_at : ProjectData → Instance → ObjectData → RoleData
-role_at p i o = role_in p i o (library_of p o)
+abbrev pub role_at : ProjectData → FlatObject → RoleData
+role_at p f = role_of p f (library_of p f.object)
 
 -- the drawn pins of a component
-abbrev pub drawn_of_component : ProjectData → ℕ → Instance → ℕ → ObjectData → List FlatConductor
-drawn_of_component p place i id o =
-    flat_map (drawn_pin place id (role_at p i o)) (pins_of o (library_of p o))
+abbrev pub drawn_of_component : ProjectData → FlatObject → List FlatConductor
+drawn_of_component p f =
+    flat_map (drawn_pin f.place f.id (role_at p f)) (pins_of f.object (library_of p f.object))
 
 -- its hidden pins
-abbrev pub hidden_of_component : ProjectData → ℕ → Instance → ℕ → ObjectData → List FlatConductor
-hidden_of_component p place i id o =
-    flat_map (hidden_pin place id (role_at p i o)) (pins_of o (library_of p o))
+abbrev pub hidden_of_component : ProjectData → FlatObject → List FlatConductor
+hidden_of_component p f =
+    flat_map (hidden_pin f.place f.id (role_at p f)) (pins_of f.object (library_of p f.object))
 
 -- what it says of its package, if it is a listed part
-abbrev pub part_of_component : ProjectData → Instance → ObjectData → Option Package
-part_of_component p i o = package_under o (library_of p o) (role_at p i o).refdes
-
--- the object of an id in the instance at a place of some instances
-abbrev pub object_in : ProjectData → List Instance → ℕ → ℕ → Option FlatObject
-object_in p is place id = flat_object place id (slice_get is place) (get p.objects id)
+abbrev pub part_of_component : ProjectData → FlatObject → Option Package
+part_of_component p f = package_under f.object (library_of p f.object) (role_at p f).refdes
 
 -- what is drawn of an object, if there is one
 abbrev pub drawn_if : ProjectData → Option FlatObject → List FlatConductor

@@ -1,13 +1,9 @@
 use Rattle.std.proofs.Common.{◌≡◌, ◌++◌, drop}
 use Rattle.std.specs.List.{filter_map}
-use Rattle.flat_sheets.specs.LabelSets.{AreLabelSets}
 use Rattle.component_checks.specs.steps.CheckedObjects.{checked_at}
 use Rattle.component_checks.proofs.project.components_among.Given as goal
 
 abbrev pub invariant-loop-occurrence : goal.invariant-loop-occurrence
-invariant-loop-occurrence l = record {
-  components :
-      l.components.items ++ filter_map (checked_at l.project.contents) (drop l.occurrence-index l.occurrences)
-      ≡ filter_map (checked_at l.project.contents) l.occurrences;
-  known : AreLabelSets l.project.contents l.known;
-}
+invariant-loop-occurrence l =
+    l.components.items ++ filter_map (checked_at l.objects) (drop l.occurrence-index l.occurrences)
+    ≡ filter_map (checked_at l.objects) l.occurrences

@@ -1,12 +1,10 @@
 use Rattle.std.proofs.Common.{◌≡◌, ◌++◌, drop}
 use Rattle.flat_sheets.specs.steps.ObjectContents.{drawn_in, hidden_in, parts_in}
-use Rattle.flat_sheets.specs.LabelSets.{AreLabelSets}
 use Rattle.flat_sheets.proofs.contents.contents_of.Given as goal
 
 abbrev pub invariant-loop-occurrence : goal.invariant-loop-occurrence
 invariant-loop-occurrence l = record {
-  drawn : l.contents.conductors.drawn.items ++ drawn_in l.project.contents (drop l.occurrence-index l.occurrences) ≡ drawn_in l.project.contents l.occurrences;
-  hidden : l.contents.conductors.hidden.items ++ hidden_in l.project.contents (drop l.occurrence-index l.occurrences) ≡ hidden_in l.project.contents l.occurrences;
-  parts : l.contents.parts.items ++ parts_in l.project.contents (drop l.occurrence-index l.occurrences) ≡ parts_in l.project.contents l.occurrences;
-  labels : AreLabelSets l.project.contents l.contents.labels;
+  drawn : l.contents.conductors.drawn.items ++ drawn_in l.objects (drop l.occurrence-index l.occurrences) ≡ drawn_in l.objects l.occurrences;
+  hidden : l.contents.conductors.hidden.items ++ hidden_in l.objects (drop l.occurrence-index l.occurrences) ≡ hidden_in l.objects l.occurrences;
+  parts : l.contents.parts.items ++ parts_in l.objects (drop l.occurrence-index l.occurrences) ≡ parts_in l.objects l.occurrences;
 }

@@ -1,6 +1,6 @@
 use Rattle.std.proofs.Common.{◌≡◌, ◌++◌, map}
 use Rattle.std.specs.Vec.Iter.{into_iter_items}
-use Rattle.flat_sheets.specs.ListedParts.{under}
+use Rattle.instance_objects.specs.Texts.{under}
 use Rattle.flat_sheets.proofs.texts.names_under.Given as goal
 
 abbrev pub invariant-loop-name : goal.invariant-loop-name

@@ -1,7 +1,7 @@
 use Rattle.std.proofs.Common.{◌≡◌, ◌++◌, drop}
 use Rattle.std.specs.List.{flat_map}
 use Rattle.project_model.specs.Projects.{ProjectData}
-use Rattle.flat_sheets.specs.SheetIds.{AreIdsBySheet}
+use Rattle.instance_objects.specs.SheetIds.{AreIdsBySheet}
 use Rattle.reports.specs.SheetTexts.{sheet_line}
 use Rattle.reports.proofs.sheet_texts.sheet_lines.Given as goal
 

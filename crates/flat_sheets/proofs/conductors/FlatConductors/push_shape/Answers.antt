@@ -12,5 +12,5 @@ returns-in_ok-push-in-Net-clause-drawn c =
     let x2 : SFits w32 c.in-Net.x2 = search rules in
     let y2 : SFits w32 c.in-Net.y2 = search rules in
     let items = simp to_z-of_z at c.in_ok-push-in-Net.ensures.items in
-    let attached = attrs-of_shape (codes "netname") c.args.object.now c.args.shape.now c.requires.body in
-    rw (items, c.from_vec.ensures, c.new.ensures.items, c.from_vec-in-Net.ensures, c.in_ok-printed-in-Net.ensures, c.into_vec.ensures, c.in_ok-names-in-Net.ensures, attached, c.in-Net.is) refl
+    let attached = attrs-of_shape (codes "netname") c.args.found.now.flat.object c.args.shape.now c.requires.body in
+    rw (items, c.place.ensures, c.id.ensures, c.from_vec.ensures, c.new.ensures.items, c.from_vec-in-Net.ensures, c.in_ok-printed-in-Net.ensures, c.into_vec.ensures, c.in_ok-names-in-Net.ensures, c.object.ensures, c.instance.ensures, attached, c.in-Net.is) refl

@@ -1,8 +1,0 @@
-use Rattle.std.proofs.Common.{◌≡◌, ◌++◌, drop, map}
-use Rattle.flat_sheets.specs.steps.SheetIds.{occurrence}
-use Rattle.flat_sheets.proofs.order.push_ids.Given as goal
-
-abbrev pub invariant-loop-id : goal.invariant-loop-id
-invariant-loop-id l =
-    l.listed.items ++ map (occurrence l.place l.instance) (drop l.id-index l.ids)
-    ≡ l.fn.listed.items ++ map (occurrence l.place l.instance) l.ids

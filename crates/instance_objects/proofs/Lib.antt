@@ -1,0 +1,6 @@
+pub mod Outcomes
+pub mod SheetIdLemmas
+pub mod LabelLemmas
+pub mod LineLemmas
+pub mod Cases
+pub mod FlatObjects

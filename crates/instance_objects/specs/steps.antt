@@ -1,0 +1,3 @@
+-- Steps of the code; no public clause cites them.
+pub mod SheetIds
+pub mod LabelSets
