@@ -18,8 +18,7 @@ fn put_in(alloc: Global, board: &mut Board, change: &Change, bound: u64) -> Resu
     ensures sum { IfOk result (AddsBound board.old.project change.now.items bound) }
     ensures sound { IsSoundBoard board.old bound → IfOk result (IsSoundBoard board.new) }
 {
-    let more = board.bound(alloc, change)?;
-    board.apply(alloc, change)?;
+    let more = board.apply_with_bound(alloc, change)?;
     Ok(bound.saturating_add(more))
 }
 
