@@ -47,7 +47,8 @@ unfolding IsStrictlySortedBy
 rise_without [] cs c h = h.1
 rise_without (k ∷ kept) cs c h = (all_without (λ q. by_key k.key q ≡ Less) kept cs c h.0, rise_without kept cs c h.1)
 
-behind : (kept cs : List SheetConductor) (c : SheetConductor) → slice_get (kept ++ c ∷ cs) (length kept) ≡ Some c
+-- a conductor behind others
+pub behind : (kept cs : List SheetConductor) (c : SheetConductor) → slice_get (kept ++ c ∷ cs) (length kept) ≡ Some c
 behind [] cs c = refl
 behind (k ∷ kept) cs c = behind kept cs c
 

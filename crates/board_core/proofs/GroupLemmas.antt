@@ -35,7 +35,8 @@ turn_touch (Some c) (Some d) t = record { together = sym t.together; touch = tou
 turn_touch (Some c) None t = absurd t
 turn_touch None p t = absurd t
 
-within : {X : Type 0} (xs : List X) (i : ℕ) (x : X) → slice_get xs i ≡ Some x → i < length xs
+-- what stands at a place is in the list
+pub within : {X : Type 0} (xs : List X) (i : ℕ) (x : X) → slice_get xs i ≡ Some x → i < length xs
 within [] i x e = absurd (none-some x e)
 within (y ∷ xs) zero x e = omega arith
 within (y ∷ xs) (suc i) x e = let rest = within xs i x e in omega arith
@@ -135,11 +136,11 @@ module _ (cs : List SheetConductor) (rise : Rise cs) where
 
   module _ (i : ℕ) (c : SheetConductor) (here_ : slice_get cs i ≡ Some c) where
     -- a chain of places is one of keys
-    record Reaches (j : ℕ) : Type 0 where
-      conductor : SheetConductor
-      there : slice_get cs j ≡ Some conductor
-      together : conductor.sheet ≡ c.sheet
-      joined : Joined (IsNeighbour (get (by_sheet cs c.sheet))) c.key conductor.key
+    pub record Reaches (j : ℕ) : Type 0 where
+      pub conductor : SheetConductor
+      pub there : slice_get cs j ≡ Some conductor
+      pub together : conductor.sheet ≡ c.sheet
+      pub joined : Joined (IsNeighbour (get (by_sheet cs c.sheet))) c.key conductor.key
 
     reaches_more : (k j : ℕ) → Reaches k → TouchAt cs k j → Reaches j
     reaches_more k j r t = by (slice_get cs j) refl (subst (λ o. DoTouch o (slice_get cs j)) r.there t)
@@ -161,19 +162,19 @@ module _ (cs : List SheetConductor) (rise : Rise cs) where
             let same : x.sheet ≡ c.sheet = sym t.together ∙ r.together in
             record { conductor = x; there = e; together = same; joined = link x e t same (keys.same_or_apart x.key r.conductor.key) }
 
-    reaches : (j : ℕ) → Joined (TouchAt cs) i j → Reaches j
+    pub reaches : (j : ℕ) → Joined (TouchAt cs) i j → Reaches j
     reaches j joined =
         along (TouchAt cs) Reaches reaches_more i j
         (record { conductor = c; there = here_; together = refl; joined = joined_itself (IsNeighbour (get (by_sheet cs c.sheet))) c.key }) joined
 
     -- a chain of keys is one of places
-    record IsReached (q : Key) : Type 0 where
-      place : ℕ
-      conductor : SheetConductor
-      there : slice_get cs place ≡ Some conductor
-      key : conductor.key ≡ q
-      together : conductor.sheet ≡ c.sheet
-      joined : Joined (TouchAt cs) i place
+    pub record IsReached (q : Key) : Type 0 where
+      pub place : ℕ
+      pub conductor : SheetConductor
+      pub there : slice_get cs place ≡ Some conductor
+      pub key : conductor.key ≡ q
+      pub together : conductor.sheet ≡ c.sheet
+      pub joined : Joined (TouchAt cs) i place
 
     reached_more : (q r : Key) → IsReached q → IsNeighbour (get (by_sheet cs c.sheet)) q r → IsReached r
     reached_more q r w n = by (get (by_sheet cs c.sheet) r) refl n.touch
@@ -195,7 +196,7 @@ module _ (cs : List SheetConductor) (rise : Rise cs) where
               joined = joined_more (TouchAt cs) i w.place at.0 w.joined (subst (λ o. DoTouch o (slice_get cs at.0)) (sym w.there) (subst (λ o. DoTouch (Some w.conductor) o) (sym at.1) touching));
             }
 
-    reached : (q : Key) → Joined (IsNeighbour (get (by_sheet cs c.sheet))) c.key q → IsReached q
+    pub reached : (q : Key) → Joined (IsNeighbour (get (by_sheet cs c.sheet))) c.key q → IsReached q
     reached q joined =
         along (IsNeighbour (get (by_sheet cs c.sheet))) IsReached reached_more c.key q
         (record { place = i; conductor = c; there = here_; key = refl; together = refl; joined = joined_itself (TouchAt cs) i }) joined

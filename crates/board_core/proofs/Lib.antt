@@ -16,3 +16,4 @@ pub mod RegroupLemmas
 pub mod BoardLemmas
 pub mod OpenLemmas
 pub mod LabelLemmas
+pub mod LocalLemmas

@@ -4,3 +4,4 @@ pub mod ChangedThings
 pub mod Sizes
 pub mod Standing
 pub mod Kept
+pub mod Reading

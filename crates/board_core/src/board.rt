@@ -10,6 +10,7 @@ ghost use Rattle.board_core.specs.Boards.{IsCounted, MayGiveUp, RenewsGroups, St
 
 use crate::bound::bound_of;
 use crate::grouped::grouped;
+use crate::local::kept_groups;
 use crate::put_in::with_room;
 use crate::regroup::regroup;
 use geda_geom::Key;
@@ -167,11 +168,15 @@ impl Board {
         bound_of(alloc, &self.project, change)
     }
 
-    /// The key of each conductor with the least key of its group (docs/RULES.md, "Groups").
+    /// The key of each conductor with the least key of its group (docs/RULES.md, "Groups"). Where
+    /// some groups are given up, all sheets are grouped anew for this call.
     pub fn local_groups(&self, alloc: Global) -> Result<BTreeMap<Key, Key>, AllocError>
         ensures { IfOk result
             (λ groups. AreGroups (sheet_conductors self.now.project) groups.entries) }
     {
-        local_groups(alloc, &self.project)
+        if !self.groups.is_fresh() {
+            return local_groups(alloc, &self.project);
+        }
+        kept_groups(alloc, &self.project, &self.groups)
     }
 }

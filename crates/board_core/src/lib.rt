@@ -9,6 +9,7 @@ mod bound;
 mod changed;
 mod drawn;
 mod grouped;
+mod local;
 mod put_in;
 mod regroup;
 mod renewing;
