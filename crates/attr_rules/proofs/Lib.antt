@@ -3,4 +3,6 @@ pub mod Picks
 pub mod Cutting
 pub mod Trims
 pub mod WordLemmas
+pub mod SeenLemmas
+pub mod LeftNumbers
 pub mod Cases

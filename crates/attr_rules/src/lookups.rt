@@ -1,7 +1,8 @@
 // Looking up attributes by name.
 ghost use Rattle.std.specs.Prelude.{◌≡◌, ◌==◌, ◌≤◌, ◌++◌, IfOk, OnOk, length, option_copied};
 ghost use Rattle.std.specs.List.{filter_map, slice_get, starts_with};
-ghost use Rattle.attr_rules.specs.Attributes.{value_named, values_named, free_text, parts_of, attr, attrs};
+ghost use Rattle.attr_rules.specs.Attributes.{all_attrs, attached, attr, attrs, free_text};
+ghost use Rattle.attr_rules.specs.Attributes.{inherited, parts_of, value_named, values_named};
 ghost use Rattle.attr_rules.specs.steps.PartValues.{has_equals_at, value_in_part};
 
 use crate::splits::split_attr;
@@ -165,5 +166,53 @@ pub fn attrs_of(
     if values.is_empty() {
         push_from_parts(alloc, parts_of(object, library), name, &mut values)?;
     }
+    Ok(Items::from_vec(values))
+}
+
+/// The values of an object's attached attributes of a name, in order.
+pub(crate) fn attached_of(
+    alloc: Global,
+    object: &Object,
+    name: &str,
+) -> Result<Vec<Block>, AllocError>
+    ensures { IfOk result (λ values. values.items ≡ attached object.now name.now) }
+{
+    let mut values = Vec::new(alloc);
+    push_from_texts(alloc, object.attrs.as_slice(), name, &mut values)?;
+    Ok(values)
+}
+
+/// The values of an object's inherited attributes of a name, in order.
+pub(crate) fn inherited_of(
+    alloc: Global,
+    object: &Object,
+    library: Option<&Symbol>,
+    name: &str,
+) -> Result<Vec<Block>, AllocError>
+    ensures { IfOk result (λ values. values.items
+        ≡ inherited object.now (option_copied library.entry) name.now) }
+{
+    let mut values = Vec::new(alloc);
+    push_from_parts(alloc, parts_of(object, library), name, &mut values)?;
+    Ok(values)
+}
+
+/// The values of all attributes of a name that an object has: the attached ones, then the inherited
+/// ones (docs/RULES.md, "Attributes").
+///
+/// A component inherits from its embedded symbol, else from `library`. The values stand in the
+/// order of their texts.
+#[tactic(auto, unfolding(crate::specs::Attributes::all_attrs))]
+pub fn all_attrs_of(
+    alloc: Global,
+    object: &Object,
+    library: Option<&Symbol>,
+    name: &str,
+) -> Result<Items<Block>, AllocError>
+    ensures { IfOk result
+        (λ values. values ≡ all_attrs object.now (option_copied library.entry) name.now) }
+{
+    let mut values = attached_of(alloc, object, name)?;
+    push_from_parts(alloc, parts_of(object, library), name, &mut values)?;
     Ok(Items::from_vec(values))
 }

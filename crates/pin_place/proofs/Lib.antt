@@ -1,4 +1,3 @@
-pub mod SeenLemmas
 pub mod TableLemmas
 pub mod HiddenLemmas
 pub mod EndLemmas

@@ -12,7 +12,7 @@ use Rattle.geda_defs.specs.Lists.{with_new}
 use Rattle.attr_rules.specs.declared.nets.NetEntry.{NetEntry}
 use Rattle.pin_place.specs.GlobalNames.{global_names, lists_number}
 use Rattle.pin_place.specs.steps.NameRows.{HasNumbers, NameRows, given, given_each, listed_or_new, names_at, row_at}
-use Rattle.pin_place.proofs.SeenLemmas.{either, one_or}
+use Rattle.attr_rules.proofs.SeenLemmas.{either, one_or}
 
 -- the row of a number changes
 abbrev pub Changes : NameRows → NameRows → List ℕ → Option (List (List ℕ)) → Type 0

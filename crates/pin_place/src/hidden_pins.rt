@@ -1,7 +1,7 @@
 // The pins of a component that are not drawn.
 ghost use Rattle.std.specs.Prelude.{List, ℕ, ◌≡◌, IfOk, filter, map, not};
 ghost use Rattle.pin_place.specs.Pins.{has_number, hidden_pin, hidden_pins};
-ghost use Rattle.pin_place.specs.steps.LentTexts.{has_text, texts};
+ghost use Rattle.attr_rules.specs.steps.LentTexts.{has_text, texts};
 
 use crate::global_names::GlobalNames;
 use crate::pins::PlacedPin;
