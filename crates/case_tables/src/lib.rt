@@ -9,8 +9,10 @@ mod case_fault;
 mod cells;
 mod table;
 mod table_files;
+mod words;
 
 pub use case_fault::CaseFault;
 pub use cells::{bytes_of, cell, name_of, number_of, numbered, option_in, text_in, text_of};
 pub use table::{Asked, Case, report};
 pub use table_files::TableFiles;
+pub use words::{arguments_of, failing_calls};

@@ -1,5 +1,5 @@
 // The kinds of cases.
-use crate::{boards, changes, hierarchies, programs, rewrites};
+use crate::{programs, rewrites};
 use case_tables::{Asked, Case, CaseFault, TableFiles, report};
 use std::alloc::{AllocError, Global};
 use std::sync::Wait;
@@ -30,10 +30,6 @@ fn question<W: Threads + Wait + Sync>(
     match kind {
         "program" => programs::lines(rt, alloc, words, files),
         "contents" => rewrites::contents(rt, alloc, words, files),
-        "instances" => hierarchies::instances(alloc, words, files),
-        "groups" => boards::groups(alloc, words, files),
-        "bound" => boards::bound(alloc, words, files),
-        "changed" => changes::changed(alloc, words, files),
         _ => Err(CaseFault::BadCase),
     }
 }

@@ -1,17 +1,13 @@
 //! Computes again the cases of the tables that its arguments name, by the whole program over folders
-//! and sinks in memory, and by the public calls on projects. It prints for each table how many cases
-//! there are, and each that came out otherwise.
+//! and sinks in memory. It prints for each table how many cases there are, and each that came out
+//! otherwise.
 //!
 //! The tables are in data/, with what each rule wants; data/README.txt says how they are written.
 //! The first argument has the files that all tables share.
 #![tactic(auto)]
 
 mod answers;
-mod boards;
-mod changes;
-mod hierarchies;
 mod programs;
-mod projects;
 mod rewrites;
 
 use answers::program_report;

@@ -1,6 +1,6 @@
 // The whole program on the files of a table.
-use crate::projects::{arguments_of, folder_of};
-use case_tables::{CaseFault, TableFiles, cell, text_in, text_of};
+use case_projects::folder_of;
+use case_tables::{CaseFault, TableFiles, arguments_of, cell, failing_calls, text_in, text_of};
 use gafd_run::{MemorySink, run};
 use gates::MemoryGate;
 use hall_core::Places;
@@ -26,18 +26,6 @@ fn call_of(number: &str) -> Result<u64, CaseFault> {
         Ok(number) => Ok(number),
         Err(_) => Err(CaseFault::BadCase),
     }
-}
-
-/// The numbers of the calls of one of `folder`, `out` and `err` that are to fail, as in `folder:2`.
-pub fn failing_calls(alloc: Global, failing: &str, whose: &str) -> Result<Vec<u64>, CaseFault> {
-    let mut calls = Vec::new(alloc);
-    for word in failing.split_whitespace() {
-        let (name, number) = word.split_once(':').ok_or(CaseFault::BadCase)?;
-        if name == whose {
-            calls.push(call_of(number)?)?;
-        }
-    }
-    Ok(calls)
 }
 
 fn sink(alloc: Global, failing: &str, whose: &str) -> Result<MemorySink, CaseFault> {

@@ -1,7 +1,7 @@
 // Runs of the program that write files, and what they write.
-use crate::programs::{failing_calls, put_lines, ran_lines, ran_text, run_in};
-use crate::projects::{arguments_of, folder_of};
-use case_tables::{CaseFault, TableFiles, cell, text_in, text_of};
+use crate::programs::{put_lines, ran_lines, ran_text, run_in};
+use case_projects::folder_of;
+use case_tables::{CaseFault, TableFiles, arguments_of, cell, failing_calls, text_in, text_of};
 use project_files::MemoryFolder;
 use std::alloc::{AllocError, Global};
 use std::collections::BTreeMap;

@@ -4,7 +4,6 @@
 use crate::held_keeper::HeldCall;
 use crate::scripts::milestone_of;
 use case_tables::{CaseFault, number_of};
-use std::alloc::{AllocError, Global};
 
 /// What a case asks. What it does not say is empty.
 #[derive(Clone, Copy)]
@@ -38,28 +37,6 @@ pub fn serving_case(text: &str) -> ServingCase<'_> {
         failing,
         held,
     }
-}
-
-/// The words as arguments.
-pub fn arguments_of(alloc: Global, words: &str) -> Result<Vec<String>, AllocError> {
-    let mut list = Vec::new(alloc);
-    for word in words.split_whitespace() {
-        list.push(String::from_str(alloc, word)?)?;
-    }
-    Ok(list)
-}
-
-/// The numbers of the calls of one of `keeper`, `gate`, `out` and `err` that are to fail, as in
-/// `keeper:2`.
-pub fn failing_calls(alloc: Global, failing: &str, whose: &str) -> Result<Vec<u64>, CaseFault> {
-    let mut calls = Vec::new(alloc);
-    for word in failing.split_whitespace() {
-        let (name, number) = word.split_once(':').ok_or(CaseFault::BadCase)?;
-        if name == whose {
-            calls.push(u64::from(number_of(number)?))?;
-        }
-    }
-    Ok(calls)
 }
 
 /// The call that waits, as in `8 until bob 1`, where the connections have these names.

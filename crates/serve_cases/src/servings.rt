@@ -1,10 +1,10 @@
 // The whole program over what is in memory.
-use crate::case_words::{ServingCase, arguments_of, failing_calls, held_call_of};
+use crate::case_words::{ServingCase, held_call_of};
 use crate::held_keeper::{HeldCall, HeldKeeper};
 use crate::progress::{Progress, Traces};
 use crate::scripts::{name_count, script_of};
 use crate::shared_link::SharedLink;
-use case_tables::{CaseFault, TableFiles};
+use case_tables::{CaseFault, TableFiles, arguments_of, failing_calls};
 use edit_entries::Entry;
 use gafd_run::{MemorySink, run};
 use gates::MemoryGate;

@@ -1,7 +1,7 @@
 // Groups of a board, and what a change of it may cost.
 use crate::changes::change_of;
-use crate::projects::project_in;
 use board_core::Board;
+use case_projects::project_in;
 use case_tables::{CaseFault, TableFiles};
 use std::alloc::{AllocError, Global};
 

@@ -1,5 +1,5 @@
 // Hierarchies of the sheets of a table.
-use crate::projects::project_in;
+use case_projects::project_in;
 use case_tables::{CaseFault, TableFiles};
 use hierarchy::{Hierarchy, Lost, elaborate};
 use std::alloc::{AllocError, Global};

@@ -2,11 +2,20 @@
 ghost use Rattle.std.specs.Prelude.{IfOk};
 ghost use Rattle.project_model.specs.Changes.{CanApply};
 
-use crate::projects::{project_in, read};
+use case_projects::project_in;
 use case_tables::{CaseFault, TableFiles, name_of, number_of};
-use geda_read::read_symbol;
+use geda_read::{ReadFault, read_symbol};
 use project_model::{Change, Project, Thing, Value};
 use std::alloc::{AllocError, Global};
+
+/// What was read of bytes.
+fn read<T: Drop>(read: Result<T, ReadFault>) -> Result<T, CaseFault> {
+    match read {
+        Ok(value) => Ok(value),
+        Err(ReadFault::At { .. }) => Err(CaseFault::BadCase),
+        Err(ReadFault::NoMemory) => Err(CaseFault::NoMemory),
+    }
+}
 
 /// The change that gives the symbol of a name the parts of a file.
 fn symbol_change(

@@ -1,23 +1,13 @@
 // Folders and projects of the files of a table.
 ghost use Rattle.std.specs.Prelude.{◌≢◌, AllPairs};
 
-use case_tables::{CaseFault, TableFiles, name_of, number_of, numbered};
+use case_tables::{CaseFault, TableFiles, arguments_of, name_of};
 use command_words::{Command, command_of};
 use geda_model::{Items, Name};
-use geda_read::ReadFault;
 use project_files::{MemoryFolder, project_of};
 use project_model::Project;
 use std::alloc::Global;
 use std::collections::BTreeMap;
-
-/// What was read of bytes.
-pub fn read<T: Drop>(read: Result<T, ReadFault>) -> Result<T, CaseFault> {
-    match read {
-        Ok(value) => Ok(value),
-        Err(ReadFault::At { .. }) => Err(CaseFault::BadCase),
-        Err(ReadFault::NoMemory) => Err(CaseFault::NoMemory),
-    }
-}
 
 fn put_copies(
     alloc: Global,
@@ -41,30 +31,6 @@ pub fn folder_of(
     put_copies(alloc, files.shared(), &mut copies)?;
     put_copies(alloc, files.own(), &mut copies)?;
     Ok(MemoryFolder::new(copies, failing))
-}
-
-fn put_numbered(
-    alloc: Global,
-    list: &mut Vec<String>,
-    count: &str,
-    word: &str,
-) -> Result<(), CaseFault> {
-    for number in 0..number_of(count)? {
-        list.push(numbered(alloc, word, number)?)?;
-    }
-    Ok(())
-}
-
-/// Words as arguments; `3*s#.sch` is `s0.sch s1.sch s2.sch`.
-pub fn arguments_of(alloc: Global, words: &str) -> Result<Vec<String>, CaseFault> {
-    let mut list = Vec::new(alloc);
-    for word in words.split_whitespace() {
-        match word.split_once('*') {
-            Some((count, word)) => put_numbered(alloc, &mut list, count, word)?,
-            None => list.push(String::from_str(alloc, word)?)?,
-        }
-    }
-    Ok(list)
 }
 
 fn gathered(alloc: Global, sheets: Items<Name>, files: &TableFiles) -> Result<Project, CaseFault>

@@ -1,0 +1,26 @@
+//! Computes again the cases of the tables that its arguments name, by the public calls on projects:
+//! their hierarchies, their changes, and the groups of their boards. It prints for each table how
+//! many cases there are, and each that came out otherwise.
+//!
+//! The tables are in data/, with what each rule wants; how they are written stands in
+//! crates/cases/data/README.txt.
+#![tactic(auto)]
+
+mod answers;
+mod boards;
+mod changes;
+mod hierarchies;
+
+use answers::answer;
+use case_tables::report;
+use std::{env, fs, io};
+
+fn main(rt: HostRuntime) -> io::Result<()> {
+    for argument in env::args(&rt)?.skip(1) {
+        let name = argument.as_str();
+        let text = fs::read_to_string(&rt, name)?;
+        let report = report(rt.alloc(), answer, "", name, text.as_str())?;
+        print!(rt; "{}", report.as_str())?;
+    }
+    Ok(())
+}
