@@ -8,8 +8,9 @@ use Rattle.geda_model.specs.declared.object.Body.TheVariants as bodies
 use Rattle.geda_model.specs.Shapes.{ComponentData, PartData}
 use Rattle.geda_model.specs.Sheets.{ObjectData, SymbolData}
 use Rattle.attr_rules.specs.Attributes.{parts_of}
-use Rattle.attr_rules.specs.Components.{is_graphical}
+use Rattle.attr_rules.specs.Components.{has_no_pins}
 use Rattle.attr_rules.specs.Kinds.{kind_of}
+use Rattle.attr_rules.specs.NetValues.{net_entries_of}
 use Rattle.attr_rules.specs.declared.kinds.PinKind.TheVariants.{Pwr}
 use Rattle.attr_rules.specs.declared.nets.NetEntry.{NetEntry}
 use Rattle.geda_geom.specs.declared.conductor.Point.{Point}
@@ -19,7 +20,7 @@ use Rattle.geda_geom.specs.Placing.{placed}
 use Rattle.pin_place.specs.declared.pins.PlacedPin.{PlacedPin}
 use Rattle.pin_place.specs.SymbolPins.{SymbolPin, symbol_pins, pin_attr, point}
 use Rattle.pin_place.specs.PinNumbers.{slot_numbers, pin_number}
-use Rattle.pin_place.specs.GlobalNames.{net_entries, global_names, mentioned}
+use Rattle.pin_place.specs.GlobalNames.{global_names, mentioned}
 
 -- where a point of a component's symbol stands on the sheet: that of a library symbol is placed by
 -- the component, that of an embedded one stands there already
@@ -72,22 +73,22 @@ hidden_pins entries drawn =
 -- the drawn pins of a component
 abbrev pub drawn_pins : ObjectData → Option SymbolData → ComponentData → List PlacedPin
 drawn_pins o library c =
-    drawn_from c (slot_numbers o library) (net_entries o library) 0
+    drawn_from c (slot_numbers o library) (net_entries_of o library) 0
     (symbol_pins (parts_of o library))
 
 -- the drawn pins of a component by place, then the hidden ones
 abbrev pub component_pins : ObjectData → Option SymbolData → ComponentData → List PlacedPin
 component_pins o library c =
-    drawn_pins o library c ++ hidden_pins (net_entries o library) (drawn_pins o library c)
+    drawn_pins o library c ++ hidden_pins (net_entries_of o library) (drawn_pins o library c)
 
--- the pins of an object: a graphical component has none, nor has a shape
+-- the pins of an object: a graphical component has none unless it is a directive, nor has a shape
 abbrev pub pins_of : ObjectData → Option SymbolData → List PlacedPin
 pins_of o library = of_body o.body
   where
     of_body : Body → List PlacedPin
     of_body (bodies.Shape s) = []
     of_body (bodies.Component c) =
-        if is_graphical o library then [] else component_pins o library c
+        if has_no_pins o library then [] else component_pins o library c
 
 -- the end of a pin with its place, if it is drawn
 abbrev pub drawn_end : PlacedPin → Option (ℕ × Conductor)

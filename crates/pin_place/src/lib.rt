@@ -2,8 +2,8 @@
 //! names, and hidden pins.
 //!
 //! Coordinates are in mils, x to the right and y up. The main type is `PlacedPin`. Rules:
-//! docs/RULES.md, "Pins", "Slots", "Global names", "Placing" and "Conductors". Definitions:
-//! specs/Pins.antt.
+//! docs/RULES.md, "Pins", "Slots", "Values of `net`", "Global names", "Graphical components",
+//! "No-connection directives", "Placing" and "Conductors". Definitions: specs/Pins.antt.
 #![tactic(auto)]
 
 mod conductors;
@@ -11,7 +11,6 @@ mod drawn_pins;
 mod global_names;
 mod hidden_pins;
 mod name_table;
-mod net_values;
 mod numbers;
 mod pins;
 mod placing;
