@@ -144,3 +144,13 @@ unfolding attr attrs split_of chars encode
 graphical_instances =
     let is : instances (table_by (project graphical) names graphical) ≡ instance (codes "low.sch") [] [] None ∷ instance (codes "top.sch") [] [] None ∷ [] = refl in
     ap instances (table graphical tt) ∙ is
+
+-- nor has a directive
+abbrev directive : List (ℕ × Placed)
+directive = (0, component (codes "top.sch") (text (codes "device=DRC_Directive") ∷ text (codes "value=NoConnection") ∷ text (codes "refdes=U1") ∷ text (codes "source=low.sch") ∷ [])) ∷ []
+
+directive_instances : instances_of (project directive) ≡ instance (codes "low.sch") [] [] None ∷ instance (codes "top.sch") [] [] None ∷ []
+unfolding attr attrs split_of chars encode
+directive_instances =
+    let is : instances (table_by (project directive) names directive) ≡ instance (codes "low.sch") [] [] None ∷ instance (codes "top.sch") [] [] None ∷ [] = refl in
+    ap instances (table directive tt) ∙ is

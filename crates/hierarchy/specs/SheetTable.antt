@@ -46,7 +46,8 @@ component_with names id o library = record {
   sources = map (source_of names) (source_values o library);
 }
 
--- the same, if the object is one: a component with sources that is not graphical
+-- the same, if the object is one: a component with sources that is neither graphical nor a
+-- no-connection directive
 abbrev pub hierarchical : ProjectData → ℕ → ObjectData → Option HierarchicalData
 hierarchical p id o =
     if has_sources o (library_of p o)
