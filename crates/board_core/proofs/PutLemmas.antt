@@ -1,11 +1,12 @@
 -- The objects and the symbols of a project after a change.
-use Rattle.std.proofs.Common.{◌≡◌, ◌⊎◌, inl, inr, ◌||◌, ◌==◌, ℕ, zero, suc, Bool, true, false, cond, codes, if◌then◌else◌, List, [], ◌∷◌, Option, Some, None, map, refl, sym, ap, subst, ◌∙◌, arith}
+use Rattle.std.proofs.Common.{◌≡◌, ◌⊎◌, inl, inr, ◌||◌, ◌&&◌, ◌==◌, ℕ, zero, suc, Bool, true, false, cond, not, codes, if◌then◌else◌, List, [], ◌∷◌, Option, Some, None, map, refl, sym, ap, subst, ◌∙◌, arith}
 use Rattle.std.specs.FinMap.{FinMap, entries, find, get, get-entries, get-insert, get-remove}
 use Rattle.std.specs.List.{filter_map, slice_get}
 use Rattle.std.specs.Ordering.{eq_by_cmp, nat_cmp}
 use Rattle.std.specs.Cmp.Lexicographic.{slice_cmp}
 use Rattle.std.specs.Str.{bytes_eq}
 use Rattle.std.proofs.lemmas.Slice.Eq.{bytes_eq-Decides}
+use Rattle.geda_model.specs.Data.{TextData}
 use Rattle.geda_model.specs.Shapes.{ComponentData, PartData}
 use Rattle.geda_model.specs.Names.{is_name}
 use Rattle.geda_model.specs.declared.object.Body.{Body}
@@ -22,7 +23,7 @@ use Rattle.project_model.specs.Tables.{set_row}
 use Rattle.project_model.specs.Changes.{AreDistinct, as_placed, as_symbol, put, put_one}
 use Rattle.project_model.proofs.Rows.{ids, key_equal, key_same, names}
 use Rattle.attr_rules.specs.Attributes.{attached, attr, attrs, free_text, or_else, parts_of, values_named}
-use Rattle.attr_rules.specs.Components.{is_graphical, is_value}
+use Rattle.attr_rules.specs.Components.{has_no_pins, is_directive, is_value}
 use Rattle.attr_rules.specs.Libraries.{library_of}
 use Rattle.pin_place.specs.Pins.{conductors_of}
 use Rattle.pin_place.specs.SymbolPins.{symbol_pins}
@@ -201,24 +202,45 @@ symbols_apart p (item ∷ items) name e =
     let parts = neither (is_symbol name item.0) (has_thing (is_symbol name) items) e in
     symbols_apart (put_one p item.0 item.1) items name parts.1 ∙ symbol_apart p name item.0 item.1 parts.0
 
--- a graphical component has no pins
-graphical_none : (o : ObjectData) (c : ComponentData) (a : Option SymbolData) → o.body ≡ bodies.Component c → is_graphical o a ≡ true → conductors_of o a ≡ []
-graphical_none o c a body e = let flat = rw body at e in rw (body, flat) refl
+-- nothing is drawn of a component that has no pins
+nothing_drawn : (o : ObjectData) (c : ComponentData) (a : Option SymbolData) → o.body ≡ bodies.Component c → has_no_pins o a ≡ true → conductors_of o a ≡ []
+nothing_drawn o c a body e = let flat = rw body at e in rw (body, flat) refl
 
-graphical_alike : (o : ObjectData) (a b : Option SymbolData) → parts_of o a ≡ parts_of o b → is_graphical o a ≡ is_graphical o b
+-- an attribute of an object depends on the parts of its symbol alone
+attr_alike : (o : ObjectData) (a b : Option SymbolData) (name : List ℕ) → parts_of o a ≡ parts_of o b → attr o a name ≡ attr o b name
 unfolding attr attrs
-graphical_alike o a b same = ap (λ (ps : List PartData). is_value (codes "1") (slice_get (or_else (attached o (codes "graphical")) (values_named (codes "graphical") (filter_map free_text ps))) 0)) same
+attr_alike o a b name same = ap (λ (ps : List PartData). slice_get (or_else (attached o name) (values_named name (filter_map free_text ps))) 0) same
+
+abbrev object : Body → List TextData → ObjectData
+object body attrs = record { body = body; attrs = attrs }
+
+-- so does whether it is a directive
+directive_alike : (body : Body) (texts : List TextData) (a b : Option SymbolData) → parts_of (object body texts) a ≡ parts_of (object body texts) b
+    → is_directive (object body texts) a ≡ is_directive (object body texts) b
+directive_alike (bodies.Shape s) texts a b same = refl
+directive_alike (bodies.Component c) texts a b same =
+    let o : ObjectData = object (bodies.Component c) texts in
+    let device = attr_alike o a b (codes "device") same in
+    let value = attr_alike o a b (codes "value") same in
+    λ i. is_value (codes "DRC_Directive") (device i) && is_value (codes "NoConnection") (value i)
+
+-- and whether it has no pins
+no_pins_alike : (o : ObjectData) (a b : Option SymbolData) → parts_of o a ≡ parts_of o b → has_no_pins o a ≡ has_no_pins o b
+no_pins_alike o a b same =
+    let graphical = attr_alike o a b (codes "graphical") same in
+    let directive = directive_alike o.body o.attrs a b same in
+    λ i. is_value (codes "1") (graphical i) && not (directive i)
 
 -- what is drawn of a component depends on the parts of its symbol alone
 drawn_alike : (o : ObjectData) (c : ComponentData) (a b : Option SymbolData) → o.body ≡ bodies.Component c → parts_of o a ≡ parts_of o b → conductors_of o a ≡ conductors_of o b
-drawn_alike o c a b body same = by (is_graphical o a) refl
+drawn_alike o c a b body same = by (has_no_pins o a) refl
   where
-    by : (t : Bool) → is_graphical o a ≡ t → conductors_of o a ≡ conductors_of o b
-    by true e = graphical_none o c a body e ∙ sym (graphical_none o c b body (sym (graphical_alike o a b same) ∙ e))
+    by : (t : Bool) → has_no_pins o a ≡ t → conductors_of o a ≡ conductors_of o b
+    by true e = nothing_drawn o c a body e ∙ sym (nothing_drawn o c b body (sym (no_pins_alike o a b same) ∙ e))
     by false e =
         conductors_of-component o a c body e
         ∙ ap (λ (ps : List PartData). ends_from c 0 (symbol_pins ps)) same
-        ∙ sym (conductors_of-component o b c body (sym (graphical_alike o a b same) ∙ e))
+        ∙ sym (conductors_of-component o b c body (sym (no_pins_alike o a b same) ∙ e))
 
 -- what is drawn of an object whose library symbol a change does not have stays
 pub drawn_stays : (p : ProjectData) (items : List Item) (o : ObjectData) → has_symbol_of items o ≡ false → conductors_of o (library_of (put p items) o) ≡ conductors_of o (library_of p o)
