@@ -1,5 +1,5 @@
 -- The definitions, evaluated on few conductors.
-use Rattle.std.proofs.Common.{◌≡◌, ℕ, ◌≢◌, pos, List, [], ◌∷◌, Option, Some, None, refl, arith, inl, inr}
+use Rattle.std.proofs.Common.{◌≡◌, ℕ, ◌≢◌, pos, false, List, [], ◌∷◌, Option, Some, None, refl, arith, inl, inr}
 use Rattle.std.specs.Prelude.{codes}
 use Rattle.geda_geom.specs.declared.conductor.Conductor.TheVariants.{End}
 use Rattle.geda_geom.specs.declared.conductor.Key.{Key}
@@ -10,7 +10,7 @@ use Rattle.link_classes.specs.Links.{AreTied, AreTouching, Linked}
 
 -- a pin at one point, in this instance
 abbrev pin_in : ℕ → FlatConductor
-pin_in instance = record { instance = instance; key = record { id = 0; place = 0 }; shape = Some (End (record { x = pos 0; y = pos 0 })); global_names = []; drawn_names = []; member = None; leads_down = None; leads_up = None }
+pin_in instance = record { instance = instance; key = record { id = 0; place = 0 }; shape = Some (End (record { x = pos 0; y = pos 0 })); global_names = []; drawn_names = []; member = None; leads_down = None; leads_up = None; directive = false }
 
 -- pins at one point of one instance touch
 one_instance_touches : (i : ℕ) → AreTouching (pin_in i) (pin_in i)
@@ -22,10 +22,10 @@ two_instances_stay_apart i j apart touching = apart touching.together
 
 -- a hidden pin of one global name, and a segment of another instance that has that name drawn
 abbrev hidden : FlatConductor
-hidden = record { instance = 1; key = record { id = 1; place = 0 }; shape = None; global_names = codes "Vcc" ∷ []; drawn_names = []; member = None; leads_down = None; leads_up = None }
+hidden = record { instance = 1; key = record { id = 1; place = 0 }; shape = None; global_names = codes "Vcc" ∷ []; drawn_names = []; member = None; leads_down = None; leads_up = None; directive = false }
 
 abbrev drawn : FlatConductor
-drawn = record { instance = 0; key = record { id = 0; place = 0 }; shape = Some (End (record { x = pos 0; y = pos 0 })); global_names = []; drawn_names = codes "out" ∷ codes "Vcc" ∷ []; member = None; leads_down = None; leads_up = None }
+drawn = record { instance = 0; key = record { id = 0; place = 0 }; shape = Some (End (record { x = pos 0; y = pos 0 })); global_names = []; drawn_names = codes "out" ∷ codes "Vcc" ∷ []; member = None; leads_down = None; leads_up = None; directive = false }
 
 -- conductors of one instance that have one group stand in it
 one_group : (i : ℕ) (group : Key) → AreGrouped (λ key. Some group) (pin_in i) (pin_in i)
@@ -41,11 +41,11 @@ one_name_links = inr (inl (record { first = omega arith; second = omega arith; r
 
 -- a pin with this label of a component that leads down
 abbrev above : List ℕ → FlatConductor
-above label = record { instance = 0; key = record { id = 7; place = 0 }; shape = None; global_names = []; drawn_names = []; member = None; leads_down = Some (record { instance = 0; id = 7; label = label }); leads_up = None }
+above label = record { instance = 0; key = record { id = 7; place = 0 }; shape = None; global_names = []; drawn_names = []; member = None; leads_down = Some (record { instance = 0; id = 7; label = label }); leads_up = None; directive = false }
 
 -- the pin of a port of this name on the sheet below
 abbrev below : List ℕ → FlatConductor
-below name = record { instance = 1; key = record { id = 0; place = 0 }; shape = None; global_names = []; drawn_names = []; member = None; leads_down = None; leads_up = Some (record { instance = 0; id = 7; label = name }) }
+below name = record { instance = 1; key = record { id = 0; place = 0 }; shape = None; global_names = []; drawn_names = []; member = None; leads_down = None; leads_up = Some (record { instance = 0; id = 7; label = name }); directive = false }
 
 -- a port's pin is linked with the pin above of that label
 port_links : (label : List ℕ) → Linked (above label ∷ below label ∷ []) 0 1

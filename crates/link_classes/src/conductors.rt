@@ -33,4 +33,6 @@ pub struct FlatConductor {
     pub leads_down: Option<PortPins>,
     /// For a pin of a port: the pins above for which the port stands.
     pub leads_up: Option<PortPins>,
+    /// Whether it is a pin of a no-connection directive.
+    pub directive: bool,
 }
