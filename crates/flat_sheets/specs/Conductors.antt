@@ -1,5 +1,5 @@
 -- What joins in a project (own, after the active ends of gEDA pins).
-use Rattle.std.specs.Prelude.{ℕ, Bool, not, if◌then◌else◌, List, [], ◌∷◌, ◌++◌, Option, Some, None, map, filter, is_some, option_map, codes}
+use Rattle.std.specs.Prelude.{ℕ, Bool, false, not, if◌then◌else◌, List, [], ◌∷◌, ◌++◌, Option, Some, None, map, filter, is_some, option_map, codes}
 use Rattle.std.specs.List.{flat_map}
 use Rattle.geda_model.specs.declared.shape.Shape.TheVariants as shapes
 use Rattle.geda_model.specs.declared.object.Body.{Body}
@@ -7,7 +7,7 @@ use Rattle.geda_model.specs.declared.object.Body.TheVariants as bodies
 use Rattle.geda_model.specs.Sheets.{SymbolData}
 use Rattle.project_model.specs.Projects.{ProjectData}
 use Rattle.attr_rules.specs.Attributes.{attached}
-use Rattle.attr_rules.specs.Components.{has_sources, refdes_of}
+use Rattle.attr_rules.specs.Components.{has_sources, is_directive, refdes_of}
 use Rattle.attr_rules.specs.Libraries.{library_of}
 use Rattle.geda_geom.specs.declared.conductor.Point.{Point}
 use Rattle.geda_geom.specs.declared.conductor.Conductor.TheVariants.{Segment, End}
@@ -23,18 +23,21 @@ use Rattle.flat_sheets.specs.Ports.{pins_at, pins_above}
 use Rattle.flat_sheets.specs.ListedParts.{refdes_in}
 
 -- what a component is in an instance: its printed refdes if it is a listed part, whether it leads
--- down to sheets below, and the pins above for which it stands if it is a port
+-- down to sheets below, the pins above for which it stands if it is a port, and whether it is a
+-- no-connection directive
 pub record RoleData : Type 0 where
   pub refdes : Option (List ℕ)
   pub leads_down : Bool
   pub leads_up : Option PortPins
+  pub directive : Bool
 
 -- the role of a component with a library symbol
 abbrev pub role_of : ProjectData → FlatObject → Option SymbolData → RoleData
 role_of p f library = record {
   refdes = refdes_in p f.instance f.object library;
   leads_down = has_sources f.object library;
-  leads_up = pins_above p f.instance (refdes_of f.object library);
+  leads_up = pins_above p f.instance f.object library (refdes_of f.object library);
+  directive = is_directive f.object library;
 }
 
 -- the pin as a member under a printed refdes
@@ -58,6 +61,7 @@ pin_conductor place id role pin = record {
   member = option_map (member_under pin) role.refdes;
   leads_down = pins_below place id role.leads_down pin.label;
   leads_up = role.leads_up;
+  directive = role.directive;
 }
 
 -- a segment with these names
@@ -71,6 +75,7 @@ segment_conductor place id names a b = record {
   member = None;
   leads_down = None;
   leads_up = None;
+  directive = false;
 }
 
 -- the pin has an end

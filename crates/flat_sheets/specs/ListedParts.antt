@@ -7,24 +7,26 @@ use Rattle.geda_model.specs.Sheets.{ObjectData, SymbolData}
 use Rattle.project_model.specs.Projects.{ProjectData}
 use Rattle.attr_rules.specs.Attributes.{attr}
 use Rattle.attr_rules.specs.Libraries.{library_of}
-use Rattle.attr_rules.specs.Components.{has_sources, is_graphical, refdes_of}
+use Rattle.attr_rules.specs.Components.{has_sources, is_annotation, refdes_of}
 use Rattle.hierarchy.specs.declared.instances.Instance.{Instance}
 use Rattle.instance_objects.specs.Occurrences.{FlatObject, flat_objects}
 use Rattle.instance_objects.specs.Texts.{under}
-use Rattle.instance_objects.specs.Ports.{is_port}
 use Rattle.flat_sheets.specs.declared.package.Package.{Package}
+use Rattle.flat_sheets.specs.Ports.{stands_as_port}
 
--- a component that is no part, whatever its refdes: it is graphical, or has sheets below
+-- a component that is no part, whatever its refdes: it is graphical or a directive, or has sheets
+-- below
 abbrev pub is_no_part : ObjectData → Option SymbolData → Bool
-is_no_part o library = is_graphical o library || has_sources o library
+is_no_part o library = is_annotation o library || has_sources o library
 
 -- the printed refdes of a component with a library symbol that has this refdes: it is listed where
--- it has one, is not graphical, has no sheets below, and is no port
+-- it has one, is neither graphical nor a directive, has no sheets below, and is no port
 abbrev pub printed_refdes :
     ProjectData → Instance → ObjectData → Option SymbolData → Option (List ℕ) → Option (List ℕ)
 printed_refdes p i o library None = None
 printed_refdes p i o library (Some refdes) =
-    if is_no_part o library || is_port p i refdes then None else Some (under i.path refdes)
+    if is_no_part o library || stands_as_port p i o library refdes then None
+    else Some (under i.path refdes)
 
 -- the same of one that has its own refdes
 abbrev pub refdes_in : ProjectData → Instance → ObjectData → Option SymbolData → Option (List ℕ)

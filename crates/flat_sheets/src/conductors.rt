@@ -84,6 +84,7 @@ fn pin_conductor(
         member,
         leads_down: pins_below(place, id, role.leads_down, pin.label),
         leads_up,
+        directive: role.directive,
     })
 }
 
@@ -174,6 +175,7 @@ impl FlatConductors {
                     member: None,
                     leads_down: None,
                     leads_up: None,
+                    directive: false,
                 })?;
                 Ok(())
             }

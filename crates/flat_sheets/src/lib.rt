@@ -1,8 +1,8 @@
 //! A project as one flat list of what joins in it: each object of each sheet, in each instance of
 //! the sheet.
 //!
-//! Rules: docs/RULES.md, "Conductors", "Ports" and "Packages". Definitions: specs/Conductors.antt,
-//! which stands on Ports.antt and ListedParts.antt.
+//! Rules: docs/RULES.md, "Conductors", "Ports", "Packages" and "No-connection directives".
+//! Definitions: specs/Conductors.antt, which stands on Ports.antt and ListedParts.antt.
 #![tactic(auto)]
 
 mod conductors;
