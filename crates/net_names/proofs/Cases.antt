@@ -28,15 +28,16 @@ pin like refdes shape global_names drawn_names = record {
   member = Some (member like refdes);
   leads_down = None;
   leads_up = None;
+  directive = false;
 }
 
 -- a drawn pin 1 with these names
 abbrev drawn : Member → List ℕ → List (List ℕ) → FlatConductor
 drawn like refdes names = pin like refdes (Some (End (record { x = pos 0; y = pos 0 }))) [] names
 
--- a net that is no global one
+-- a net that is no global one and has no directive
 abbrev net : List ℕ → NetSort → List Member → Net
-net name sort members = record { name = name; sort = sort; global = false; members = members }
+net name sort members = record { name = name; sort = sort; global = false; directive = false; members = members }
 
 -- members stand by refdes, and a class of one drawn pin is unconnected
 members_in_order : (m : Member) → nets_by (drawn m (codes "A2") [] ∷ drawn m (codes "A1") [] ∷ drawn m (codes "A3") [] ∷ []) (0 ∷ 0 ∷ 2 ∷ []) ≡
@@ -77,10 +78,21 @@ taken_names_stay m = refl
 
 -- a hidden pin by itself is a net under its global name; one without a name is unnamed
 hidden_pins : (m : Member) → nets_by (pin m (codes "U1") None (codes "Vcc" ∷ []) [] ∷ pin m (codes "U2") None [] [] ∷ []) (0 ∷ 1 ∷ []) ≡
-    record { name = codes "Vcc"; sort = sorts.Named; global = true; members = member m (codes "U1") ∷ [] }
+    record { name = codes "Vcc"; sort = sorts.Named; global = true; directive = false; members = member m (codes "U1") ∷ [] }
     ∷ net (codes "unnamed_net1") sorts.Unnamed (member m (codes "U2") ∷ []) ∷ []
 unfolding digits
 hidden_pins m = refl
+
+-- a drawn pin of a no-connection directive: it is no member
+abbrev of_directive : FlatConductor
+of_directive = record { instance = 0; key = record { id = 9; place = 0 }; shape = Some (End (record { x = pos 0; y = pos 0 })); global_names = []; drawn_names = []; member = None; leads_down = None; leads_up = None; directive = true }
+
+-- a net has a directive where one of its conductors is a pin of one, and is then no unconnected pin
+net_with_directive : (m : Member) → nets_by (drawn m (codes "A1") [] ∷ drawn m (codes "A2") [] ∷ of_directive ∷ []) (0 ∷ 1 ∷ 1 ∷ []) ≡
+    record { name = codes "unnamed_net1"; sort = sorts.Unnamed; global = false; directive = true; members = member m (codes "A2") ∷ [] }
+    ∷ net (codes "unconnected_pin-1") sorts.Unconnected (member m (codes "A1") ∷ []) ∷ []
+unfolding digits
+net_with_directive m = refl
 
 -- a part with these attributes, and no footprint
 abbrev part : List ℕ → Option (List ℕ) → Option (List ℕ) → Package

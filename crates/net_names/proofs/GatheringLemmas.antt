@@ -13,7 +13,7 @@ use Rattle.std.proofs.lemmas.List.Sums.{fold-append}
 use Rattle.link_classes.specs.declared.conductors.FlatConductor.{FlatConductor}
 use Rattle.link_classes.specs.Links.{names_of}
 use Rattle.geda_defs.specs.Order.{once_in_order}
-use Rattle.net_names.specs.NetClasses.{Labelled, labelled_from, ClassPinData, class_pin_of, NetClassData, is_drawn_pin, is_single_pin, has_global_name, net_class}
+use Rattle.net_names.specs.NetClasses.{Labelled, labelled_from, ClassPinData, class_pin_of, NetClassData, is_drawn_pin, is_single_pin, has_global_name, is_of_directive, net_class}
 use Rattle.net_names.specs.NetLists.{by_name}
 use Rattle.net_names.specs.steps.Gathering.{GrowingClassData, empty_class, with_pin, lesser, with_conductor, joined_at, gathered_from, one_or_none, as_net_class}
 
@@ -23,6 +23,7 @@ with_least c = record {
   pins = c.pins;
   names = one_or_none (slice_get (once_in_order by_name c.names) 0);
   global = c.global;
+  directive = c.directive;
   is_single_pin = c.is_single_pin;
 }
 
@@ -33,6 +34,7 @@ with_labelled g l = record {
   is_empty = false;
   is_single_pin = g.is_empty && is_drawn_pin l.conductor.shape;
   global = g.global || has_global_name l;
+  directive = g.directive || is_of_directive l;
   least = fold lesser (fold lesser g.least l.conductor.global_names) l.conductor.drawn_names;
 }
 
@@ -67,6 +69,11 @@ pub grown_global : (g : GrowingClassData) (ls : List Labelled) → (grown g ls).
 grown_global g [] = sym (or-false g.global)
 grown_global g (l ∷ ls) = grown_global (with_labelled g l) ls ∙ or_assoc g.global (has_global_name l) (list_any has_global_name ls)
 
+-- it has a pin of a directive where one of them is one
+pub grown_directive : (g : GrowingClassData) (ls : List Labelled) → (grown g ls).directive ≡ (g.directive || list_any is_of_directive ls)
+grown_directive g [] = sym (or-false g.directive)
+grown_directive g (l ∷ ls) = grown_directive (with_labelled g l) ls ∙ or_assoc g.directive (is_of_directive l) (list_any is_of_directive ls)
+
 -- its least name is the lesser one of all names of them
 grown_least : (g : GrowingClassData) (ls : List Labelled) → (grown g ls).least ≡ fold lesser g.least (flat_map (λ l. names_of l.conductor) ls)
 grown_least g [] = refl
@@ -96,7 +103,7 @@ pub grown_class : (ls : List Labelled) → as_net_class (grown empty_class ls) �
 grown_class ls =
     let least : (grown empty_class ls).least ≡ slice_get (once_in_order by_name (flat_map (λ l. names_of l.conductor) ls)) 0 =
     grown_least empty_class ls ∙ least_first [] (flat_map (λ l. names_of l.conductor) ls) in
-    rw (grown_pins empty_class ls, grown_single ls, grown_global empty_class ls, least) refl
+    rw (grown_pins empty_class ls, grown_single ls, grown_global empty_class ls, grown_directive empty_class ls, least) refl
 
 -- one conductor changes the class of its label alone
 grown_at : (growing : List GrowingClassData) (place : ℕ) (j : FlatConductor) (label r : ℕ) (ls : List Labelled) → r < length growing

@@ -91,8 +91,8 @@ nameless_same : (c : NetClassData) → is_named c ≡ false → with_least c ≡
 nameless_same c e = by c.names refl
   where
     by : (names : List (List ℕ)) → c.names ≡ names → with_least c ≡ c
-    by [] f = ap (λ (names : List (List ℕ)). record { pins = c.pins; names = one_or_none (slice_get (once_in_order by_name names) 0); global = c.global; is_single_pin = c.is_single_pin }) f
-        ∙ sym (ap (λ (names : List (List ℕ)). record { pins = c.pins; names = names; global = c.global; is_single_pin = c.is_single_pin }) f)
+    by [] f = ap (λ (names : List (List ℕ)). record { pins = c.pins; names = one_or_none (slice_get (once_in_order by_name names) 0); global = c.global; directive = c.directive; is_single_pin = c.is_single_pin }) f
+        ∙ sym (ap (λ (names : List (List ℕ)). record { pins = c.pins; names = names; global = c.global; directive = c.directive; is_single_pin = c.is_single_pin }) f)
     by (name ∷ names) f = absurd (let g : true ≡ false = sym (has_first name names) ∙ sym (ap (λ (xs : List (List ℕ)). not (length xs == 0)) f) ∙ e in cc)
 
 -- nets put in one by one are those of the classes that have members and a name

@@ -54,7 +54,7 @@ by_printed_name = on named_net by_net_name
 
 -- a net that stands for none
 no_net : Net
-no_net = record { name = []; sort = sorts.Named; global = false; members = [] }
+no_net = record { name = []; sort = sorts.Named; global = false; directive = false; members = [] }
 
 -- a class with a name is no other one, and one without is not of both kinds
 named_not_unnamed : (c : NetClassData) → is_named c ≡ true → is_unnamed c ≡ false

@@ -45,11 +45,13 @@ abbrev pub by_pin : ClassPinData → ClassPinData → Ordering
 by_pin = then_cmp by_member (on (λ p. p.place) nat_cmp)
 
 -- the conductors of one net: their pins, each pair of refdes and number once, their names, whether
--- one is global, and whether they are a single drawn pin
+-- one is global, whether one of them is a pin of a no-connection directive, and whether they are a
+-- single drawn pin
 pub record NetClassData : Type 0 where
   pub pins : List ClassPinData
   pub names : List (List ℕ)
   pub global : Bool
+  pub directive : Bool
   pub is_single_pin : Bool
 
 -- the end of a pin
@@ -66,12 +68,17 @@ is_single_pin others = false
 abbrev pub has_global_name : Labelled → Bool
 has_global_name l = not (length l.conductor.global_names == 0)
 
+-- it is a pin of a no-connection directive
+abbrev pub is_of_directive : Labelled → Bool
+is_of_directive l = l.conductor.directive
+
 -- the class of these conductors
 abbrev pub net_class : List Labelled → NetClassData
 net_class ls = record {
   pins = once_in_order by_member (filter_map class_pin_of ls);
   names = flat_map (λ l. names_of l.conductor) ls;
   global = list_any has_global_name ls;
+  directive = list_any is_of_directive ls;
   is_single_pin = is_single_pin ls;
 }
 

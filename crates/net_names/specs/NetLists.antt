@@ -51,6 +51,7 @@ net_of name sort c = record {
   name = name;
   sort = sort;
   global = c.global;
+  directive = c.directive;
   members = map (λ p. p.member) c.pins;
 }
 

@@ -32,6 +32,8 @@ pub struct GrowingClass {
     pub is_single_pin: bool,
     /// Whether it has a global name.
     pub global: bool,
+    /// Whether it has a pin of a no-connection directive.
+    pub directive: bool,
     /// The least of its names.
     pub least: Option<CountedName>,
 }
@@ -46,6 +48,7 @@ impl Model for GrowingClass {
       is_empty = g.is_empty;
       is_single_pin = g.is_single_pin;
       global = g.global;
+      directive = g.directive;
       least = g.least;
     } };
 }
@@ -82,6 +85,7 @@ impl GrowingClass {
             is_empty: true,
             is_single_pin: false,
             global: false,
+            directive: false,
             least: None,
         }
     }
@@ -95,11 +99,13 @@ impl GrowingClass {
             global_names,
             drawn_names,
             member,
+            directive,
             ..
         } = conductor;
         self.is_single_pin = self.is_empty && is_drawn_pin(shape.as_ref());
         self.is_empty = false;
         self.global = self.global || global_names.as_slice().len() != 0;
+        self.directive = self.directive || directive;
         self.least = least_with(least_with(self.least.take(), global_names), drawn_names);
         if let Some(member) = member {
             if self.pins.is_empty() {

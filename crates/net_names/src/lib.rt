@@ -1,5 +1,6 @@
 //! The net list of a project: which pins join, the packages that have them, and the nets' names.
-//! Rules: docs/RULES.md, "Nets", "Packages" and "Names of nets". Definitions: specs/NetLists.antt.
+//! Rules: docs/RULES.md, "Nets", "Packages", "Names of nets" and "No-connection directives".
+//! Definitions: specs/NetLists.antt.
 #![tactic(auto)]
 
 mod class_pins;

@@ -25,12 +25,18 @@ fn members(alloc: Global, pins: Vec<ClassPin>) -> Result<Members, AllocError>
 pub fn net_of(alloc: Global, name: Block, sort: NetSort, class: NetClass) -> Result<Net, AllocError>
     ensures { IfOk result (λ net. net ≡ net_of name sort class) }
 {
-    let NetClass { pins, global, .. } = class;
+    let NetClass {
+        pins,
+        global,
+        directive,
+        ..
+    } = class;
     let members = members(alloc, pins)?;
     Ok(Net {
         name,
         sort,
         global,
+        directive,
         members,
     })
 }

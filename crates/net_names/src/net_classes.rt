@@ -24,6 +24,8 @@ pub struct NetClass {
     pub pins: Vec<ClassPin>,
     /// Whether it has a global name.
     pub global: bool,
+    /// Whether it has a pin of a no-connection directive.
+    pub directive: bool,
     /// Whether it is a single drawn pin.
     pub is_single_pin: bool,
 }
@@ -38,6 +40,7 @@ impl Model for NetClass {
       pins = c.pins.items;
       names = [];
       global = c.global;
+      directive = c.directive;
       is_single_pin = c.is_single_pin;
     } };
 }
@@ -145,12 +148,14 @@ fn name_and_class(growing: GrowingClass) -> Result<(Option<CountedName>, NetClas
         pins,
         is_single_pin,
         global,
+        directive,
         least,
         ..
     } = growing;
     let class = NetClass {
         pins: once_in_order(pins)?,
         global,
+        directive,
         is_single_pin,
     };
     Ok((least, class))

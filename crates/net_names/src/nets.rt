@@ -26,6 +26,9 @@ pub struct Net {
     pub sort: NetSort,
     /// Whether some name of the net is a global one.
     pub global: bool,
+    /// Whether a pin of a no-connection directive stands in it (docs/RULES.md, "No-connection
+    /// directives").
+    pub directive: bool,
     /// Its members.
     pub members: Members,
 }

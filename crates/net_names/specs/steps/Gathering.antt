@@ -15,12 +15,14 @@ abbrev pub ArePlaces : List ℕ → ℕ → Type 0
 ArePlaces labels count = (i : ℕ) → i < length labels → slice_index labels i < count
 
 -- a class while it grows: its pins as they come, whether it has no conductor yet, whether it is a
--- single drawn pin, whether it has a global name, and the least of its names
+-- single drawn pin, whether it has a global name, whether it has a pin of a no-connection directive,
+-- and the least of its names
 pub record GrowingClassData : Type 0 where
   pub pins : List ClassPinData
   pub is_empty : Bool
   pub is_single_pin : Bool
   pub global : Bool
+  pub directive : Bool
   pub least : Option (List ℕ)
 
 -- without conductors
@@ -30,6 +32,7 @@ empty_class = record {
   is_empty = true;
   is_single_pin = false;
   global = false;
+  directive = false;
   least = None;
 }
 
@@ -51,6 +54,7 @@ with_conductor g place c = record {
   is_empty = false;
   is_single_pin = g.is_empty && is_drawn_pin c.shape;
   global = g.global || not (length c.global_names == 0);
+  directive = g.directive || c.directive;
   least = fold lesser (fold lesser g.least c.global_names) c.drawn_names;
 }
 
@@ -83,6 +87,7 @@ as_nameless g = record {
   pins = once_in_order by_member g.pins;
   names = [];
   global = g.global;
+  directive = g.directive;
   is_single_pin = g.is_single_pin;
 }
 
@@ -92,6 +97,7 @@ as_net_class g = record {
   pins = once_in_order by_member g.pins;
   names = one_or_none g.least;
   global = g.global;
+  directive = g.directive;
   is_single_pin = g.is_single_pin;
 }
 
