@@ -25,9 +25,9 @@ resistor refdes value = record {
 abbrev member : Member → List ℕ → List ℕ → Member
 member like refdes number = record { refdes = refdes; pin = number; kind = like.kind }
 
--- a net that is no global one
+-- a net that is no global one and has no directive
 abbrev net : List ℕ → NetSort → List Member → Net
-net name sort members = record { name = name; sort = sort; global = false; members = members }
+net name sort members = record { name = name; sort = sort; global = false; directive = false; members = members }
 
 -- two resistors that join by one pin of each
 abbrev two_resistors : Member → Nets
