@@ -6,7 +6,7 @@ wanted: the findings in order, or the status and the error line.
 """
 import matrix_cases
 from drawing import (
-    LIBRARY, VERSION, component, embedded, numbered, one, part, pin, symbol, wire,
+    DIRECTIVE, LIBRARY, VERSION, component, embedded, numbered, one, part, pin, symbol, wire,
 )
 from project_cases import STAGE
 
@@ -153,8 +153,52 @@ def on_nets():
     yield "inputs with a name by net", ins + component("power.sym", 0, 0), []
     yield "the same with a name of a wire that prints", (
         ins + component("power.sym", 0, 0) + wire(0, 0, 9, 0, "A")), []
+    yield from on_directives(ins)
     yield "inputs with another name by net", ins + wire(0, 0, 9, 0, "Vc") + component(
         "power.sym", 9, 9), ["error NotDriven Vc"]
+
+
+def on_directives(ins):
+    nc, lone = component("nc.sym", 0, 0), a1(kind="in")
+    yield "a directive alone", nc, []
+    yield "an input at it", lone + nc, []
+    yield "the same through a wire", lone + wire(0, 0, 9, 0) + component("nc.sym", 9, 0), []
+    yield "an output", a1(kind="out") + nc, []
+    yield "a pin with a name", a1("net=X:1") + nc, []
+    yield "two pins", PAIR + nc, ["error NoConnection unnamed_net1"]
+    yield "inputs are driven no more than open", ins + nc, ["error NoConnection unnamed_net1"]
+    yield "three pins of a name", PAIR + a1("net=X Y:1") + nc, ["error NoConnection X_Y"]
+    yield "two outputs", a1(kind="out") + one("out", 0, 0, "B1") + nc, [
+        "error Conflict unnamed_net1 out out", "error NoConnection unnamed_net1"]
+    yield "one pin that is drawn twice", a1("slot=1", "slotdef=1:1") + a1(
+        "slot=2", "slotdef=2:1") + nc, []
+    yield "two directives at one pin", lone + nc * 2, []
+    yield "two at two pins of a name", (
+        one("pas", 0, 0, "A1", "net=X:1") + one("pas", 0, 9, "B1", "net=X:1") + nc
+        + component("nc.sym", 0, 9)), ["error NoConnection X"]
+    yield "one at one of two pins of a name", (
+        one("pas", 0, 0, "A1", "net=X:1") + one("pas", 0, 9, "B1", "net=X:1") + nc
+        ), ["error NoConnection X"]
+    yield "an input beside it", lone + component("nc.sym", 9, 9), ["error UnconnectedPin A1-1"]
+    yield "one without graphical=1 and without refdes", lone + component(
+        "k-pas.sym", 0, 0, *DIRECTIVE), []
+    yield "one with a refdes that is open, a slot and a sheet", PAIR + component(
+        "box.sym", 0, 0, "refdes=U?", "slot=0", "source=none.sch", *DIRECTIVE), []
+    yield "a part of its refdes", a1(kind="in") + component(
+        "k-pas.sym", 0, 0, "refdes=A1", *DIRECTIVE), []
+    yield "one of no symbol", component("none.sym", 0, 0, *DIRECTIVE), []
+    yield "no directive by its device alone", PAIR + component("k-pas.sym", 0, 0, DIRECTIVE[0]), [
+        "error NoRefdes x.sch 2"]
+    yield "a port at one of a sheet below", {
+        "e.sym": symbol(pin(0, 0, "pinnumber=1", "pinlabel=IN"), "source=low.sch"),
+        "x.sch": PAIR + component("e.sym", 0, 0, "refdes=U1"),
+        "low.sch": one("pas", 0, 0, "IN") + nc,
+    }, ["error NoConnection unnamed_net1"]
+    yield "no port of its refdes", {
+        "e.sym": symbol(pin(0, 0, "pinnumber=1", "pinlabel=IN"), "source=low.sch"),
+        "x.sch": PAIR + component("e.sym", 0, 0, "refdes=U1"),
+        "low.sch": component("nc.sym", 0, 0, "refdes=IN") + one("in", 0, 0, "L1"),
+    }, []
 
 
 def on_sheets():
@@ -187,7 +231,10 @@ def on_sheets():
     for value in ("X", "X:1,", ":1"):
         yield f"the net {value}", PAIR + a1("net=Y:1", f"net={value}"), ["error BadNet x.sch 2"]
     yield "good nets before a bad one of the symbol", PAIR + embedded(
-        "e.sym", ["net=X"], "refdes=A1", "net=X: 1"), ["warning OnePin X"]
+        "e.sym", ["net=X"], "refdes=A1", "net=X: 1"), ["warning OnePin X", "error BadNet x.sch 2"]
+    yield "a bad one before good ones of the symbol", PAIR + embedded(
+        "e.sym", ["net=X:1"], "refdes=A1", "net=X"), ["warning OnePin X", "error BadNet x.sch 2"]
+    yield "a bad net of a directive", component("nc.sym", 0, 0, "net=X"), []
     yield "a bad net of the symbol", PAIR + embedded("e.sym", ["net=X"], "refdes=A1"), [
         "error BadNet x.sch 2"]
     yield "a bad net of a graphical component", a1("net=X", "graphical=1"), []

@@ -24,6 +24,7 @@ NAMES = (
     "Unnumbered", "NoRefdes", "DuplicateRefdes", "DuplicateSlot", "BadSlot", "UnusedSlot",
     "UnknownPintype", "Conflict", "OnePin", "UnconnectedPin", "NotDriven", "PinOnTwoNets",
     "MissingSymbol", "MissingSource", "SourceLoop", "Unreached", "BadNet", "SameText",
+    "NoConnection",
 )
 CODES = {name: code for code, name in enumerate(NAMES, 1)}
 
@@ -68,8 +69,8 @@ def matrix_of(files, name):
 # What is looked at.
 
 class Seen:
-    """A project as the check looks at it. Components are those in an instance that are not
-    graphical, each once an instance."""
+    """A project as the check looks at it. Components are those in an instance that are neither
+    graphical nor directives, each once an instance."""
 
     def __init__(self, sheets, matrix):
         self.sheets, self.matrix = sheets, matrix
@@ -84,7 +85,7 @@ class Seen:
         """The components with their instances."""
         for instance in self.instances:
             for component in instance.sheet.components:
-                if not component.is_graphical:
+                if not component.is_annotation:
                     yield instance, component
 
     @functools.cached_property
@@ -167,7 +168,7 @@ def conflicts(seen):
 
 def one_pin(seen):
     for net in seen.nets:
-        if len(net.members()) == 1 and not net.is_unconnected:
+        if len(net.members()) == 1 and not net.is_unconnected and not net.has_directive:
             yield WARNING, "OnePin", net.name
 
 
@@ -182,8 +183,15 @@ def unconnected_pins(seen):
 def not_driven(seen):
     for net in seen.nets:
         are_inputs = set(net.members().values()) <= {"in", "clk"}
-        if are_inputs and not net.is_unconnected and not net.is_global():
+        is_open = net.is_unconnected or net.has_directive
+        if are_inputs and not is_open and not net.is_global():
             yield ERROR, "NotDriven", net.name
+
+
+def no_connections(seen):
+    for net in seen.nets:
+        if net.has_directive and len(net.members()) > 1:
+            yield ERROR, "NoConnection", net.name
 
 
 def pins_on_two_nets(seen):
@@ -214,7 +222,7 @@ def unreached(seen):
 
 def bad_nets(seen):
     for instance, component in seen.components():
-        if None in map(net_entry, component.values("net")):
+        if None in map(net_entry, component.net_values()):
             yield ERROR, "BadNet", instance.name, str(component.key)
 
 
@@ -227,8 +235,8 @@ def same_texts(seen):
 
 CHECKS = (
     unnumbered, no_refdes, duplicates, duplicate_slots, bad_slots, unused_slots, unknown_pintypes,
-    conflicts, one_pin, unconnected_pins, not_driven, pins_on_two_nets, missing_symbols,
-    lost_sources, unreached, bad_nets, same_texts,
+    conflicts, one_pin, unconnected_pins, not_driven, no_connections, pins_on_two_nets,
+    missing_symbols, lost_sources, unreached, bad_nets, same_texts,
 )
 
 

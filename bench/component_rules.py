@@ -64,6 +64,15 @@ def net_entry(value):
     return (name, numbers) if name and colon and numbers else None
 
 
+def named(values):
+    """The names that values of `net` give, by pin number."""
+    names = collections.defaultdict(list)
+    for name, numbers in filter(None, map(net_entry, values)):
+        for number in numbers:
+            names[number].append(name)
+    return names
+
+
 def kind_of(pintype):
     """The kind that a value of `pintype` says; unknown for any other value, and for none."""
     return pintype if pintype in KINDS else "unknown"
@@ -98,9 +107,19 @@ class Component:
         return self.value("graphical") == "1"
 
     @functools.cached_property
+    def is_directive(self):
+        """Whether it says that a pin is open on purpose."""
+        said = self.value("device"), self.value("value")
+        return said == ("DRC_Directive", "NoConnection")
+
+    @property
+    def is_annotation(self):
+        return self.is_graphical or self.is_directive
+
+    @functools.cached_property
     def sources(self):
         """The distinct values of `source`; where there are some, the component is composite."""
-        return [] if self.is_graphical else list(dict.fromkeys(self.values("source")))
+        return [] if self.is_annotation else list(dict.fromkeys(self.values("source")))
 
     def placed(self, point):
         """Where a point of a symbol of the library stands on the sheet."""
@@ -115,7 +134,8 @@ class Component:
     @functools.cached_property
     def pins(self):
         """The drawn pins: the active end, the number and the label of each net pin."""
-        return [] if self.is_graphical else list(self.drawn_pins())
+        has_none = self.is_graphical and not self.is_directive
+        return [] if has_none else list(self.drawn_pins())
 
     @functools.cached_property
     def slot_numbers(self):
@@ -140,14 +160,19 @@ class Component:
             end = self.place(tuple(ends[part.values[6]]))
             yield Pin(end, number, first_of(own, "pinlabel"), kind_of(first_of(own, "pintype")))
 
+    def net_values(self):
+        """All values of `net`, good and bad."""
+        return values_of(self.attached, "net") + values_of(self.inherited, "net")
+
     @functools.cached_property
     def global_names(self):
-        """The names that values of `net` give, by pin number."""
-        names = collections.defaultdict(list)
-        for name, numbers in filter(None, map(net_entry, self.values("net"))):
-            for number in numbers:
-                names[number].append(name)
-        return names
+        """The names that values of `net` give, by pin number: the attached ones, and the inherited
+        ones of numbers that no attached one lists. A directive gives none."""
+        own, other = (
+            named([] if self.is_directive else values_of(pairs, "net"))
+            for pairs in (self.attached, self.inherited)
+        )
+        return {**other, **own}
 
     def hidden(self):
         """The numbers with a global name that no drawn pin has, with their names."""

@@ -71,11 +71,13 @@ def answer(wanted):
 
 
 KINDS = ("in", "out", "io", "oc", "oe", "pas", "tp", "tri", "clk", "pwr")
+DIRECTIVE = ("device=DRC_Directive", "value=NoConnection")
 TITLE = "B 0 0 17000 11000 15 0 0 0 -1 -1 0 -1 -1 -1 -1 -1\n"
 SLOTDEFS = ("slotdef=1:1,2,3", "slotdef=2:4,5,6", "slotdef=3:9,10,8", "slotdef=4:12,13,11")
 LIBRARY = {f"k-{kind}.sym": symbol(numbered(0, 0, 1, kind)) for kind in KINDS}
 LIBRARY["two.sym"] = symbol(numbered(0, 0, 1), numbered(300, 0, 2), "device=TWO")
 LIBRARY["title-B.sym"] = symbol(TITLE, "graphical=1")
+LIBRARY["nc.sym"] = symbol(pin(0, 0, at=(100, 0)), *DIRECTIVE, "graphical=1")
 LIBRARY["frame.sym"] = symbol(numbered(0, 0, 1), "graphical=1", "source=low.sch", "refdes=F1")
 LIBRARY["box.sym"] = symbol("source=low.sch")
 LIBRARY["power.sym"] = symbol(pin(0, 0, "pinnumber=1"), "net=Vcc:1")

@@ -3,7 +3,7 @@
 Each has what it shows, its sheets and its own symbols beside those of the library, the words, and
 what is wanted: a net list as in project_cases.py, or the status and the error line.
 """
-from drawing import LIBRARY, VERSION, alone, component, embedded, one, pin, wire
+from drawing import DIRECTIVE, LIBRARY, VERSION, alone, component, embedded, one, pin, wire
 from port_cases import A1, AMP, B1, C1, LOW, LOW_C1, LOW_X, box, names, over, ports
 
 
@@ -37,6 +37,14 @@ def roots():
     yield "an attached graphical=0 gives the source back", {
         "x.sch": component("frame.sym", 0, 0, "graphical=0"), "low.sch": C1
     }, ["x.sch"], ["F1/C1|-|-|-", "", *alone("F1/C1", 1)]
+    for own in ("graphical=1", "graphical=0"):
+        yield f"a directive with a source keeps that sheet a root, also with {own}", {
+            "x.sch": component("box.sym", 0, 0, "refdes=U1", own, *DIRECTIVE)
+            + one("pas", 0, 0, "A1"), "low.sch": LOW
+        }, ["x.sch", "low.sch"], [A1, "C1|-|-|-", "", "X|C1-1", *alone("A1", 1)]
+    yield "and does not bring it", {
+        "x.sch": component("box.sym", 0, 0, "refdes=U1", *DIRECTIVE), "low.sch": "N 0\n"
+    }, ["x.sch"], [""]
     yield "no other object names a sheet", {
         "x.sch": "N 0 0 9 0 4\n{\nT 0 0 5 10 1 1 0 0 1\nsource=low.sch\n}\n"
         + "T 0 0 5 10 1 1 0 0 1\nsource=low.sch\n" + pin(0, 0, "source=low.sch")

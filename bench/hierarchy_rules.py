@@ -21,7 +21,9 @@ MOST_ROUTE = 16
 MOST_WEIGHT = 4_000_000
 NAME = re.compile(r"[A-Za-z0-9_+-][A-Za-z0-9_+.-]{0,99}")
 
-Conductor = collections.namedtuple("Conductor", "key names member ties kind is_hidden")
+Conductor = collections.namedtuple(
+    "Conductor", "key names member ties kind is_hidden is_directive", defaults=(False, False)
+)
 Drawn = collections.namedtuple("Drawn", "key place ends names component")
 
 
@@ -180,25 +182,28 @@ class Instance:
                     yield "SourceLoop", self.under(component.refdes), source
 
     def is_listed(self, component):
-        is_part = component.refdes is not None and not component.is_graphical
+        is_part = component.refdes is not None and not component.is_annotation
         return is_part and not component.sources and component.refdes not in self.labels
 
     def flattened(self, drawn):
         """A conductor of the sheet in this instance: a port is tied to the pins above that have its
-        label, and a pin of a composite to what is tied to it."""
+        label, and a pin of a composite to what is tied to it. A directive is no port."""
         key, component = (self.route, drawn.key, drawn.place), drawn.component
         if component is None:
-            return Conductor(key, list(map(self.under, drawn.names)), None, (), None, False)
+            return Conductor(key, list(map(self.under, drawn.names)), None, (), None)
+        pin = component.pins[drawn.place]
+        if component.is_directive:
+            return Conductor(key, drawn.names, None, (), pin.kind, is_directive=True)
         ties = [*self.labels.get(component.refdes, ()), *([key] if component.sources else [])]
-        pin, is_member = component.pins[drawn.place], self.is_listed(component)
+        is_member = self.is_listed(component)
         member = (self.under(component.refdes), pin.number) if is_member else None
-        return Conductor(key, drawn.names, member, ties, pin.kind, False)
+        return Conductor(key, drawn.names, member, ties, pin.kind)
 
     def hidden_pins(self):
         for component in filter(self.is_listed, self.sheet.components):
             for number, names in component.hidden():
                 key, member = (self.route, component.key, 0), (self.under(component.refdes), number)
-                yield Conductor(key, names, member, (), "pwr", True)
+                yield Conductor(key, names, member, (), "pwr", is_hidden=True)
 
 
 def instances_of(sheets):

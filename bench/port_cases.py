@@ -68,6 +68,11 @@ def ports():
     yield case("a port without pins joins nothing, and is no part",
                component("no.sym", 0, 0, "refdes=IN", "net=GND:1") + C1, apart, pair)
     yield case("nor does a graphical one", one("pas", 0, 0, "IN", "graphical=1") + C1, apart, pair)
+    mark = component("nc.sym", 0, 0, "refdes=IN")
+    yield case("nor does a directive, which still joins what it touches", mark + C1, [
+        A1, B1, LOW_C1, "", "unnamed_net1|A1-1", "unnamed_net2|B1-1", "unnamed_net3|U1/C1-1"], pair)
+    yield case("a port beside a directive of its refdes",
+               mark + one("pas", 0, 0, "IN") + C1, joined)
     yield case("a bus pin has no label that counts, and of two labels the first does",
                one("pas", 0, 0, "IN") + C1, [
                    A1, B1, LOW_C1, "U1/IN|-|-|-", "", "unnamed_net1|B1-1",

@@ -8,8 +8,8 @@ import pathlib
 
 import hierarchy_cases
 from drawing import (
-    LIBRARY, VERSION, alone, answer, block, component, embedded, gate, numbered, one, part, pin,
-    text, wire,
+    DIRECTIVE, LIBRARY, VERSION, alone, answer, block, component, embedded, gate, numbered, one,
+    part, pin, text, wire,
 )
 
 TOP = pathlib.Path(__file__).resolve().parent.parent
@@ -129,6 +129,39 @@ def own_sheets():
     yield "graphical is 1 and nothing else", (
         one("pas", 0, 0, "A1", "graphical=01")
     ), ["A1|-|-|-", "", *alone("A1", 1)]
+    nc = component("nc.sym", 0, 0)
+    yield "a directive joins what it touches, and is no part", (
+        one("in", 0, 0, "L1") + nc
+    ), ["L1|-|-|-", "", "unnamed_net1|L1-1"]
+    yield "also where others are joined", (
+        one("in", 0, 0, "L1") + nc + one("out", 100, 0, "O1") + wire(0, 0, 100, 0)
+    ), ["L1|-|-|-", "O1|-|-|-", "", "unnamed_net1|L1-1 O1-1"]
+    yield "a directive without graphical=1 is one, whatever its refdes is", (
+        one("in", 0, 0, "L1") + component("k-pas.sym", 0, 0, "refdes=X1", *DIRECTIVE)
+    ), ["L1|-|-|-", "", "unnamed_net1|L1-1"]
+    yield "a directive whose other end touches joins nothing", (
+        one("in", 100, 0, "L1") + nc
+    ), ["L1|-|-|-", "", *alone("L1", 1)]
+    yield "its values of net are not read", (
+        one("in", 0, 0, "L1") + one("pas", 500, 0, "A1", "net=X:1")
+        + component("power.sym", 0, 0, "refdes=N1", "net=X:1", "net=Y:2", *DIRECTIVE)
+    ), ["A1|-|-|-", "L1|-|-|-", "", "X|A1-1", "unnamed_net1|L1-1"]
+    yield "a netname at it counts", (
+        one("in", 0, 0, "L1") + nc + wire(0, 0, 0, 500, "X") + one("pas", 900, 0, "A1", "net=X:1")
+    ), ["A1|-|-|-", "L1|-|-|-", "", "X|A1-1 L1-1"]
+    yield "a directive alone is no net", nc + component("nc.sym", 500, 0), [""]
+    yield "a directive at a wire alone is none", nc + wire(0, 0, 100, 0), [""]
+    for device, value in [("DRC_Directive", "NoConnect"), ("drc_directive", "NoConnection"),
+                          ("DRC_Directive", "NoConnection ")]:
+        yield f"device={device} and value={value} are no directive", (
+            component("k-pas.sym", 0, 0, "refdes=X1", f"device={device}", f"value={value}")
+        ), [f"X1|{device}|{value}|-", "", *alone("X1", 1)]
+    yield "an attached value hides the one that makes a directive", (
+        one("in", 0, 0, "L1") + component("nc.sym", 0, 0, "value=1")
+    ), ["L1|-|-|-", "", *alone("L1", 1)]
+    yield "a graphical component with one of the two has no pins", (
+        one("in", 0, 0, "L1") + component("k-pas.sym", 0, 0, "graphical=1", DIRECTIVE[0])
+    ), ["L1|-|-|-", "", *alone("L1", 1)]
     yield "power symbols join by their names, and are no parts", (
         one("pas", 0, 0, "A1") + one("pas", 0, 500, "A2")
         + component("power.sym", 0, 0) + component("power.sym", 0, 500)
@@ -136,12 +169,23 @@ def own_sheets():
     yield "a component without refdes has no hidden pins, nor their names", (
         component("7400.sym", 0, 0) + one("pas", 5000, 0, "A1", "net=Vcc:1")
     ), ["A1|-|-|-", "", "Vcc|A1-1"]
-    yield "an attached net hides all inherited ones", (
+    yield "an attached net hides the inherited ones of its numbers", (
         gate(0, "refdes=U1", "net=V5:14")
-    ), ["U1|7400|-|-", "", "V5|U1-14", *alone("U1", 1, 2, 3)]
-    yield "a bad net hides them too, and says nothing", (
-        gate(0, "refdes=U1", "net=V5", "net=V5:1,,2", "net=:1", "net=V5:1\t", "net=V5:")
-    ), ["U1|7400|-|-", "", *alone("U1", 1, 2, 3)]
+    ), ["U1|7400|-|-", "", "GND|U1-7", "V5|U1-14", *alone("U1", 1, 2, 3)]
+    yield "a bad net hides nothing, and says nothing", (
+        gate(0, "refdes=U1", "net=V5", "net=V5:14,,7", "net=:14", "net=V5:14\t", "net=V5:")
+    ), ["U1|7400|-|-", "", "GND|U1-7", "Vcc|U1-14", *alone("U1", 1, 2, 3)]
+    yield "numbers of one inherited value are hidden one by one", (
+        embedded("q.sym", [numbered(0, 0, 1), "net=GND:1,7", "net=Vcc:14,16"], "refdes=U1",
+                 "net=V5: 14 ,9", "net=AGND:1")
+    ), ["U1|-|-|-", "", "AGND|U1-1", "GND|U1-7", "V5|U1-14 U1-9", "Vcc|U1-16"]
+    yield "a value that hides one number joins all that it lists", (
+        embedded("q.sym", [numbered(0, 0, 1), "net=GND:7"], "refdes=U1", "net=A:7,1", "net=B:7")
+        + one("pas", 0, 500, "A1", "net=B:1") + one("pas", 0, 900, "A2", "net=GND:1")
+    ), ["A1|-|-|-", "A2|-|-|-", "U1|-|-|-", "", "A|A1-1 U1-1 U1-7", "GND|A2-1"]
+    yield "numbers are compared as texts", (
+        embedded("q.sym", [numbered(0, 0, 1), "net=GND:07"], "refdes=U1", "net=A:7")
+    ), ["U1|-|-|-", "", "A|U1-7", "GND|U1-07", *alone("U1", 1)]
     yield "a number that is drawn has no hidden pin", (
         one("pas", 0, 0, "A1", "net=GND: 1 ,2")
     ), ["A1|-|-|-", "", "GND|A1-1 A1-2"]
@@ -280,7 +324,7 @@ def case_table():
               "unconnected_pin-1|R1-1", "unconnected_pin-2|R2-2"]
     yield "two resistors with a wire between them", {"one.sch": two}, ["one.sch"], answer(wanted)
     examples = {it.name: it.read_bytes() for it in (TOP / "examples").iterdir() if it.is_file()}
-    for name in ("preamp", "stereo"):
+    for name in ("preamp", "stereo", "timer"):
         told = examples[f"{name}.list"]
         yield f"the example {name}", examples, [f"{name}.sch"], (0, told, b"")
     yield "an empty sheet", {"x.sch": VERSION.encode()}, ["x.sch"], answer([""])

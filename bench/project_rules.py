@@ -44,6 +44,7 @@ class Net:
         self.names = {name for it in conductors for name in it.names}
         self.pins = sorted((*it.member, *it.key) for it in conductors if it.member)
         self.is_unconnected = not self.names and len(conductors) == 1
+        self.has_directive = any(it.is_directive for it in conductors)
         self.name = min(self.names, key=lambda name: (name.count("/"), name), default=None)
 
     def is_global(self):

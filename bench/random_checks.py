@@ -7,7 +7,7 @@ import random
 
 from component_rules import KINDS
 from matrix_cases import ROWS, document
-from random_projects import SHEETS, File, random_folder, with_option
+from random_projects import DIRECTIVE, SHEETS, File, random_folder, with_option
 
 ALIKE = ["R_3", "R\t3", "R1_", "R1\x01", "r_1", "U?\t", "U1/R_3"]
 NAMES_ALIKE = ["N_L", "N\tL", "X_Y", "X Y", "unnamed net1", "unconnected_pin 1", "U1/X\t", "U1/X_"]
@@ -39,6 +39,7 @@ class CalmFile(CheckFile):
         super().__init__(rng, *more)
         self.numbers = iter(range(rng.randrange(100_000), 10**9))
         self.oddness = rng.choice([0, 0.02, 0.1])
+        self.marks = rng.choice([0, 0.1, 0.4])
 
     def is_odd(self):
         return self.rng.random() < self.oddness
@@ -46,9 +47,22 @@ class CalmFile(CheckFile):
     def attributes(self):
         return super().attributes() if self.is_odd() else []
 
+    def mark(self):
+        """A directive of one pin."""
+        x, y = self.point()
+        free = DIRECTIVE + self.rng.choice([[], ["graphical=1"]])
+        self.line("C 0 0 1 0 0 EMBEDDEDnc.sym")
+        self.line("[")
+        self.line(f"P {x} {y} {x + 50} {y + 30} 1 0 0")
+        for content in free:
+            self.content(content)
+        self.line("]")
+
     def component(self, attached=None):
         if self.is_odd():
             return super().component(attached)
+        if attached is None and self.rng.random() < self.marks:
+            return self.mark()
         (x, y), angle = self.point(), self.rng.choice([0, 90, 180, 270])
         self.line(f"C {x} {y} 1 {angle} 0 EMBEDDEDcalm.sym")
         self.line("[")

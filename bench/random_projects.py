@@ -30,6 +30,9 @@ BAD_SLOTDEFS = ["0:41,42", "3:,4", "01:9,8", "2:a b,c", "4", "2", "5:", "x:1", "
 BAD_SLOTDEFS += ["1 :9", "9:1,?,?", "2:1\n,2", "5:6:7", "3", "1:", "3:44", "4:" + "x" * 201, ":1"]
 NUMSLOTS = ["2", "2", "4", "0", "0", "x", "1", "0003", "00003"]
 GRAPHICAL = ["1", "1", "1", "0", "01", "1 ", "1\n"]
+DIRECTIVE = ["device=DRC_Directive", "value=NoConnection"]
+NEAR_DIRECTIVES = [DIRECTIVE[:1], DIRECTIVE[1:], ["device=DRC_Directive", "value=NoConnection "]]
+NEAR_DIRECTIVES += [["device=drc_directive", DIRECTIVE[1]], ["value=DontCheckIfDriven", *DIRECTIVE]]
 VALUES = ["10k", "a\tb", "a\nb", "Y Z", "é", "-"]
 PLAIN = ["refdes=", "=R7", "refdes =R7", "refdes= R7", "refdes", "Refdes=R7", "hello", "net= X:1"]
 NO_SHEETS = ["none.sch", "s3.sch,s4.sch", "S3.sch", "s3.sch ", "sub/s3.sch", "x.sym", "a.sym"]
@@ -51,11 +54,12 @@ class File(compare.Drawing):
             name: rng.choice(chances)
             for name, chances in {
                 "refdes": [0.5, 0.9],
-                "net": [0, 0.1, 0.5],
+                "net": [0, 0.1, 0.5, 0.8],
                 "bad": [0, 0, 0.2],
                 "slot": [0, 0.2, 0.9],
                 "numslots": [0.1, 0.5],
                 "graphical": [0, 0, 0.1],
+                "directive": [0, 0, 0.05, 0.2],
                 "netname": [0, 0.1, 0.4],
                 "plain": [0, 0.1],
                 "label": [0, 0.6, 0.9, 1],
@@ -82,11 +86,18 @@ class File(compare.Drawing):
         found += self.some("graphical", GRAPHICAL, 2)
         for name in ("device", "value", "footprint"):
             found += self.some(name, VALUES)
+        if self.rng.random() < self.often["directive"]:
+            found += self.directive()
         if self.rng.random() < self.often["plain"]:
             found.append(self.rng.choice(PLAIN))
         found += self.some("source", [*self.below * 3, self.rng.choice(NO_SHEETS)], 2)
         self.rng.shuffle(found)
         return found
+
+    def directive(self):
+        """What makes a directive, or nearly does."""
+        more = self.rng.choice([[], ["graphical=1"], ["graphical=1"], ["refdes=IN"], ["net=X:1"]])
+        return self.rng.choice([DIRECTIVE] * 6 + NEAR_DIRECTIVES) + more
 
     def slots(self):
         """What says which slots there are: more often free than attached."""
