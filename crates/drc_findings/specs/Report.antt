@@ -26,7 +26,8 @@ code_name code =
     if code == 14 then codes "MissingSource" else (
     if code == 15 then codes "SourceLoop" else (
     if code == 16 then codes "Unreached" else (
-    if code == 17 then codes "BadNet" else codes "SameText"))))))))))))))))
+    if code == 17 then codes "BadNet" else (
+    if code == 18 then codes "SameText" else codes "NoConnection")))))))))))))))))
 
 -- a finding is an error or a warning
 abbrev pub level_word : Level → List ℕ

@@ -10,7 +10,7 @@ use std::cmp::Ordering;
 /// words, then by level, errors first.
 #[derive(Debug, Drop)]
 pub struct Finding {
-    /// The number of the rule, 1 to 18.
+    /// The number of the rule, 1 to 19.
     pub code: u8,
     /// How grave it is.
     pub level: Level,

@@ -30,7 +30,8 @@ fn code_name(code: u8) -> &'static str
         15 => "SourceLoop",
         16 => "Unreached",
         17 => "BadNet",
-        _ => "SameText",
+        18 => "SameText",
+        _ => "NoConnection",
     }
 }
 
