@@ -15,7 +15,7 @@ abbrev member : List ℕ → List ℕ → PinKind → Member
 member refdes pin kind = record { refdes = refdes; pin = pin; kind = kind }
 
 abbrev net : List ℕ → NetSort → Bool → List Member → Net
-net name sort global members = record { name = name; sort = sort; global = global; members = members }
+net name sort global members = record { name = name; sort = sort; global = global; directive = false; members = members }
 
 -- a net of one pin, and a net of two pins, of these kinds
 abbrev one : PinKind → Net
@@ -80,6 +80,20 @@ a_global_name = refl
 -- on a net without members nothing is found
 no_members : not_driven (net (codes "n") sorts.Named false []) ≡ []
 no_members = refl
+
+-- the same net with a directive
+abbrev marked : Net → Net
+marked n = record { name = n.name; sort = n.sort; global = n.global; directive = true; members = n.members }
+
+-- there one pin is no finding, whatever its kind
+an_open_input : found_on_nets usual (marked (one kinds.In) ∷ []) ≡ []
+unfolding usual all_kinds
+an_open_input = refl
+
+-- two are one finding, and nothing is asked that drives them
+joined_inputs : found_on_nets usual (marked (two kinds.In kinds.Clk) ∷ []) ≡ an_error 19 (codes "n") ∷ []
+unfolding usual all_kinds
+joined_inputs = refl
 
 -- a pin is on two nets, another is not
 abbrev first : Net

@@ -39,6 +39,10 @@ is_unconnected n = of_sort n.sort
     of_sort sorts.Unnamed = false
     of_sort sorts.Unconnected = true
 
+-- an unconnected pin, or a net that has a directive: nothing need be joined to its pin
+abbrev pub may_be_open : Net → Bool
+may_be_open n = is_unconnected n || n.directive
+
 -- a member of this kind
 abbrev pub is_of_kind : PinKind → Member → Bool
 is_of_kind kind m = same_kind m.kind kind
@@ -72,10 +76,10 @@ conflicts_with matrix n others a = flat_map (conflict matrix n a) others
 abbrev pub conflicts : List Level → Net → List Finding
 conflicts matrix n = flat_map (conflicts_with matrix n all_kinds) all_kinds
 
--- OnePin: a net that is not an unconnected pin has one member
+-- OnePin: a net that is not an unconnected pin and has no directive has one member
 abbrev pub one_pin : Net → List Finding
 one_pin n =
-    found_if (not (is_unconnected n) && (length n.members == 1)) (a_warning 9 (word n.name))
+    found_if (not (may_be_open n) && (length n.members == 1)) (a_warning 9 (word n.name))
 
 -- UnconnectedPin: the member of an unconnected pin; the level is the entry of unconnected and its
 -- kind, and nothing is found where that is correct
@@ -91,10 +95,10 @@ unconnected_pin matrix n = flat_map (unconnected_member matrix n) n.members
 abbrev pub is_driven_kind : Member → Bool
 is_driven_kind m = is_of_kind kinds.In m || is_of_kind kinds.Clk m
 
--- a net that is no unconnected pin has members of the kinds in and clk alone, at least one, and no
--- global name
+-- a net that is no unconnected pin and has no directive has members of the kinds in and clk alone,
+-- at least one, and no global name
 abbrev pub is_undriven : Net → Bool
-is_undriven n = (not (is_unconnected n) && not n.global)
+is_undriven n = (not (may_be_open n) && not n.global)
     && (not (length n.members == 0) && list_all is_driven_kind n.members)
 
 -- NotDriven: so it is
@@ -121,11 +125,16 @@ pins_on_two nets n = flat_map (member_on_two nets) n.members
 abbrev pub names_of : List Net → List (List ℕ)
 names_of nets = map (λ n. n.name) nets
 
+-- NoConnection: a net that has a directive has two members or more
+abbrev pub no_connection : Net → List Finding
+no_connection n =
+    found_if (n.directive && nat_le 2 (length n.members)) (an_error 19 (word n.name))
+
 -- what is found on one of these nets
 abbrev pub found_on_net : List Level → List Net → Net → List Finding
 found_on_net matrix nets n =
     conflicts matrix n ++ (one_pin n ++ (unconnected_pin matrix n ++ (not_driven n
-    ++ (pins_on_two nets n ++ same_text (names_of nets) n.name))))
+    ++ (pins_on_two nets n ++ (same_text (names_of nets) n.name ++ no_connection n)))))
 
 -- what is found on all of them
 abbrev pub found_on_nets : List Level → List Net → List Finding

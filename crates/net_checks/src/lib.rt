@@ -5,6 +5,7 @@
 mod conflicts;
 mod kind_counts;
 mod kind_words;
+mod no_connection;
 mod not_driven;
 mod on_nets;
 mod one_pin;

@@ -5,7 +5,7 @@ ghost use Rattle.drc_findings.specs.Order.{with_findings};
 ghost use Rattle.net_checks.specs.OnNets.{is_driven_kind, is_undriven, not_driven};
 
 use crate::kind_counts::is_of_kind;
-use crate::unconnected::is_unconnected;
+use crate::unconnected::may_be_open;
 use attr_rules::PinKind;
 use drc_findings::{Finding, add_error};
 use net_names::{Member, Net};
@@ -28,7 +28,7 @@ fn are_driven_kinds(members: &[Member]) -> bool
 fn is_undriven(net: &Net) -> bool
     ensures { result ≡ is_undriven net.now }
 {
-    if is_unconnected(net) || net.global {
+    if may_be_open(net) || net.global {
         return false;
     }
     let members = net.members.as_slice();

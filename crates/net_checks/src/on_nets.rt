@@ -6,6 +6,7 @@ ghost use Rattle.net_checks.specs.OnNets.{found_on_net, found_on_nets, names_of}
 ghost use Rattle.net_checks.specs.steps.Pins.{HasAlikeNames, HasPinsOnTwo};
 
 use crate::conflicts::add_conflicts;
+use crate::no_connection::add_no_connection;
 use crate::not_driven::add_not_driven;
 use crate::one_pin::add_one_pin;
 use crate::pairs_on_two::pairs_on_two;
@@ -54,7 +55,8 @@ fn add_on_net<'a>(
     add_unconnected_pin(alloc, found, matrix, net)?;
     add_not_driven(alloc, found, net)?;
     add_pins_on_two(alloc, found, on_two, net.members.as_slice())?;
-    add_same_text(alloc, found, alike, net.name.as_str())
+    add_same_text(alloc, found, alike, net.name.as_str())?;
+    add_no_connection(alloc, found, net)
 }
 
 #[tactic(auto, using(drc_findings::proofs::FoundLemmas::flat_more))]
@@ -78,7 +80,7 @@ fn add_on_each<'a>(
 }
 
 /// Adds what is found on nets under a matrix: Conflict, OnePin, UnconnectedPin, NotDriven,
-/// PinOnTwoNets, and SameText on the names of nets.
+/// PinOnTwoNets, SameText on the names of nets, and NoConnection.
 pub fn add_on_nets(
     alloc: Global,
     found: &mut BTreeSet<Finding>,

@@ -3,14 +3,14 @@ ghost use Rattle.std.specs.Prelude.{◌≡◌, OnOk};
 ghost use Rattle.drc_findings.specs.Order.{with_findings};
 ghost use Rattle.net_checks.specs.OnNets.{one_pin};
 
-use crate::unconnected::is_unconnected;
+use crate::unconnected::may_be_open;
 use drc_findings::{Finding, add_warning};
 use net_names::Net;
 use printed_texts::name_words;
 use std::alloc::{AllocError, Global};
 use std::collections::BTreeSet;
 
-/// Adds what is found on a net with one member.
+/// Adds what is found on a net with one member; nothing is where that may be open.
 pub fn add_one_pin(
     alloc: Global,
     found: &mut BTreeSet<Finding>,
@@ -19,7 +19,7 @@ pub fn add_one_pin(
     ensures { OnOk result
         (found.new.keys ≡ with_findings found.old.keys (one_pin net.now)) }
 {
-    if !is_unconnected(net) && net.members.as_slice().len() == 1 {
+    if !may_be_open(net) && net.members.as_slice().len() == 1 {
         add_warning(found, 9, name_words(alloc, net.name.as_str())?)?;
     }
     Ok(())

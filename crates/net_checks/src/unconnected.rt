@@ -1,8 +1,9 @@
-// Pins that join nothing.
+// Pins that join nothing, and those that may.
 ghost use Rattle.std.specs.Prelude.{◌≡◌, OnOk};
 ghost use Rattle.std.specs.List.{flat_map};
 ghost use Rattle.drc_findings.specs.Order.{with_findings};
-ghost use Rattle.net_checks.specs.OnNets.{is_unconnected, unconnected_member, unconnected_pin};
+ghost use Rattle.net_checks.specs.OnNets.{is_unconnected, may_be_open, unconnected_member};
+ghost use Rattle.net_checks.specs.OnNets.{unconnected_pin};
 
 use attr_rules::PinKind;
 use drc_findings::{Finding, add_finding};
@@ -20,6 +21,13 @@ pub fn is_unconnected(net: &Net) -> bool
         NetSort::Unconnected => true,
         NetSort::Named | NetSort::Unnamed => false,
     }
+}
+
+/// Whether a net is an unconnected pin, or has a no-connection directive. It takes no memory.
+pub fn may_be_open(net: &Net) -> bool
+    ensures { result ≡ may_be_open net.now }
+{
+    is_unconnected(net) || net.directive
 }
 
 fn add_member(
