@@ -6,8 +6,8 @@ use Rattle.geda_model.specs.declared.object.Body.TheVariants as bodies
 use Rattle.geda_model.specs.Shapes.{ComponentData}
 use Rattle.geda_model.specs.Sheets.{ObjectData, SymbolData}
 use Rattle.project_model.specs.Projects.{ProjectData}
-use Rattle.attr_rules.specs.Attributes.{attr, attrs}
-use Rattle.attr_rules.specs.Components.{has_sources, is_graphical, refdes_of}
+use Rattle.attr_rules.specs.Attributes.{all_attrs, attr, attrs}
+use Rattle.attr_rules.specs.Components.{has_sources, is_annotation, refdes_of}
 use Rattle.attr_rules.specs.Libraries.{library_of}
 use Rattle.attr_rules.specs.NetValues.{net_entry}
 use Rattle.attr_rules.specs.Slots.{slot_count, slot_pins}
@@ -20,10 +20,11 @@ use Rattle.instance_objects.specs.Texts.{under}
 use Rattle.instance_objects.specs.Ports.{is_port}
 use Rattle.flat_sheets.specs.Conductors.{is_drawn}
 
--- a component in an instance, which is not graphical: its sheet, its id and the name of its symbol,
--- whether it has a symbol, its printed refdes where it has a refdes, whether it has sheets below,
--- whether it is a port, whether it has a value of `net`, and one that is bad, its `slot`, why that
--- gives no pin numbers, the count of its slots where `numslots` is one, and its drawn net pins
+-- a component in an instance, which is neither graphical nor a directive: its sheet, its id and the
+-- name of its symbol, whether it has a symbol, its printed refdes where it has a refdes, whether it
+-- has sheets below, whether it is a port, whether it has a value of `net`, and one that is bad, its
+-- `slot`, why that gives no pin numbers, the count of its slots where `numslots` is one, and its
+-- drawn net pins
 pub record CheckedData : Type 0 where
   pub sheet : List ℕ
   pub id : ℕ
@@ -75,18 +76,18 @@ checked_with p i id o c library = record {
   is_hierarchical = has_sources o library;
   is_port = is_port_if p i (refdes_of o library);
   has_net = is_some (attr o library (codes "net"));
-  has_bad_net = list_any is_bad_net (attrs o library (codes "net"));
+  has_bad_net = list_any is_bad_net (all_attrs o library (codes "net"));
   slot = attr o library (codes "slot");
   slot_fault = slot_fault o library (attr o library (codes "slot"));
   slots = slot_count (attr o library (codes "numslots"));
   pins = filter is_drawn (pins_of o library);
 }
 
--- the same, unless it is graphical
+-- the same, unless it is graphical or a directive
 abbrev pub checked_component :
     ProjectData → FlatObject → ComponentData → Option SymbolData → Option CheckedData
 checked_component p f c library =
-    if is_graphical f.object library then None
+    if is_annotation f.object library then None
     else Some (checked_with p f.instance f.id f.object c library)
 
 -- an object as the check sees it, if it is a component
@@ -97,6 +98,7 @@ checked_object p f = of_body f.object.body
     of_body (bodies.Shape s) = None
     of_body (bodies.Component c) = checked_component p f c (library_of p f.object)
 
--- all components in all instances that are not graphical, by route and then by id
+-- all components in all instances that are neither graphical nor directives, by route and then by
+-- id
 abbrev pub checked_components : ProjectData → List CheckedData
 checked_components p = filter_map (checked_object p) (flat_objects p)

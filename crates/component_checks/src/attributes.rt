@@ -1,7 +1,7 @@
 // What the attributes and the pins of a component say to the check.
 ghost use Rattle.std.specs.Prelude.{◌≡◌, IfOk, codes, filter, option_copied, option_map};
 ghost use Rattle.std.specs.List.{list_any};
-ghost use Rattle.attr_rules.specs.Attributes.{attr, attrs};
+ghost use Rattle.attr_rules.specs.Attributes.{all_attrs, attr};
 ghost use Rattle.attr_rules.specs.Components.{refdes_of};
 ghost use Rattle.attr_rules.specs.Slots.{slot_count};
 ghost use Rattle.pin_place.specs.Pins.{pins_of};
@@ -10,7 +10,8 @@ ghost use Rattle.flat_sheets.specs.Conductors.{is_drawn};
 ghost use Rattle.component_checks.specs.CheckedComponents.{is_bad_net, slot_fault};
 
 use attr_rules::{
-    NetFault, SlotFault, attr_of, attrs_of, net_entries, refdes_of, short_number, slot_pins,
+    NetFault, SlotFault, all_attrs_of, attr_of, attrs_of, net_entries, refdes_of, short_number,
+    slot_pins,
 };
 use geda_model::{Block, Line, Object, Symbol};
 use hierarchy::Instance;
@@ -55,16 +56,16 @@ fn some_bad_net(alloc: Global, values: &[Block]) -> Result<bool, AllocError>
     Ok(false)
 }
 
-/// Whether a value of `net` is bad.
+/// Whether a value of `net`, attached or inherited, is bad.
 pub fn has_bad_net(
     alloc: Global,
     object: &Object,
     library: Option<&Symbol>,
 ) -> Result<bool, AllocError>
     ensures { IfOk result (λ bad. bad ≡
-        list_any is_bad_net (attrs object.now (option_copied library.entry) (codes "net"))) }
+        list_any is_bad_net (all_attrs object.now (option_copied library.entry) (codes "net"))) }
 {
-    let values = attrs_of(alloc, object, library, "net")?;
+    let values = all_attrs_of(alloc, object, library, "net")?;
     some_bad_net(alloc, values.as_slice())
 }
 

@@ -4,7 +4,7 @@ use geda_model::{Block, Line, Name, Word};
 use pin_place::PlacedPin;
 use std::marker::Model;
 
-/// A component in an instance of its sheet, which is not graphical.
+/// A component in an instance of its sheet, which is neither graphical nor a directive.
 #[derive(Debug, Drop)]
 pub struct CheckedComponent {
     /// The name of its sheet.
@@ -23,7 +23,7 @@ pub struct CheckedComponent {
     pub is_port: bool,
     /// Whether it has a value of `net`.
     pub has_net: bool,
-    /// Whether one of its values of `net` is bad.
+    /// Whether one of its values of `net`, attached or inherited, is bad.
     pub has_bad_net: bool,
     /// Its `slot`.
     pub slot: Option<Block>,

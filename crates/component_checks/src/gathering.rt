@@ -6,7 +6,7 @@ ghost use Rattle.component_checks.specs.CheckedComponents.{checked_with, has_sym
 
 use crate::attributes::{copy_of, drawn_pins, has_bad_net, printed_refdes, slot_count, slot_fault};
 use crate::checked::CheckedComponent;
-use attr_rules::{attr_of, has_sources, is_graphical, refdes_of};
+use attr_rules::{attr_of, has_sources, is_annotation, refdes_of};
 use geda_model::{Body, Component, Symbol};
 use instance_objects::InstanceObject;
 use std::alloc::{AllocError, Global};
@@ -66,13 +66,13 @@ fn checked_component(
         component.now (library_of found.now.project found.now.flat.object)) }
 {
     let library = found.library(alloc)?;
-    if is_graphical(found.object(), library) {
+    if is_annotation(found.object(), library) {
         return Ok(None);
     }
     Ok(Some(checked_with(alloc, found, component, library)?))
 }
 
-/// An object as the check sees it, if it is a component that is not graphical.
+/// An object as the check sees it, if it is a component that is neither graphical nor a directive.
 pub fn checked_object(
     alloc: Global,
     found: &InstanceObject<'_>,

@@ -41,7 +41,8 @@ fn components_among(
     Ok(components)
 }
 
-/// All components in all instances that are not graphical, by route and then by id.
+/// All components in all instances that are neither graphical nor directives, by route and then by
+/// id.
 pub fn checked_components(
     alloc: Global,
     objects: &InstanceObjects<'_>,
