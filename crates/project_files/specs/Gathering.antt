@@ -10,7 +10,7 @@ use Rattle.geda_model.specs.Shapes.{PartData}
 use Rattle.geda_model.specs.Sheets.{ObjectData, SheetData, SymbolData}
 use Rattle.geda_model.specs.declared.object.Body.{Body}
 use Rattle.attr_rules.specs.Attributes.{attrs}
-use Rattle.attr_rules.specs.Components.{is_graphical}
+use Rattle.attr_rules.specs.Components.{is_annotation}
 use Rattle.geda_grammar.specs.Faults.{symbol_file}
 use Rattle.project_files.specs.declared.fault.FileFault.{FileFault}
 use Rattle.project_files.specs.FileReads.{ReadAs, Then}
@@ -94,9 +94,10 @@ SymbolComesTo symbols g (Some name) outcome = SymbolUnless (is_asked g name) sym
 abbrev pub library_read : Gathered → ObjectData → Option SymbolData
 library_read g o = option_and_then (symbol_read g) (asked_symbol o)
 
--- the sheets that a component with this library symbol names: a graphical one names none
+-- the sheets that a component with this library symbol names: none if it is graphical or a
+-- no-connection directive
 abbrev pub sources_of : ObjectData → Option SymbolData → List (List ℕ)
-sources_of o library = if is_graphical o library then [] else attrs o library (codes "source")
+sources_of o library = if is_annotation o library then [] else attrs o library (codes "source")
 
 -- the sheets that an object names
 abbrev pub named_sheets : ObjectData → Option SymbolData → List (List ℕ)

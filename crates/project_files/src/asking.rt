@@ -12,7 +12,7 @@ ghost use Rattle.project_files.specs.steps.Asking.{AsksSymbol, AsksValues, symbo
 use crate::fault::FileFault;
 use crate::file_reads::{asked_symbol, name_of, read_symbol_file};
 use crate::folder::Folder;
-use attr_rules::{attrs_of, is_graphical};
+use attr_rules::{attrs_of, is_annotation};
 use geda_model::{Block, Body, Items, Name, Object, Symbol};
 use indexmap::{IndexMap, IndexSet};
 use std::alloc::{AllocError, Global};
@@ -188,7 +188,8 @@ impl Asked {
         Ok(())
     }
 
-    /// The values of `source` of a component, by the symbol of this name.
+    /// The values of `source` of a component, by the symbol of this name: none where it is graphical
+    /// or a no-connection directive.
     fn source_values(
         &self,
         alloc: Global,
@@ -199,7 +200,7 @@ impl Asked {
             (λ values. values ≡ sources_of object.now (symbol_of self.now.symbols name.now)) }
     {
         let library = self.symbol_of(name);
-        if is_graphical(object, library) {
+        if is_annotation(object, library) {
             return Ok(Items::from_vec(Vec::new(alloc)));
         }
         attrs_of(alloc, object, library, "source")
