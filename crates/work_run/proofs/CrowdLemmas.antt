@@ -1,5 +1,5 @@
 -- What the work draws has one instance, and weighs little.
-use Rattle.std.proofs.Common.{◌≡◌, ◌≤◌, ◌*◌, ℕ, zero, suc, Bool, true, false, ◌&&◌, not, cond, List, [], ◌∷◌, ◌++◌, map, length, None, Some, inl, inr, refl, ap, subst, ◌∙◌, arith, codes}
+use Rattle.std.proofs.Common.{◌≡◌, ◌≤◌, ◌*◌, ℕ, zero, suc, Bool, true, false, ◌&&◌, not, cond, List, [], ◌∷◌, ◌++◌, map, length, Option, None, Some, inl, inr, refl, ap, subst, ◌∙◌, arith, codes}
 use Rattle.std.specs.Prelude.{filter, filter_map, sum_by, is_some, nat_lt}
 use Rattle.std.specs.Fmt.{decimal}
 use Rattle.std.specs.FinMap.{entries, entries_sorted, get-entries, len-entries}
@@ -20,7 +20,7 @@ use Rattle.project_model.proofs.OrderedRows.{keys_sorted}
 use Rattle.project_model.proofs.Rows.{IsKey, find_row}
 use Rattle.attr_rules.specs.Splits.{ends_well, is_equals, split_of, starts_well}
 use Rattle.attr_rules.specs.Attributes.{attr, attrs, free_text, or_else, value_if, values_named}
-use Rattle.attr_rules.specs.Components.{has_sources, is_graphical}
+use Rattle.attr_rules.specs.Components.{has_sources, is_annotation}
 use Rattle.attr_rules.specs.Libraries.{library_of}
 use Rattle.hierarchy.specs.SheetTable.{TableSheetData, hierarchical, object_weight, sheet_of, sheet_table}
 use Rattle.hierarchy.specs.Ways.{way_at, ways}
@@ -74,14 +74,10 @@ no_source : (q id : ℕ) → attr (part q id) (Some two_pins) source ≡ None
 unfolding attr attrs
 no_source q id = λ i. slice_get (or_else (refdes_is_no_source q id i) (symbol_has_no_source i)) 0
 
-not_both : (b : Bool) → (b && false) ≡ false
-not_both true = refl
-not_both false = refl
-
 -- a part has no sheets below
 part_has_no_sources : (q id : ℕ) → has_sources (part q id) (Some two_pins) ≡ false
 part_has_no_sources q id =
-    ap (λ found. not (is_graphical (part q id) (Some two_pins)) && is_some found) (no_source q id) ∙ not_both (not (is_graphical (part q id) (Some two_pins)))
+    ap (λ (found : Option (List ℕ)). is_some found && not (is_annotation (part q id) (Some two_pins))) (no_source q id)
 
 -- the symbol of a part
 library_of_part : (count : ℕ) (p : ProjectData) (q id : ℕ) → IsDrawn count p → library_of p (part q id) ≡ Some two_pins
