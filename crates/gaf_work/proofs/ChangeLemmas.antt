@@ -4,7 +4,6 @@ use Rattle.std.proofs.lemmas.List.Elements.{All-cons, All-nil}
 use Rattle.project_model.specs.Items.{Item}
 use Rattle.project_model.specs.declared.change.Thing.{Thing}
 use Rattle.project_model.specs.declared.change.Thing.TheVariants as things
-use Rattle.project_model.specs.declared.change.Value.{Value}
 use Rattle.project_model.specs.declared.change.Value.TheVariants as values
 use Rattle.project_model.specs.Changes.{CanApply}
 use Rattle.project_model.proofs.BuiltChanges.{CanApply-push, one_can_apply}

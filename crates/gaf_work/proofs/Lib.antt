@@ -2,4 +2,5 @@ mod Cases
 pub mod IdsBelow
 pub mod TextLemmas
 pub mod ChangeLemmas
-pub mod LiveIds
+pub mod RowIds
+pub mod LiveLemmas

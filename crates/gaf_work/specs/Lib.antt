@@ -1,4 +1,5 @@
 pub mod Draws
 pub mod Opening
 pub mod DrawnSteps
+pub mod Live
 pub mod steps

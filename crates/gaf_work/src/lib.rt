@@ -5,6 +5,7 @@
 #![tactic(auto)]
 
 mod beginning;
+mod live;
 mod names;
 mod objects;
 mod steps;
@@ -12,4 +13,5 @@ mod symbol;
 mod work;
 
 pub use beginning::opening;
+pub use live::LiveIds;
 pub use work::Work;

@@ -1,10 +1,12 @@
 // What a step does.
 ghost use Rattle.std.specs.Prelude.{◌≡◌, ◌<◌, ◌+◌, ◌^◌, ⊤};
-ghost use Rattle.std.specs.Prelude.{IfOk, MatchOption, map, option_map};
+ghost use Rattle.std.specs.Prelude.{IfOk, MatchOption, option_map};
 ghost use Rattle.std.specs.FinMap.{keys};
+ghost use Rattle.project_model.specs.Projects.{ProjectData};
 ghost use Rattle.project_model.specs.Changes.{CanApply};
 ghost use Rattle.gaf_work.specs.DrawnSteps.{HasRoom, coming, id_at, leaving, step};
 
+use crate::live::LiveIds;
 use crate::names::sheet_name;
 use crate::objects::{part, wire};
 use geda_model::Object;
@@ -27,41 +29,30 @@ fn coming(alloc: Global, project: &Project, object: Object) -> Result<Change, Al
     )
 }
 
-/// The id of the row at a place, counted round.
-fn id_of(rows: &[(u32, &Placed)], q: u32) -> Option<u32>
-    ensures { result ≡ id_at (map (λ row. row.0) rows.now) q }
-{
-    if rows.is_empty() {
-        return None;
-    }
-    Some(rows[q as usize % rows.len()].0)
-}
-
-/// The id of the live object at a place in order of id, counted round.
-fn id_at(alloc: Global, project: &Project, q: u32) -> Result<Option<u32>, AllocError>
-    ensures { IfOk result (λ id. id ≡ id_at (keys project.now.contents.objects) q) }
-{
-    let rows = project.objects_by_id(alloc)?;
-    Ok(id_of(rows.as_slice(), q))
-}
-
 /// The change that takes an object away, if there is one.
-fn deletion(alloc: Global, project: &Project, q: u32) -> Result<Option<Change>, AllocError>
+fn deletion(alloc: Global, live: &LiveIds, q: u32) -> Result<Option<Change>, AllocError>
     ensures step { IfOk result (λ change. option_map (λ c. c.items) change
-        ≡ option_map leaving (id_at (keys project.now.contents.objects) q)) }
-    ensures can_apply { HasRoom project.now.contents
+        ≡ option_map leaving (id_at live.now q)) }
+    ensures can_apply { (p : ProjectData) → HasRoom p → live.now ≡ keys p.objects
         → IfOk result (λ change. MatchOption change ⊤ (λ c. CanApply c.items)) }
 {
-    match id_at(alloc, project, q)? {
+    match live.at(q) {
         None => Ok(None),
         Some(id) => Ok(Some(Change::one(alloc, Thing::Object(id), None)?)),
     }
 }
 
-/// The change of a step by a drawn number (docs/RULES.md, "Work").
+/// The change of a step by a drawn number (docs/RULES.md, "Work"), on a project whose live ids are
+/// known.
 ///
 /// `None` exactly where the step takes an object away and the project has none.
-pub fn step(alloc: Global, project: &Project, number: u32) -> Result<Option<Change>, AllocError>
+pub fn step(
+    alloc: Global,
+    project: &Project,
+    live: &LiveIds,
+    number: u32,
+) -> Result<Option<Change>, AllocError>
+    requires { live.now ≡ keys project.now.contents.objects }
     ensures step { IfOk result
         (λ change. option_map (λ c. c.items) change ≡ step project.now.contents number) }
     ensures can_apply { HasRoom project.now.contents
@@ -74,6 +65,6 @@ pub fn step(alloc: Global, project: &Project, number: u32) -> Result<Option<Chan
             let object = part(alloc, q, project.next_id())?;
             Ok(Some(coming(alloc, project, object)?))
         }
-        _ => deletion(alloc, project, q),
+        _ => deletion(alloc, live, q),
     }
 }

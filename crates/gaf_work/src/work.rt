@@ -1,9 +1,11 @@
 // The numbers that are drawn, and the changes that they make.
 ghost use Rattle.std.specs.Prelude.{◌≡◌, ◌<◌, ⊤, IfOk, OnOk, OnErr, MatchOption, option_map};
+ghost use Rattle.std.specs.FinMap.{keys};
 ghost use Rattle.project_model.specs.Changes.{CanApply};
 ghost use Rattle.gaf_work.specs.Draws.{drawn, first_state};
 ghost use Rattle.gaf_work.specs.DrawnSteps.{HasRoom, step};
 
+use crate::live::LiveIds;
 use crate::steps::step;
 use project_model::{Change, Project};
 use std::alloc::{AllocError, Global};
@@ -58,8 +60,28 @@ impl Work {
         ensures can_apply { HasRoom project.now.contents → IfOk result
             (λ change. MatchOption change ⊤ (λ c. CanApply c.items)) }
     {
+        let live = LiveIds::of(alloc, project)?;
+        self.next_among(alloc, project, &live)
+    }
+
+    /// Draws as `next` does, on a project whose live ids are known. So a step looks at no more of
+    /// the project than what it changes.
+    pub fn next_among(
+        &mut self,
+        alloc: Global,
+        project: &Project,
+        live: &LiveIds,
+    ) -> Result<Option<Change>, AllocError>
+        requires { live.now ≡ keys project.now.contents.objects }
+        ensures step { IfOk result (λ change. option_map (λ c. c.items) change
+            ≡ step project.now.contents (drawn self.old)) }
+        ensures drawn { OnOk result (self.new ≡ drawn self.old) }
+        ensures kept { OnErr result (self.new ≡ self.old) }
+        ensures can_apply { HasRoom project.now.contents → IfOk result
+            (λ change. MatchOption change ⊤ (λ c. CanApply c.items)) }
+    {
         let number = drawn(self.state);
-        let change = step(alloc, project, number)?;
+        let change = step(alloc, project, live, number)?;
         self.state = number;
         Ok(change)
     }

@@ -12,7 +12,7 @@ use Rattle.gaf_work.specs.Draws.{drawn}
 use Rattle.gaf_work.specs.DrawnSteps.{IdsAreBelow, coming, id_at, leaving, part, step, wire}
 use Rattle.gaf_work.specs.Opening.{opening}
 use Rattle.gaf_work.proofs.IdsBelow.{IdsAreBelow-empty_project, IdsAreBelow-put}
-use Rattle.gaf_work.proofs.LiveIds.{id_has_row}
+use Rattle.gaf_work.proofs.RowIds.{id_has_row}
 use Rattle.work_run.specs.Runs.{AddsBound, IsRun, IsStep, PutsIn, RunData}
 use Rattle.work_run.specs.steps.SoundRuns.{IsSoundBoard, IsSoundRun, OpenRun}
 
