@@ -73,6 +73,12 @@ def crossing(count):
         yield ((row, 0), (row, count)) if number < half else ((0, row), (count, row))
 
 
+def star(count):
+    """Wires from one point, each to another one."""
+    return (((0, 0), (100 * (1 + number % 400), 100 * (1 + number // 400)))
+            for number in range(count))
+
+
 def sheet(shape, count):
     """A sheet of so many conductors, some of them pins on the first wires, in random order."""
     wires = list(shape(count - PINS))
@@ -101,7 +107,7 @@ def best(program, folder, text):
 def main():
     program = pathlib.Path(sys.argv[1] if len(sys.argv) > 1 else PROGRAM).resolve()
     with tempfile.TemporaryDirectory() as folder:
-        for shape in (single, comb, overlapping, crossing, small):
+        for shape in (single, comb, overlapping, crossing, small, star):
             last = None
             for count in (1_000, 10_000, 100_000):
                 text = sheet(shape, count)
