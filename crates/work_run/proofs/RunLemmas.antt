@@ -9,6 +9,7 @@ use Rattle.project_model.specs.Projects.{ProjectData, empty_project}
 use Rattle.board_core.specs.Bounds.{IsBound}
 use Rattle.board_core.specs.Boards.{BoardData, RenewsGroups, StaysInBound}
 use Rattle.gaf_work.specs.Draws.{drawn}
+use Rattle.gaf_work.specs.Live.{Follows}
 use Rattle.gaf_work.specs.DrawnSteps.{IdsAreBelow, coming, id_at, leaving, part, step, wire}
 use Rattle.gaf_work.specs.Opening.{opening}
 use Rattle.gaf_work.proofs.IdsBelow.{IdsAreBelow-empty_project, IdsAreBelow-put}
@@ -62,9 +63,10 @@ IsSoundBoard-new board fresh none_asked = record {
     nothing_in sheet has = absurd (let within = has.1 in omega arith)
 
 -- so is a run that is opened
-pub IsSoundRun-opened : (run : OpenRun) → IsSoundBoard run.board run.bound → run.board.project ≡ put empty_project opening → IsSoundRun 0 run
-IsSoundRun-opened run board project = record {
+pub IsSoundRun-opened : (run : OpenRun) → IsSoundBoard run.board run.bound → run.board.project ≡ put empty_project opening → run.live ≡ keys run.board.project.objects → IsSoundRun 0 run
+IsSoundRun-opened run board project live = record {
   board = board;
+  live = live;
   below = subst IdsAreBelow (sym project) (IdsAreBelow-put empty_project opening IdsAreBelow-empty_project);
   few = subst (λ (p : ProjectData). p.next_id ≤ 0) (sym project) (omega arith);
 }
@@ -77,13 +79,14 @@ IsStep-put old new p items same given state project adds = record {
 }
 
 -- and keeps a run sound
-pub IsSoundRun-put : (count : ℕ) (old new : OpenRun) (p : ProjectData) (items : List Item) → p ≡ old.board.project → Some items ≡ step p (drawn old.state) → new.board.project ≡ put old.board.project items → (IsSoundBoard old.board old.bound → IsSoundBoard new.board new.bound) → IsSoundRun count old → IsSoundRun (count + 1) new
-IsSoundRun-put count old new p items same given project board sound =
+pub IsSoundRun-put : (count : ℕ) (old new : OpenRun) (p : ProjectData) (items : List Item) → p ≡ old.board.project → Some items ≡ step p (drawn old.state) → new.board.project ≡ put old.board.project items → (IsSoundBoard old.board old.bound → IsSoundBoard new.board new.bound) → Follows items old.live new.live → IsSoundRun count old → IsSoundRun (count + 1) new
+IsSoundRun-put count old new p items same given project board follows sound =
     let made : step old.board.project (drawn old.state) ≡ Some items = sym (given ∙ ap (λ q. step q (drawn old.state)) same) in
     let few : (put old.board.project items).next_id ≤ old.board.project.next_id + 1 = next_id-step old.board.project (drawn old.state) items sound.below made in
     let before : old.board.project.next_id ≤ count = sound.few in
     record {
       board = board sound.board;
+      live = follows old.board.project sound.live ∙ ap (λ (q : ProjectData). keys q.objects) (sym project);
       below = subst IdsAreBelow (sym project) (IdsAreBelow-put old.board.project items sound.below);
       few = subst (λ (q : ProjectData). q.next_id ≤ count + 1) (sym project) (omega arith);
     }

@@ -1,12 +1,13 @@
 // The steps of a run.
 ghost use Rattle.std.specs.Prelude.{◌≡◌, ◌+◌, ◌≤◌, ℕ, IfOk, OnOk};
+ghost use Rattle.std.specs.FinMap.{keys};
 ghost use Rattle.project_model.specs.Changes.{CanApply, put};
 ghost use Rattle.gaf_work.specs.DrawnSteps.{HasRoom};
 ghost use Rattle.work_run.specs.Runs.{AddsBound, IsOpened, IsRun, IsStep};
 ghost use Rattle.work_run.specs.steps.SoundRuns.{IsSoundBoard, IsSoundRun, run_of};
 
 use board_core::Board;
-use gaf_work::{Work, opening};
+use gaf_work::{LiveIds, Work, opening};
 use project_model::Change;
 use std::alloc::{AllocError, Global};
 use std::marker::Model;
@@ -22,11 +23,12 @@ fn put_in(alloc: Global, board: &mut Board, change: &Change, bound: u64) -> Resu
     Ok(bound.saturating_add(more))
 }
 
-/// A run of the work: what draws its changes, the board that takes them, and the sum of their
-/// bounds.
+/// A run of the work: what draws its changes, the ids that they are drawn from, the board that
+/// takes them, and the sum of their bounds.
 #[derive(Drop)]
 pub struct Run {
     work: Work,
+    live: LiveIds,
     /// The board.
     pub board: Board,
     /// The sum of the bounds, at most 2^64 - 1.
@@ -42,7 +44,7 @@ impl Model for Run {
 
     ghost coded = { Prim.hlevel (codes, map.code) };
 
-    ghost view = { λ r. record { state = r.work; board = r.board; bound = r.bound } };
+    ghost view = { λ r. record { state = r.work; live = r.live; board = r.board; bound = r.bound } };
 }
 
 impl Run {
@@ -54,8 +56,10 @@ impl Run {
         let mut board = Board::new(alloc);
         let change = opening(alloc)?;
         let bound = put_in(alloc, &mut board, &change, 0)?;
+        let live = LiveIds::of(alloc, board.project())?;
         Ok(Run {
             work: Work::new(u64::from(start)),
+            live,
             board,
             bound,
         })
@@ -63,13 +67,16 @@ impl Run {
 
     /// Draws a change, and puts it into the board.
     fn step(&mut self, alloc: Global) -> Result<(), AllocError>
-        requires { HasRoom self.old.board.project }
+        requires room { HasRoom self.old.board.project }
+        requires live { self.old.live ≡ keys self.old.board.project.objects }
         ensures step { OnOk result (IsStep (run_of self.old) (run_of self.new)) }
         ensures sound { (count : ℕ) → IsSoundRun count self.old
             → OnOk result (IsSoundRun (count + 1) self.new) }
     {
-        if let Some(change) = self.work.next(alloc, self.board.project())? {
+        let project = self.board.project();
+        if let Some(change) = self.work.next_among(alloc, project, &self.live)? {
             self.bound = put_in(alloc, &mut self.board, &change, self.bound)?;
+            self.live.follow(&change)?;
         }
         Ok(())
     }

@@ -1,6 +1,7 @@
-use Rattle.std.proofs.Common.{◌≡◌}
+use Rattle.std.proofs.Common.{◌≡◌, ap, ◌∙◌}
+use Rattle.std.specs.FinMap.{keys}
 use Rattle.project_model.specs.Changes.{put}
-use Rattle.project_model.specs.Projects.{empty_project}
+use Rattle.project_model.specs.Projects.{ProjectData, empty_project}
 use Rattle.gaf_work.specs.Opening.{opening}
 use Rattle.work_run.proofs.RunLemmas.{IsSoundBoard-new, IsSoundRun-opened}
 use Rattle.work_run.proofs.steps.Run.open.Goals as goal
@@ -13,4 +14,5 @@ returns-clause-sound c =
     let given = c.in_ok-change.ensures.opening in
     let there = c.in_ok-bound.ensures.project in
     let project : board.project ≡ put empty_project opening = cc in
-    IsSoundRun-opened _ (c.in_ok-bound.ensures.sound fresh) project
+    let live = c.in_ok-live.ensures ∙ ap (λ (p : ProjectData). keys p.objects) c.project.ensures in
+    IsSoundRun-opened _ (c.in_ok-bound.ensures.sound fresh) project live
