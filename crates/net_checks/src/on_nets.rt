@@ -1,8 +1,9 @@
 // What is found on nets.
-ghost use Rattle.std.specs.Prelude.{◌≡◌, IfOk, List, OnOk, map};
+ghost use Rattle.std.specs.Prelude.{◌≡◌, ◌++◌, IfOk, List, OnOk, map};
+ghost use Rattle.drc_findings.specs.Findings.{same_text};
 ghost use Rattle.drc_findings.specs.Order.{with_findings};
 ghost use Rattle.net_names.specs.declared.nets.Net.{Net};
-ghost use Rattle.net_checks.specs.OnNets.{found_on_net, found_on_nets, names_of};
+ghost use Rattle.net_checks.specs.OnNets.{found_on_net, found_on_nets, names_of, no_connection};
 ghost use Rattle.net_checks.specs.steps.Pins.{HasAlikeNames, HasPinsOnTwo};
 
 use crate::conflicts::add_conflicts;
@@ -37,6 +38,22 @@ fn alike_names(alloc: Global, nets: &[Net]) -> Result<BTreeSet<Line>, AllocError
     alike_texts(alloc, &names)
 }
 
+/// Adds what is found by the name of a net, and by its directive.
+#[tactic(auto, using(drc_findings::proofs::FoundLemmas::with_append))]
+fn add_on_name(
+    alloc: Global,
+    found: &mut BTreeSet<Finding>,
+    alike: &BTreeSet<Line>,
+    net: &Net,
+) -> Result<(), AllocError>
+    ensures { (nets : List Net) → HasAlikeNames nets alike.now
+        → OnOk result (found.new.keys ≡ with_findings found.old.keys
+        (same_text (names_of nets) net.now.name ++ no_connection net.now)) }
+{
+    add_same_text(alloc, found, alike, net.name.as_str())?;
+    add_no_connection(alloc, found, net)
+}
+
 #[tactic(auto, using(drc_findings::proofs::FoundLemmas::with_append))]
 fn add_on_net<'a>(
     alloc: Global,
@@ -55,8 +72,7 @@ fn add_on_net<'a>(
     add_unconnected_pin(alloc, found, matrix, net)?;
     add_not_driven(alloc, found, net)?;
     add_pins_on_two(alloc, found, on_two, net.members.as_slice())?;
-    add_same_text(alloc, found, alike, net.name.as_str())?;
-    add_no_connection(alloc, found, net)
+    add_on_name(alloc, found, alike, net)
 }
 
 #[tactic(auto, using(drc_findings::proofs::FoundLemmas::flat_more))]

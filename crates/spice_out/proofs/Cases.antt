@@ -24,7 +24,7 @@ member like refdes number = record { refdes = refdes; pin = number; kind = like.
 
 -- a net that is no global one
 abbrev net : List ℕ → NetSort → List Member → Net
-net name sort members = record { name = name; sort = sort; global = false; members = members }
+net name sort members = record { name = name; sort = sort; global = false; directive = false; members = members }
 
 -- two resistors that join by one pin of each
 abbrev two_resistors : Member → Nets
