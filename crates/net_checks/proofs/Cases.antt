@@ -9,7 +9,7 @@ use Rattle.net_names.specs.declared.nets.NetSort.{NetSort}
 use Rattle.net_names.specs.declared.nets.NetSort.TheVariants as sorts
 use Rattle.pin_matrix.specs.Matrices.{all_kinds, usual}
 use Rattle.drc_findings.specs.Findings.{a_warning, an_error}
-use Rattle.net_checks.specs.OnNets.{conflicts, found_on_nets, not_driven, one_pin, pins_on_two, unconnected_pin}
+use Rattle.net_checks.specs.OnNets.{by_count, conflicts, found_on_nets, not_driven, one_pin, pins_on_two, unconnected_pin}
 
 abbrev member : List ℕ → List ℕ → PinKind → Member
 member refdes pin kind = record { refdes = refdes; pin = pin; kind = kind }
@@ -63,7 +63,7 @@ a_loose_pin = refl
 
 -- it has no other finding
 only_loose : found_on_nets usual (loose ∷ []) ≡ an_error 10 (codes "R_1-2") ∷ []
-unfolding usual all_kinds
+unfolding usual all_kinds by_count
 only_loose = refl
 
 -- inputs alone are not driven, and an output drives them
@@ -87,12 +87,12 @@ marked n = record { name = n.name; sort = n.sort; global = n.global; directive =
 
 -- there one pin is no finding, whatever its kind
 an_open_input : found_on_nets usual (marked (one kinds.In) ∷ []) ≡ []
-unfolding usual all_kinds
+unfolding usual all_kinds by_count
 an_open_input = refl
 
 -- two are one finding, and nothing is asked that drives them
 joined_inputs : found_on_nets usual (marked (two kinds.In kinds.Clk) ∷ []) ≡ an_error 19 (codes "n") ∷ []
-unfolding usual all_kinds
+unfolding usual all_kinds by_count
 joined_inputs = refl
 
 -- a pin is on two nets, another is not
@@ -110,11 +110,11 @@ shared_pin = refl
 -- it is found on both, and on the first one alone it is not
 shared_on_both : found_on_nets usual (first ∷ second ∷ [])
     ≡ an_error 12 (codes "A-2") ∷ an_error 12 (codes "A-2") ∷ []
-unfolding usual all_kinds
+unfolding usual all_kinds by_count
 shared_on_both = refl
 
 first_alone : found_on_nets usual (first ∷ []) ≡ []
-unfolding usual all_kinds
+unfolding usual all_kinds by_count
 first_alone = refl
 
 -- a pin that is twice a member of one net is on one net
@@ -135,5 +135,5 @@ joined = net (codes "x_y") sorts.Named false
 
 alike_names : found_on_nets usual (spaced ∷ joined ∷ [])
     ≡ an_error 18 (codes "x_y") ∷ an_error 18 (codes "x_y") ∷ []
-unfolding usual all_kinds
+unfolding usual all_kinds by_count
 alike_names = refl

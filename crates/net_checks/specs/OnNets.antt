@@ -105,6 +105,10 @@ is_undriven n = (not (may_be_open n) && not n.global)
 abbrev pub not_driven : Net → List Finding
 not_driven n = found_if (is_undriven n) (an_error 11 (word n.name))
 
+-- what is found by the count of the members of a net
+unfoldable pub by_count : Net → List Finding
+by_count n = one_pin n ++ no_connection n
+
 -- the refdes and the pin number of a member
 abbrev pub pair_of : Member → PairData
 pair_of m = record { first = m.refdes; second = m.pin }
@@ -133,8 +137,8 @@ no_connection n =
 -- what is found on one of these nets
 abbrev pub found_on_net : List Level → List Net → Net → List Finding
 found_on_net matrix nets n =
-    conflicts matrix n ++ (one_pin n ++ (unconnected_pin matrix n ++ (not_driven n
-    ++ (pins_on_two nets n ++ (same_text (names_of nets) n.name ++ no_connection n)))))
+    conflicts matrix n ++ (by_count n ++ (unconnected_pin matrix n ++ (not_driven n
+    ++ (pins_on_two nets n ++ same_text (names_of nets) n.name))))
 
 -- what is found on all of them
 abbrev pub found_on_nets : List Level → List Net → List Finding

@@ -1,9 +1,8 @@
 // What is found on nets.
-ghost use Rattle.std.specs.Prelude.{◌≡◌, ◌++◌, IfOk, List, OnOk, map};
-ghost use Rattle.drc_findings.specs.Findings.{same_text};
+ghost use Rattle.std.specs.Prelude.{◌≡◌, IfOk, List, OnOk, map};
 ghost use Rattle.drc_findings.specs.Order.{with_findings};
 ghost use Rattle.net_names.specs.declared.nets.Net.{Net};
-ghost use Rattle.net_checks.specs.OnNets.{found_on_net, found_on_nets, names_of, no_connection};
+ghost use Rattle.net_checks.specs.OnNets.{by_count, found_on_net, found_on_nets, names_of};
 ghost use Rattle.net_checks.specs.steps.Pins.{HasAlikeNames, HasPinsOnTwo};
 
 use crate::conflicts::add_conflicts;
@@ -38,19 +37,12 @@ fn alike_names(alloc: Global, nets: &[Net]) -> Result<BTreeSet<Line>, AllocError
     alike_texts(alloc, &names)
 }
 
-/// Adds what is found by the name of a net, and by its directive.
-#[tactic(auto, using(drc_findings::proofs::FoundLemmas::with_append))]
-fn add_on_name(
-    alloc: Global,
-    found: &mut BTreeSet<Finding>,
-    alike: &BTreeSet<Line>,
-    net: &Net,
-) -> Result<(), AllocError>
-    ensures { (nets : List Net) → HasAlikeNames nets alike.now
-        → OnOk result (found.new.keys ≡ with_findings found.old.keys
-        (same_text (names_of nets) net.now.name ++ no_connection net.now)) }
+/// Adds what is found by the count of the members of a net.
+#[tactic(auto, using(drc_findings::proofs::FoundLemmas::with_append), unfolding(crate::specs::OnNets::by_count))]
+fn add_by_count(alloc: Global, found: &mut BTreeSet<Finding>, net: &Net) -> Result<(), AllocError>
+    ensures { OnOk result (found.new.keys ≡ with_findings found.old.keys (by_count net.now)) }
 {
-    add_same_text(alloc, found, alike, net.name.as_str())?;
+    add_one_pin(alloc, found, net)?;
     add_no_connection(alloc, found, net)
 }
 
@@ -68,11 +60,11 @@ fn add_on_net<'a>(
         ≡ with_findings found.old.keys (found_on_net matrix.now nets net.now)) }
 {
     add_conflicts(alloc, found, matrix, net)?;
-    add_one_pin(alloc, found, net)?;
+    add_by_count(alloc, found, net)?;
     add_unconnected_pin(alloc, found, matrix, net)?;
     add_not_driven(alloc, found, net)?;
     add_pins_on_two(alloc, found, on_two, net.members.as_slice())?;
-    add_on_name(alloc, found, alike, net)
+    add_same_text(alloc, found, alike, net.name.as_str())
 }
 
 #[tactic(auto, using(drc_findings::proofs::FoundLemmas::flat_more))]
