@@ -81,6 +81,15 @@ abbrev pub one_pin : Net → List Finding
 one_pin n =
     found_if (not (may_be_open n) && (length n.members == 1)) (a_warning 9 (word n.name))
 
+-- NoConnection: a net that has a directive has two members or more
+abbrev pub no_connection : Net → List Finding
+no_connection n =
+    found_if (n.directive && nat_le 2 (length n.members)) (an_error 19 (word n.name))
+
+-- what is found by the count of the members of a net
+unfoldable pub by_count : Net → List Finding
+by_count n = one_pin n ++ no_connection n
+
 -- UnconnectedPin: the member of an unconnected pin; the level is the entry of unconnected and its
 -- kind, and nothing is found where that is correct
 abbrev pub unconnected_member : List Level → Net → Member → List Finding
@@ -105,10 +114,6 @@ is_undriven n = (not (may_be_open n) && not n.global)
 abbrev pub not_driven : Net → List Finding
 not_driven n = found_if (is_undriven n) (an_error 11 (word n.name))
 
--- what is found by the count of the members of a net
-unfoldable pub by_count : Net → List Finding
-by_count n = one_pin n ++ no_connection n
-
 -- the refdes and the pin number of a member
 abbrev pub pair_of : Member → PairData
 pair_of m = record { first = m.refdes; second = m.pin }
@@ -128,11 +133,6 @@ pins_on_two nets n = flat_map (member_on_two nets) n.members
 -- the names of nets
 abbrev pub names_of : List Net → List (List ℕ)
 names_of nets = map (λ n. n.name) nets
-
--- NoConnection: a net that has a directive has two members or more
-abbrev pub no_connection : Net → List Finding
-no_connection n =
-    found_if (n.directive && nat_le 2 (length n.members)) (an_error 19 (word n.name))
 
 -- what is found on one of these nets
 abbrev pub found_on_net : List Level → List Net → Net → List Finding
