@@ -9,6 +9,12 @@ Usage:
                                 open, by wrk where it is installed, else by eight processes of
                                 Python, beside nginx with a file of the same bytes where that is
                                 installed
+  serving.py netlists [SECONDS [PARTS...]]
+                                replies a second to `GET /netlist/list` of 1,000 and of 10,000
+                                parts, and how many processors the server used. Of eight
+                                connections that stay open six ask as fast as they are answered, as
+                                above; one asks ten times a second, and is told how long a reply
+                                took at most; and one edits once a second, or not at all
   serving.py starts [ROWS...]   from the call to `serving`, over stores of 10,000 and 200,000 rows
 
 GAFD names the program, else the one that is built; TMPDIR names the disk.
@@ -23,10 +29,12 @@ import shutil
 import subprocess
 import sys
 import tempfile
+import threading
 import time
 
 sys.dont_write_bytecode = True
 
+import part_shapes
 from writers import Writer
 from served import Served, free_port, program
 
@@ -75,23 +83,23 @@ def edits(seconds):
 
 
 class Replies:
-    def __init__(self, port, seconds):
-        self.port, self.seconds = port, seconds
+    def __init__(self, port, path, seconds):
+        self.port, self.path, self.seconds = port, path, seconds
 
     def __call__(self, number):
         reader, count = Writer(self.port, "reader"), 0
         end = time.monotonic() + self.seconds
         while time.monotonic() < end:
-            reader.ask("GET", "/sheets")
+            reader.ask("GET", self.path)
             count += 1
         return count
 
 
-def rate(port, seconds):
-    """Replies a second, and who asked."""
+def rate(port, path, seconds, connections=WRITERS):
+    """Replies a second over so many connections, and who asked."""
     if not shutil.which("wrk"):
-        return sum(beside(WRITERS, Replies(port, seconds))) / seconds, "by Python"
-    words = ["wrk", "-t2", f"-c{WRITERS}", f"-d{seconds}", f"http://127.0.0.1:{port}/sheets"]
+        return sum(beside(connections, Replies(port, path, seconds))) / seconds, "by Python"
+    words = ["wrk", "-t2", f"-c{connections}", f"-d{seconds}", f"http://127.0.0.1:{port}{path}"]
     said = subprocess.run(words, capture_output=True, text=True, check=True).stdout
     faults = re.search(r"Socket errors.*|Non-2xx.*", said)
     found = float(re.search(r"Requests/sec: *([\d.]+)", said)[1])
@@ -106,7 +114,7 @@ def replies(seconds):
             first.draws()
         body = first.ask("GET", "/sheets")[2]
         first.link.close()
-        found, who = rate(server.port, seconds)
+        found, who = rate(server.port, "/sheets", seconds)
         print(f"gafd  {found:8.0f} replies a second, {who}")
         if not shutil.which("nginx"):
             return
@@ -117,11 +125,85 @@ def replies(seconds):
         nginx = subprocess.Popen(["nginx", "-p", room, "-c", room + "/nginx.conf"])
         time.sleep(1)
         try:
-            found, who = rate(port, seconds)
+            found, who = rate(port, "/sheets", seconds)
             print(f"nginx {found:8.0f} replies a second, {who}")
         finally:
             nginx.terminate()
             nginx.wait()
+
+
+class Board(Writer):
+    """Who brings a board of so many parts, and moves its first object to and fro."""
+
+    def brings(self, parts):
+        files = part_shapes.board(parts)
+        for name, text in sorted(files.items(), reverse=True):
+            kind = "add_symbol" if name.endswith(".sym") else "add_sheet"
+            self.puts({"kind": kind, "name": name, "text": text}, 0)
+
+    def moves(self):
+        way = 100 - 200 * (self.number % 2)
+        self.puts({"dx": 0, "dy": way, "ids": [0], "kind": "move"}, self.front)
+
+    def puts(self, edit, base):
+        self.number += 1
+        value = {"session": self.session, "number": self.number, "base": base, "edit": edit}
+        status, self.front, text = self.ask("POST", "/edits", json.dumps(value).encode())
+        if status != 200:
+            raise SystemExit(f"{edit['kind']} was answered {status} {text}")
+
+
+class Moving:
+    """Asks ten times a second beside what is measured, and looks how long a reply takes; and edits
+    once a second, where there is a board to edit."""
+
+    def __init__(self, port, board, path):
+        self.reader, self.board, self.path = Writer(port, "reader"), board, path
+        self.longest, self.is_over = 0, threading.Event()
+        self.thread = threading.Thread(target=self.run)
+
+    def run(self):
+        turn = 0
+        while not self.is_over.wait(0.1):
+            turn += 1
+            if self.board and turn % 10 == 0:
+                self.board.moves()
+            begun = time.monotonic()
+            self.reader.ask("GET", self.path)
+            self.longest = max(self.longest, time.monotonic() - begun)
+
+    def __enter__(self):
+        self.thread.start()
+        return self
+
+    def __exit__(self, *_):
+        self.is_over.set()
+        self.thread.join()
+        self.reader.link.close()
+
+
+def spent(process):
+    """The seconds of processors that a process has used."""
+    fields = pathlib.Path(f"/proc/{process.pid}/stat").read_text().rpartition(")")[2].split()
+    return (int(fields[11]) + int(fields[12])) / os.sysconf("SC_CLK_TCK")
+
+
+def netlists(seconds, counts):
+    path = "/netlist/list"
+    for parts in counts:
+        with tempfile.TemporaryDirectory() as room, Served(room + "/store") as server:
+            board = Board(server.port, "board")
+            board.brings(parts)
+            length = len(board.ask("GET", path)[2])
+            for mover, what in ((None, "no edit"), (board, "an edit a second")):
+                before, begun = spent(server.process), time.monotonic()
+                with Moving(server.port, mover, path) as moving:
+                    found, who = rate(server.port, path, seconds, WRITERS - 2)
+                used = (spent(server.process) - before) / (time.monotonic() - begun)
+                print(
+                    f"{parts:6} parts, {length:8} bytes, {what:16}: {found:8.0f} replies a second,"
+                    f" {who}; {used:.1f} processors; {1000 * moving.longest:6.1f} ms at most"
+                )
 
 
 def rows(count):
@@ -162,6 +244,8 @@ def main():
         edits(*numbers or [5])
     elif command == "replies":
         replies(*numbers or [5])
+    elif command == "netlists":
+        netlists(*numbers[:1] or [5], numbers[1:] or [1_000, 10_000])
     elif command == "starts":
         starts(numbers or [10_000, 200_000])
     else:
