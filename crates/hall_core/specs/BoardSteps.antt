@@ -25,3 +25,17 @@ abbrev pub IsAnsweredFrom : {A : Type 0} → ℕ → List EntryData → (A → B
 IsAnsweredFrom least h answered None = length h < least
 IsAnsweredFrom least h answered (Some answer) =
     (least ≤ length h) × IsAnswered h (answered answer)
+
+-- this was answered on what shows these entries
+pub record IsShown {S : Type 0} (list : S → List EntryData) (h : List EntryData)
+    (answered : S → Type 0) : Type 0 where
+  pub shown : S
+  pub shows : list shown ≡ h
+  pub answer : answered shown
+
+-- the same, where there are so many entries; else there is no answer
+abbrev pub IsShownFrom : {S A : Type 0} → (S → List EntryData) → ℕ → List EntryData
+    → (A → S → Type 0) → Option A → Type 0
+IsShownFrom list least h answered None = length h < least
+IsShownFrom list least h answered (Some answer) =
+    (least ≤ length h) × IsShown list h (answered answer)

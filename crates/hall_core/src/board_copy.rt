@@ -8,17 +8,20 @@ ghost use Rattle.hall_core.specs.BoardSteps.{StepData, applied_to};
 use board_core::Board;
 use edit_entries::Entry;
 use hall_log::{HallName, Prefix};
+use kept_reports::KeptReports;
 use left_right::Absorb;
 use project_model::Change;
 use std::alloc::{AllocError, Global};
 use std::marker::Model;
 
-/// A board, and the prefix whose project it has. Contracts see the entries of the prefix.
+/// A board, the prefix whose project it has, and the texts of reports on it that were made.
+/// Contracts see the entries of the prefix.
 #[derive(Drop)]
 pub struct PrefixBoard<B: HallName> {
     alloc: Global,
     board: Board,
     prefix: Prefix<B>,
+    kept: KeptReports<B>,
 }
 
 impl<B: HallName> Model for PrefixBoard<B> {
@@ -62,6 +65,7 @@ impl<B: HallName> PrefixBoard<B> {
             alloc,
             board,
             prefix,
+            kept: KeptReports::new(),
         }
     }
 }
@@ -107,6 +111,9 @@ pub trait ShowsBoard<B: HallName>: Absorb<NextChange<B>, State = [Entry; 0]> + D
     fn board(&self) -> &Board
         ensures { result.now.project ≡ project (list self.now) };
 
+    /// The texts of reports that were made on it. It takes no memory.
+    fn kept(&self) -> &KeptReports<B>;
+
     /// The state of a copy is its entries.
     ghost lists: { (s : Self) → Self.Absorb.state s ≡ list s };
 
@@ -131,6 +138,10 @@ impl<B: HallName> ShowsBoard<B> for PrefixBoard<B> {
     fn board(&self) -> &Board {
         &self.board
     }
+
+    fn kept(&self) -> &KeptReports<B> {
+        &self.kept
+    }
 }
 
 impl<B: HallName> Absorb<NextChange<B>> for PrefixBoard<B> {
@@ -153,6 +164,8 @@ impl<B: HallName> Absorb<NextChange<B>> for PrefixBoard<B> {
         let _history = operation.after.len();
         self.board.apply(self.alloc, &operation.change)?;
         self.prefix = operation.after.again();
+        // What was kept is of the entries before, and would never be answered.
+        self.kept = KeptReports::new();
         Ok(())
     }
 }

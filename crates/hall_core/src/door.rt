@@ -4,11 +4,10 @@ ghost use Rattle.std.specs.Prelude.{◌≡◌, ◌≤◌, IfSome, IfNone, MatchB
 ghost use Rattle.std.specs.Fn.{FnOnceReturnsAt};
 ghost use mathlib.Core.List.{IsPrefix};
 ghost use Rattle.geda_defs.specs.Causes.{HasRisen};
-ghost use Rattle.hall_core.specs.BoardSteps.{IsAnsweredFrom};
+ghost use Rattle.hall_core.specs.BoardSteps.{IsShownFrom};
 
 use crate::board_copy::ShowsBoard;
 use crate::published::PublishedDesk;
-use board_core::Board;
 use hall_log::{HallName, Prefix};
 use left_right::ReadHandle;
 use std::marker::PhantomData;
@@ -59,16 +58,16 @@ pub struct Door<B: HallName, S: ShowsBoard<B>> {
     of: PhantomData<B>,
 }
 
-// Shows the board to a closure, where it holds all that was seen and has so many entries.
-fn read_from<B: HallName, S: ShowsBoard<B>, T, F: FnOnce(&Board) -> T + Drop>(
+// Shows what is published to a closure, where it holds all that was seen and has so many entries.
+fn read_from<B: HallName, S: ShowsBoard<B>, T, F: FnOnce(&S) -> T + Drop>(
     reader: &mut ReadHandle<S>,
     seen: &Prefix<B>,
     least: u64,
     f: F,
 ) -> Option<(Prefix<B>, Option<T>)>
     requires { F.IsAlwaysCallable f }
-    ensures { IfSome result (λ read. IsPrefix seen.now read.0 × IsAnsweredFrom least read.0
-        (λ answer board. FnOnceReturnsAt F.FnOnce f board answer) read.1) }
+    ensures { IfSome result (λ read. IsPrefix seen.now read.0 × IsShownFrom S.list least read.0
+        (λ answer shown. FnOnceReturnsAt F.FnOnce f shown answer) read.1) }
 {
     let guard = reader.enter()?;
     let shown: &S = &guard;
@@ -79,8 +78,8 @@ fn read_from<B: HallName, S: ShowsBoard<B>, T, F: FnOnce(&Board) -> T + Drop>(
     if prefix.len() < least {
         return Some((prefix.again(), None));
     }
-    let answer = f(shown.board());
-    Some((prefix.again(), Some(answer)))
+    let seen = prefix.again();
+    Some((seen, Some(f(shown))))
 }
 
 impl<B: HallName, S: ShowsBoard<B>> Door<B, S> {
@@ -102,17 +101,18 @@ impl<B: HallName, S: ShowsBoard<B>> Door<B, S> {
         self.refusals = self.refusals.saturating_add(1);
     }
 
-    // Shows the board to a closure, where it holds all that was seen and has so many entries, with
-    // its prefix.
-    pub(crate) fn read<T, F: FnOnce(&Board) -> T + Drop>(
+    // Shows what is published to a closure, where it holds all that was seen and has so many
+    // entries, with its prefix.
+    pub(crate) fn read<T, F: FnOnce(&S) -> T + Drop>(
         &mut self,
         seen: &Prefix<B>,
         least: u64,
         f: F,
     ) -> Option<(Prefix<B>, Option<T>)>
         requires { F.IsAlwaysCallable f }
-        ensures some { IfSome result (λ read. IsPrefix seen.now read.0 × IsAnsweredFrom least read.0
-            (λ answer board. FnOnceReturnsAt F.FnOnce f board answer) read.1) }
+        ensures some { IfSome result (λ read.
+            IsPrefix seen.now read.0 × IsShownFrom S.list least read.0
+            (λ answer shown. FnOnceReturnsAt F.FnOnce f shown answer) read.1) }
         ensures none { IfNone result (HasRisen self.old.refusals self.new.refusals) }
         ensures later { self.old.refusals ≤ self.new.refusals }
     {

@@ -4,7 +4,7 @@ ghost use Rattle.std.specs.Fn.{FnOnceReturnsAt};
 ghost use mathlib.Core.List.{IsPrefix};
 ghost use Rattle.geda_defs.specs.Causes.{HasRisen};
 ghost use Rattle.hall_log.specs.Histories.{IsHistory};
-ghost use Rattle.hall_core.specs.BoardSteps.{IsAnswered, IsAnsweredFrom};
+ghost use Rattle.hall_core.specs.BoardSteps.{IsAnswered, IsAnsweredFrom, IsShownFrom};
 ghost use Rattle.hall_core.specs.Seats.{Learns, SeatData};
 
 use crate::board_copy::ShowsBoard;
@@ -91,6 +91,27 @@ impl<B: HallName, S: ShowsBoard<B>> Seat<B, S> {
         ensures front { IfSome result (λ look. look.0 ≡ length self.new.seen) }
         ensures answered { IfSome result (λ look. IsAnsweredFrom least self.new.seen
             (λ answer board. FnOnceReturnsAt F.FnOnce f board answer) look.1) }
+        ensures history { IfSome result (λ look. IsHistory self.new.seen) }
+        ensures none { IfNone result
+            ((self.new.seen ≡ self.old.seen) × HasRisen self.old.refusals self.new.refusals) }
+        ensures losses { self.new.losses ≡ self.old.losses }
+        ensures later { self.old.refusals ≤ self.new.refusals }
+    {
+        self.look_whole(least, |shown: &S| f(shown.board()))
+    }
+
+    /// Shows all that is published, the board with its prefix and the kept texts of reports, as
+    /// `look_from` shows the board.
+    pub fn look_whole<T, F: FnOnce(&S) -> T + Drop>(
+        &mut self,
+        least: u64,
+        f: F,
+    ) -> Option<(u32, Option<T>)>
+        requires { F.IsAlwaysCallable f }
+        ensures seen { IfSome result (λ look. IsPrefix self.old.seen self.new.seen) }
+        ensures front { IfSome result (λ look. look.0 ≡ length self.new.seen) }
+        ensures answered { IfSome result (λ look. IsShownFrom S.list least self.new.seen
+            (λ answer shown. FnOnceReturnsAt F.FnOnce f shown answer) look.1) }
         ensures history { IfSome result (λ look. IsHistory self.new.seen) }
         ensures none { IfNone result
             ((self.new.seen ≡ self.old.seen) × HasRisen self.old.refusals self.new.refusals) }

@@ -6,8 +6,7 @@ ghost use Rattle.reports.specs.NetLists.{seen};
 use edit_entries::Entry;
 use hall_core::{Hall, HallName, Seat, ShowsBoard, edit};
 use keeper_core::{Keeper, Reply};
-use pin_matrix::Matrix;
-use reports::{ReportFault, What, report};
+use reports::{ReportFault, What};
 use std::alloc::Global;
 use std::sync::Wait;
 use web_http::{Bytes, Service, Shown};
@@ -72,9 +71,9 @@ impl<W: Wait, K: Keeper, B: HallName, S: ShowsBoard<B>, R: Wait + Drop> Service
 
     fn report(&mut self, alloc: Global, least: Option<u64>, what: &What) -> Shown {
         let wanted = wanted(least);
-        let told = self.seat.look_from(
+        let told = self.seat.look_whole(
             wanted,
-            |board| report(alloc, board, what, &Matrix::usual()),
+            |shown: &S| shown.kept().report(alloc, shown.board(), shown.prefix(), what),
         );
         match told {
             Some((front, Some(told))) => shown(front, told),

@@ -1,0 +1,2 @@
+-- Steps of the code and of the proofs; no public clause cites them.
+pub mod KeptTexts

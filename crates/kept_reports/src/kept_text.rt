@@ -1,0 +1,50 @@
+// One text that is kept.
+ghost use Rattle.std.specs.Prelude.{◌≡◌, IfSome};
+ghost use Rattle.kept_reports.specs.steps.KeptTexts.{IsText};
+
+use crate::kind::ReportKind;
+use hall_log::{HallName, Prefix};
+use std::marker::Model;
+
+/// The text of a report, with the entries and the kind that it is of.
+#[derive(Drop)]
+pub struct KeptText<B: HallName> {
+    prefix: Prefix<B>,
+    kind: ReportKind,
+    text: Vec<u8>,
+}
+
+impl<B: HallName> Model for KeptText<B> {
+    ghost use Rattle.kept_reports.specs.steps.KeptTexts.{IsText, KeptData};
+
+    ghost Value = { KeptData };
+
+    ghost view = { λ k. record { entries = k.prefix; kind = k.kind; text = k.text.items } };
+
+    ghost invariant = { λ k. IsText k.prefix k.kind k.text.items };
+}
+
+impl<B: HallName> KeptText<B> {
+    /// A text of these entries. It takes no memory.
+    pub fn new(prefix: Prefix<B>, kind: ReportKind, text: Vec<u8>) -> KeptText<B>
+        requires { IsText prefix kind text.items }
+    {
+        KeptText { prefix, kind, text }
+    }
+
+    /// The text, where it is of this kind and of just these entries. It takes no memory.
+    pub fn text_of(&self, kind: ReportKind, prefix: &Prefix<B>) -> Option<&[u8]>
+        ensures { IfSome result (λ text. IsText prefix.now kind text.now) }
+    {
+        if self.kind != kind {
+            return None;
+        }
+        if self.prefix.len() != prefix.len() {
+            return None;
+        }
+        if !self.prefix.begins(prefix) {
+            return None;
+        }
+        Some(&self.text)
+    }
+}
