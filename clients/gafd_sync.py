@@ -868,16 +868,30 @@ class Push:
         return 1
 
 
+def values_of(item, free, name):
+    """The attached values of a name, or those that stand free in the symbol where none is attached."""
+    for texts in (item.attributes, free):
+        values = [text[len(name) + 1 :] for text in texts if text.startswith(name + "=")]
+        if values:
+            return values
+    return []
+
+
 def sources_of(folder, sheet):
     """The sheets below a sheet, as its components and the symbols beside it name them."""
     for item in sheet.items:
         if item.letter == "C":
-            own = [it[7:] for it in item.attributes if it.startswith("source=")]
-            if not own and item.symbol and folder.has(item.symbol):
+            free = []
+            if item.symbol and folder.has(item.symbol):
                 parts = folder.sheet(item.symbol).items
                 free = ["\n".join(part.content) for part in parts if part.letter == "T"]
-                own = [it[7:] for it in free if it.startswith("source=")]
-                own = [] if "graphical=1" in free else own
+            graphical, device, value = (
+                values_of(item, free, name)[:1] for name in ("graphical", "device", "value")
+            )
+            # a picture, and a mark at an open pin, lead to no sheet
+            if graphical == ["1"] or (device, value) == (["DRC_Directive"], ["NoConnection"]):
+                continue
+            own = values_of(item, free, "source")
             yield from (name for name in own if NAME.fullmatch(name))
 
 
