@@ -4,3 +4,4 @@ pub mod Reading
 pub mod Closing
 pub mod Opening
 pub mod Editing
+pub mod LookLemmas

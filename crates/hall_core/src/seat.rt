@@ -97,7 +97,14 @@ impl<B: HallName, S: ShowsBoard<B>> Seat<B, S> {
         ensures losses { self.new.losses ≡ self.old.losses }
         ensures later { self.old.refusals ≤ self.new.refusals }
     {
-        self.look_whole(least, |shown: &S| f(shown.board()))
+        self.look_whole(
+            least,
+            |shown: &S| -> T
+                requires { F.IsAlwaysCallable f }
+                ensures { IsAnswered (S.list shown.now)
+                    (λ board. FnOnceReturnsAt F.FnOnce f board result) }
+            { f(shown.board()) },
+        )
     }
 
     /// Shows all that is published, the board with its prefix and the kept texts of reports, as

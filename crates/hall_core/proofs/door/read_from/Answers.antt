@@ -1,17 +1,16 @@
-use Rattle.std.proofs.Common.{refl, sym, ap, ◌∙◌, rules}
-use Rattle.edit_rules.specs.Histories.{project}
+use Rattle.std.proofs.Common.{refl, sym, rules}
 use Rattle.hall_core.proofs.door.read_from.Goals as goal
 
 pub returns : goal.returns
 returns g c =
-    rw c.again-2.ensures (
+    rw c.again-seen.ensures (
       c.if-not-begins.ensures.begins refl,
       (
         search rules,
         record {
-          board = c.board.result.now;
-          shows = c.board.ensures ∙ ap project (sym c.prefix-prefix.ensures);
-          answer = (c.board.result, c.f-answer.ensures, refl);
+          shown = c.deref-shown.result.now;
+          shows = sym c.prefix-prefix.ensures;
+          answer = (c.deref-shown.result, c.f.ensures, refl);
         },
       ),
     )
