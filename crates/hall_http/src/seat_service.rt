@@ -1,7 +1,10 @@
 // A seat of a hall, as what answers the requests of a connection.
 ghost use Rattle.std.specs.Prelude.{◌≡◌};
 ghost use Rattle.hall_http.specs.steps.Looks.{IsWanted, shown_of};
+ghost use Rattle.edit_rules.specs.Histories.{project};
+ghost use Rattle.pin_matrix.specs.Matrices.{usual};
 ghost use Rattle.reports.specs.NetLists.{seen};
+ghost use Rattle.reports.specs.Reports.{Reports};
 
 use edit_entries::Entry;
 use hall_core::{Hall, HallName, Seat, ShowsBoard, edit};
@@ -43,6 +46,18 @@ fn shown(front: u32, told: Result<Vec<u8>, ReportFault>) -> Shown
     }
 }
 
+/// The report on what is published, by the usual matrix: a text that is kept, or one that is made.
+fn report_on<B: HallName, S: ShowsBoard<B>>(
+    alloc: Global,
+    published: &S,
+    what: &What,
+) -> Result<Vec<u8>, ReportFault>
+    ensures { Reports (project (S.list published.now)) usual what.now (seen result) }
+{
+    let kept = published.kept();
+    kept.report(alloc, published.board(), published.prefix(), what)
+}
+
 impl<W: Wait, K: Keeper, B: HallName, S: ShowsBoard<B>, R: Wait + Drop> Service
     for SeatService<'_, W, K, B, S, R> {
     ghost use Rattle.std.specs.Prelude.{Some};
@@ -71,10 +86,9 @@ impl<W: Wait, K: Keeper, B: HallName, S: ShowsBoard<B>, R: Wait + Drop> Service
 
     fn report(&mut self, alloc: Global, least: Option<u64>, what: &What) -> Shown {
         let wanted = wanted(least);
-        let told = self.seat.look_whole(
-            wanted,
-            |shown: &S| shown.kept().report(alloc, shown.board(), shown.prefix(), what),
-        );
+        let told = self
+            .seat
+            .look_whole(wanted, |published: &S| report_on(alloc, published, what));
         match told {
             Some((front, Some(told))) => shown(front, told),
             Some((front, None)) => Shown::Behind { front },
