@@ -4,7 +4,7 @@
 Usage: hall_times.py [PROGRAM]. The program is that of the crate hall_cases, as `rt run` builds it;
 it reads each connection as a case of a table, and what comes is compared. Each row is the best of five
 runs, the start of the program and the reading of the table included: moves on a sheet of 10,000
-objects, as `POST /edits`, 10,000 on each connection; and `GET /sheets` of an empty project, 10,000
+wires that touch nothing, as `POST /edits`, 10,000 on each connection; and `GET /sheets` of an empty project, 10,000
 times on one connection. Ten times the edits may take ten times as long.
 """
 import json
@@ -42,7 +42,7 @@ def done(serial, first):
 
 def edits(count):
     """The lines of a table of so many moves, on as many connections as they want."""
-    lines = ["file s.sch", f"times {OBJECTS} N # 0 0 100 4"]
+    lines = ["file s.sch", f"times {OBJECTS} N #00 0 #00 100 4"]
     lines += ["== each_caller_is_answered_by_one_history: connections", "text c"]
     lines.append(entry(1, kind="add_sheet", name="s.sch", text="@s.sch"))
     names, wanted = ["c"], [done(0, 0), "> Closed"]
