@@ -4,8 +4,8 @@
 Usage: hall_times.py [PROGRAM]. The program is that of the crate hall_cases, as `rt run` builds it;
 it reads each connection as a case of a table, and what comes is compared. Each row is the best of five
 runs, the start of the program and the reading of the table included: moves on a sheet of 10,000
-wires that touch nothing, as `POST /edits`, 10,000 on each connection; and `GET /sheets` of an empty project, 10,000
-times on one connection. Ten times the edits may take ten times as long.
+wires that touch nothing, as `POST /edits`, 10,000 on each connection; and `GET /sheets` of an empty
+project, 10,000 times on one connection. Ten times the edits may take ten times as long.
 """
 import json
 import pathlib
