@@ -43,7 +43,9 @@ fn width_of(span: Span) -> u32
     ensures { span.to ≤ span.from + result }
 {
     let length = span.to.saturating_sub(span.from);
-    for width in [0, 16, 256, 4096, 65_536, 1_048_576] {
+    for width in [
+        0, 16, 64, 256, 1024, 4096, 16_384, 65_536, 262_144, 1_048_576,
+    ] {
         if length <= width {
             return width;
         }
