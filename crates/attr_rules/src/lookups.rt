@@ -2,7 +2,9 @@
 ghost use Rattle.std.specs.Prelude.{◌≡◌, ◌==◌, ◌≤◌, ◌++◌, IfOk, OnOk, length, option_copied};
 ghost use Rattle.std.specs.List.{filter_map, slice_get, starts_with};
 ghost use Rattle.attr_rules.specs.Attributes.{all_attrs, attached, attr, attrs, free_text};
-ghost use Rattle.attr_rules.specs.Attributes.{inherited, parts_of, value_named, values_named};
+ghost use Rattle.attr_rules.specs.Attributes.{inherited, parts_of, value_if, value_named};
+ghost use Rattle.attr_rules.specs.Attributes.{values_named};
+ghost use Rattle.attr_rules.specs.Splits.{split_of};
 ghost use Rattle.attr_rules.specs.steps.PartValues.{has_equals_at, value_in_part};
 
 use crate::splits::split_attr;
@@ -23,15 +25,10 @@ fn has_equals_at(text: &str, count: usize) -> bool
     matches!(text.as_bytes().get(count), Some(b'='))
 }
 
-/// The value of a text that is an attribute of a name. Most texts have no `=` behind so many bytes
-/// or begin in another way, and are passed over.
-fn value_named<'a>(text: &'a Text, name: &str) -> Option<&'a str>
-    ensures { option_copied result ≡ value_named name.now text.now }
+/// The value of a text that is an attribute of a name.
+fn value_if_named<'a>(content: &'a str, name: &str) -> Option<&'a str>
+    ensures { option_copied result ≡ value_if name.now (split_of content.now) }
 {
-    let content = text.content.as_str();
-    if !has_equals_at(content, name.len()) {
-        return None;
-    }
     if !begins_with(content, name) {
         return None;
     }
@@ -40,6 +37,17 @@ fn value_named<'a>(text: &'a Text, name: &str) -> Option<&'a str>
         return Some(value);
     }
     None
+}
+
+/// The same. Most texts have no `=` behind so many bytes and are passed over, with no call.
+fn value_named<'a>(text: &'a Text, name: &str) -> Option<&'a str>
+    ensures { option_copied result ≡ value_named name.now text.now }
+{
+    let content = text.content.as_str();
+    if !has_equals_at(content, name.len()) {
+        return None;
+    }
+    value_if_named(content, name)
 }
 
 /// The value of the first of some texts that is an attribute of this name.

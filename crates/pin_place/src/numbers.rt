@@ -96,6 +96,9 @@ pub(crate) fn pin_number(
 ) -> Result<Word, AllocError>
     ensures { IfOk result (λ word. word ≡ pin_number numbers.now pin.now) }
 {
+    if numbers.is_empty() {
+        return own_number(alloc, first_value(pin.attrs, "pinnumber"));
+    }
     let place = sequence_of(first_value(pin.attrs, "pinseq"));
     match counted_from_1(numbers, place) {
         Some(number) => number.clone(),

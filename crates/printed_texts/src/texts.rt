@@ -1,5 +1,6 @@
 // Single texts, byte by byte.
-ghost use Rattle.std.specs.Prelude.{◌≡◌, ◌++◌, OnOk};
+ghost use Rattle.std.specs.Prelude.{◌≡◌, ◌==◌, ◌++◌, OnOk};
+ghost use Rattle.std.specs.List.{list_all};
 ghost use Rattle.printed_texts.specs.PrintedTexts.{flat, flat_byte, is_break, word, word_byte};
 
 use std::alloc::AllocError;
@@ -26,10 +27,21 @@ fn flat_byte(byte: u8) -> u8
     if is_break(byte) { b' ' } else { byte }
 }
 
+/// Whether each byte of a text prints in a word as it is.
+fn stays_in_word(text: &[u8]) -> bool
+    ensures { result ≡ list_all (λ b. word_byte b == b) text.now }
+{
+    text.iter().all(|byte| word_byte(*byte) == *byte)
+}
+
 /// Writes a text in which each space, tab, CR and LF becomes `_` (docs/FORMATS.md, "List text").
 pub fn put_word(out: &mut Vec<u8>, text: &[u8]) -> Result<(), AllocError>
     ensures { OnOk result (out.new.items ≡ out.old.items ++ word text.now) }
 {
+    // Most texts have none of these, and go out as one piece.
+    if stays_in_word(text) {
+        return out.extend_from_slice(text);
+    }
     for byte in text {
         out.push(word_byte(*byte))?;
     }
