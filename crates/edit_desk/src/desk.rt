@@ -199,6 +199,7 @@ impl Desk {
     pub(crate) fn tell_distinct(&self, entry: &Entry)
         ensures { AreDistinct (changes self.now.history entry.now.edit) }
     {
+        // They are read so that the proof sees what the rows keep to, and that the entry is in range.
         let _ = self.rows.len();
         let _ = &entry.edit;
     }

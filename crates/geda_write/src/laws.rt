@@ -21,6 +21,7 @@ pub fn sheet_again(sheet: &Sheet)
     ensures one { (bytes : List ℕ) (other : SheetData) → Spells SpellSheet bytes sheet.now
         → Spells SpellSheet bytes other → sheet_text other ≡ sheet_text sheet.now }
 {
+    // A field is read so that the proof sees that the sheet is in range.
     let _ = &sheet.head;
 }
 
@@ -34,6 +35,7 @@ pub fn symbol_again(symbol: &Symbol)
     ensures one { (bytes : List ℕ) (other : SymbolData) → Spells SpellSymbol bytes symbol.now
         → Spells SpellSymbol bytes other → symbol_text other ≡ symbol_text symbol.now }
 {
+    // A field is read so that the proof sees that the symbol is in range.
     let _ = &symbol.head;
 }
 
@@ -47,5 +49,6 @@ pub fn object_again(object: &Object)
     ensures one { (bytes : List ℕ) (other : ObjectData) → Spells SpellObject bytes object.now
         → Spells SpellObject bytes other → object_text other ≡ object_text object.now }
 {
+    // A field is read so that the proof sees that the object is in range.
     let _ = &object.body;
 }

@@ -6,6 +6,15 @@ ghost use Rattle.hierarchy.specs.Crowded.{AreTooMany, IsDeep, weight_of};
 use crate::table::TableSheet;
 use crate::way::Way;
 
+/// The ways that a project may have, and with them its instances.
+pub const MOST_WAYS: usize = 4096;
+
+/// The steps down that a way may have.
+pub const MOST_STEPS: usize = 16;
+
+/// What the objects of all instances may weigh together: one each, and one for each part.
+const MOST_WEIGHT: u128 = 4_000_000;
+
 fn weight_at(sheets: &[TableSheet], place: usize) -> u128
     ensures { result ≡ (sheet_at sheets.now place).weight }
 {
@@ -21,7 +30,7 @@ fn are_heavy(sheets: &[TableSheet], ways: &[Way]) -> bool
     let mut total: u128 = 0;
     for way in ways {
         let weight = weight_at(sheets, way.last_sheet());
-        if weight > 4_000_000 - total {
+        if weight > MOST_WEIGHT - total {
             return true;
         }
         total += weight;
@@ -32,7 +41,7 @@ fn are_heavy(sheets: &[TableSheet], ways: &[Way]) -> bool
 fn is_deep(way: &Way) -> bool
     ensures { IsTrue result ↔ IsDeep way.now }
 {
-    way.steps.len() > 16
+    way.steps.len() > MOST_STEPS
 }
 
 fn have_deep(ways: &[Way]) -> bool
@@ -52,5 +61,5 @@ fn are_deep_or_heavy(sheets: &[TableSheet], ways: &[Way]) -> bool
 pub fn are_too_many(sheets: &[TableSheet], ways: &[Way]) -> bool
     ensures { IsTrue result ↔ AreTooMany sheets.now ways.now }
 {
-    ways.len() > 4096 || are_deep_or_heavy(sheets, ways)
+    ways.len() > MOST_WAYS || are_deep_or_heavy(sheets, ways)
 }

@@ -9,7 +9,7 @@ ghost use Rattle.hierarchy.specs.Instances.{AreApart, IsCrowded, instances, inst
 ghost use Rattle.hierarchy.specs.Lost.{lost};
 ghost use Rattle.hierarchy.specs.steps.Inside.{AreSources};
 
-use crate::crowd::are_too_many;
+use crate::crowd::{MOST_STEPS, are_too_many};
 use crate::fault::ElabFault;
 use crate::filling::sheet_table;
 use crate::instances::{Instance, instances_at};
@@ -40,7 +40,7 @@ fn all_ways(alloc: Global, sheets: &[TableSheet]) -> Result<Vec<Way>, ElabFault>
     ensures crowded { IsErrOf result faults.TooManyInstances → HasTooMany sheets.now }
 {
     let mut ways = root_ways(alloc, sheets)?;
-    for depth in 0..17 {
+    for depth in 0..MOST_STEPS + 1 {
         if are_too_many(sheets, ways.as_slice()) {
             return Err(ElabFault::TooManyInstances);
         }

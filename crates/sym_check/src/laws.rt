@@ -12,6 +12,7 @@ use geda_model::Symbol;
 pub fn slots_hold(symbol: &Symbol)
     ensures { SlotsHold symbol.now }
 {
+    // A field is read so that the proof sees that the symbol is in range.
     let _ = &symbol.parts;
 }
 
