@@ -1,10 +1,16 @@
 -- The conductors of a project after a change: those that were there without those that left, and
 -- those that came.
 use Rattle.std.proofs.Common.{◌≡◌, inl, inr, ◌||◌, ◌&&◌, not, ℕ, ◌+◌, Bool, true, false, List, [], ◌∷◌, ◌++◌, Option, Some, None, IsSome, is_some, length, length-append, map, refl, sym, ap, subst, ◌∙◌, arith}
-use Rattle.std.specs.FinMap.{entries, get}
+use Rattle.std.specs.FinMap.{entries, entries_sorted, get, get-entries}
 use Rattle.std.specs.List.{sum_by}
+use Rattle.std.specs.Map.{keys_of}
+use Rattle.std.specs.Ordering.{eq_by_cmp, nat_cmp}
+use Rattle.std.proofs.lemmas.Cmp.{eq_by_cmp_equiv, nat_cmp_total}
 use Rattle.std.proofs.lemmas.Grind.{flat_map-append}
 use Rattle.std.proofs.lemmas.List.Sums.{sum_by-cons}
+use Rattle.std.proofs.lemmas.Map.Entries.{lookup_from_place}
+use Rattle.std.proofs.lemmas.Map.Keys.{IsDistinct-from_sorted}
+use Rattle.std.proofs.lemmas.Map.Lookups.{exact_unsigned}
 use Rattle.std.proofs.lemmas.Option.{same_Some}
 use Rattle.geda_geom.specs.declared.conductor.Conductor.{Conductor}
 use Rattle.geda_geom.specs.declared.conductor.Key.{Key}
@@ -15,6 +21,8 @@ use Rattle.project_model.specs.declared.change.Value.TheVariants as values
 use Rattle.project_model.specs.Items.{Item}
 use Rattle.project_model.specs.Projects.{ProjectData}
 use Rattle.project_model.specs.Changes.{AreDistinct, put}
+use Rattle.project_model.proofs.OrderedRows.{keys_sorted}
+use Rattle.project_model.proofs.Rows.{IsKey, find_row}
 use Rattle.group_runs.specs.Runs.{AreFree, AreThere, Coming, Leaving, SheetName, with_all, without}
 use Rattle.sheet_groups.specs.Conductors.{SheetConductor, conductors_at, sheet_conductor, sheet_conductors}
 use Rattle.board_core.specs.Changed.{has_symbol_of, has_thing, is_changed, is_object}
@@ -25,11 +33,17 @@ use Rattle.board_core.proofs.MemberLemmas.{at_place, distinct_append, distinct_f
 use Rattle.board_core.proofs.PutLemmas.{Stays, drawn_stays, given_has, given_or_stays, given_own, given_stands, in_entries, objects_apart, things_distinct}
 use Rattle.board_core.proofs.StandLemmas.{are_free, are_there, same_conductors, with_cases, with_has, with_keeps, without_cases, without_keeps}
 use Rattle.board_core.proofs.DrawnLemmas.{came, coming_distinct, conductor, id_of, ids_at, ids_distinct, keys_distinct, leaving_distinct, project_keys, stands, stood}
-use Rattle.board_core.proofs.TouchedLemmas.{found_row}
+
+-- ids are told apart by their order
+id_laws : IsKey nat_cmp (eq_by_cmp nat_cmp)
+id_laws = record { total = nat_cmp_total; exact = exact_unsigned; agree = λ x y. refl }
 
 -- a row among the entries is that of its id
 pub row_there : (p : ProjectData) (row : ℕ × Placed) → In row (entries p.objects) → get p.objects row.0 ≡ Some row.1
-row_there p row h = let at = at_place row (entries p.objects) h in found_row p at.0 row at.1
+row_there p row h =
+    let at = at_place row (entries p.objects) h in
+    get-entries p.objects row.0 ∙ find_row id_laws (entries p.objects) row.0
+    ∙ lookup_from_place (eq_by_cmp_equiv nat_cmp_total) (entries p.objects) at.0 row.0 row.1 (IsDistinct-from_sorted nat_cmp (keys_of (entries p.objects)) (keys_sorted nat_cmp (entries p.objects) (entries_sorted p.objects))) at.1
 
 -- the change has the object of a row, or its symbol
 pub changed_own : (items : List Item) (row : ℕ × Placed) → has_thing (is_object row.0) items ≡ true → is_changed items row ≡ true

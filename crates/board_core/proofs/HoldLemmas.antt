@@ -60,12 +60,6 @@ kept_not_gone None k = refl
 kept_not_gone (Some None) k = absurd k
 kept_not_gone (Some (Some g)) k = refl
 
--- what is not given up and has an entry is kept
-pub of_kept : (r : Option (Option GroupsData)) (cs : Conductors) → HoldsSheet r cs → is_given_up r ≡ false → HasEntry r → IsKept r
-of_kept None cs h e k = k
-of_kept (Some None) cs h e k = let clash : true ≡ false = e in absurd (cc)
-of_kept (Some (Some g)) cs h e k = h.0
-
 pub among_kept : (rows : Rows) (s : SheetName) (ss : List SheetName) → IsAmong s ss → AreKept rows ss → IsKept (row_at rows s)
 among_kept rows s [] m k = absurd m
 among_kept rows s (t ∷ ts) (inl e) k = subst (λ x. IsKept (row_at rows x)) (sym e) k.0

@@ -1,6 +1,4 @@
 pub mod ThingLemmas
-pub mod TouchedLemmas
-pub mod SizeLemmas
 pub mod MemberLemmas
 pub mod PutLemmas
 pub mod StandLemmas

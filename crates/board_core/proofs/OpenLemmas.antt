@@ -31,9 +31,6 @@ pub record IsOpening (now : Rows) (all left : List SheetName) : Type 0 where
   pub bare : AreBare now
   pub kept : (s : SheetName) → In s all → IsKept (row_at now s) ⊎ In s left
 
-pub opening_begins : (rows : Rows) (all : List SheetName) → AreBare rows → IsOpening rows all all
-opening_begins rows all bare = record { bare = bare; kept = λ s h. inr h }
-
 pub opening_more : (now after : Rows) (all : List SheetName) (sheet : SheetName) (left : List SheetName) → IsOpening now all (sheet ∷ left) → IsKept (row_at after sheet) → kept_at after ≡ kept_at now
     → KeepsOtherSheets sheet now after → IsOpening after all left
 opening_more now after all sheet left way opened same others = record {

@@ -12,6 +12,10 @@ use Rattle.std.proofs.lemmas.Cmp.{nat_cmp_total}
 use Rattle.std.proofs.lemmas.List.{append-nil}
 use Rattle.std.proofs.lemmas.Map.Lookups.{exact_unsigned}
 use Rattle.std.proofs.lemmas.Map.Views.{btree_set_contains_iff}
+use Rattle.geda_model.specs.declared.object.Body.{Body}
+use Rattle.geda_model.specs.declared.object.Body.TheVariants as bodies
+use Rattle.geda_model.specs.Shapes.{PartData}
+use Rattle.geda_model.specs.Sheets.{ObjectData}
 use Rattle.project_model.specs.declared.change.Placed.{Placed}
 use Rattle.project_model.specs.Items.{Item}
 use Rattle.project_model.specs.Projects.{ProjectData}
@@ -19,7 +23,7 @@ use Rattle.project_model.specs.Changes.{put}
 use Rattle.project_model.proofs.OrderedRows.{keys_sorted}
 use Rattle.sheet_groups.specs.Conductors.{conductors_at, sheet_conductor}
 use Rattle.board_core.specs.Bounds.{is_renewed}
-use Rattle.board_core.specs.Changed.{has_symbol_of, has_thing, is_changed, is_object}
+use Rattle.board_core.specs.Changed.{has_symbol, has_symbol_of, has_thing, is_changed, is_object}
 use Rattle.board_core.specs.steps.ChangedThings.{HasNoSymbol}
 use Rattle.board_core.specs.steps.Members.{In}
 use Rattle.board_core.specs.steps.Standing.{changed_rows, coming_rows, drawn_in, found_row, found_rows, given_rows, own_rows}
@@ -27,7 +31,6 @@ use Rattle.board_core.proofs.MemberLemmas.{contains_in, filtered, found, in_cont
 use Rattle.board_core.proofs.PutLemmas.{drawn_stays, in_entries}
 use Rattle.board_core.proofs.ChangeLemmas.{row_there}
 use Rattle.board_core.proofs.DrawnLemmas.{all_in, ids_at}
-use Rattle.board_core.proofs.TouchedLemmas.{no_symbol_of}
 
 -- what is less is below
 nat_cmp_less : (a b : ℕ) → nat_cmp a b ≡ Less → a < b
@@ -134,6 +137,18 @@ filter_same t u (row ∷ rows) same = λ i. cond (same row i) (row ∷ filter_sa
 none_passes : (t : ℕ × Placed → Bool) (rows : List (ℕ × Placed)) → ((row : ℕ × Placed) → t row ≡ false) → filter t rows ≡ []
 none_passes t [] none = refl
 none_passes t (row ∷ rows) none = ap (λ b. cond b (row ∷ filter t rows) (filter t rows)) (none row) ∙ none_passes t rows none
+
+-- a change without symbols has no library symbol of any object
+no_symbol_of : (items : List Item) (o : ObjectData) → HasNoSymbol items → has_symbol_of items o ≡ false
+no_symbol_of items o none = by o.body refl
+  where
+    of_parts : (basename : List ℕ) (parts : Option (List PartData)) → has_symbol items basename parts ≡ false
+    of_parts basename None = none basename
+    of_parts basename (Some parts) = refl
+
+    by : (body : Body) → o.body ≡ body → has_symbol_of items o ≡ false
+    by (bodies.Shape s) is = rw is refl
+    by (bodies.Component c) is = rw is (of_parts c.basename c.embedded)
 
 module _ (p : ProjectData) (items : List Item) (none : HasNoSymbol items) where
   -- a change without symbols changes its own objects alone

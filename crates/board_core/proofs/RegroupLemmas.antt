@@ -14,7 +14,7 @@ use Rattle.board_core.specs.Bounds.{IsBound}
 use Rattle.board_core.specs.Changed.{is_changed}
 use Rattle.board_core.specs.steps.Members.{In}
 use Rattle.board_core.specs.steps.Standing.{changed_rows, come, coming_drawn, coming_rows, leave, leaving_drawn, on_sheet}
-use Rattle.board_core.specs.steps.Kept.{AreRenewed, HoldsProject, HoldsSheet, IsPartly, IsRegrouped, Renews, StaysWithin, sheets_at, sheets_named, touched_sheets}
+use Rattle.board_core.specs.steps.Kept.{AreRenewed, HoldsSheet, IsPartly, IsRegrouped, Renews, StaysWithin, sheets_at, sheets_named, touched_sheets}
 use Rattle.board_core.proofs.MemberLemmas.{flat, in_filter, in_left, in_map, in_right, mapped}
 use Rattle.board_core.proofs.DrawnLemmas.{sheet_of}
 use Rattle.board_core.proofs.ChangeLemmas.{coming_counted, coming_free, leaving_there, left_of, on_sheet-put}
@@ -120,14 +120,3 @@ module _ (p : ProjectData) (items : List Item) where
     pub all_free : AreDistinct items → AreFree (without (kept_at mid) ls) cs
     all_free once =
         free_alike mid (without (on_sheet p) ls) (without (kept_at mid) ls) cs (without_alike mid (on_sheet p) (kept_at mid) ls alike left_kept) come_kept (coming_free p items once)
-
-  -- nothing was done
-  pub partly_none : (rows : Rows) → HoldsProject p rows → IsPartly p items rows rows
-  partly_none rows held = record { held = held; others = λ s n i. row_at rows s }
-
-  -- sheets were grouped anew, and no conductor left or came
-  pub partly_renewed : (old new : Rows) (a b : ℕ) → Renews p old new a b (touched_sheets p items) → IsPartly p items old new
-  partly_renewed old new a b renews = record { held = renews.held; others = renews.others }
-
-  pub within_renewed : (old new : Rows) (a b : ℕ) → Renews p old new a b (touched_sheets p items) → StaysWithin p items old a b
-  within_renewed old new a b renews none sum sizes = let free = renews.free none in omega (arith, free)

@@ -19,9 +19,6 @@ renews_none p rows steps sheets held = record {
   free = λ h. omega arith;
 }
 
-pub renewed_none : (rows : Rows) → AreRenewed rows rows []
-renewed_none rows = record { kept = λ s h. absurd h; fewer = λ s e. e }
-
 -- one sheet
 module _ (p : ProjectData) (old new : Rows) (before after : ℕ) (sheet : SheetName) where
   pub renews_one : HoldsProject p new → KeepsOtherSheets sheet old new → KeepsGroups old new → before ≤ after → (is_given_up (row_at old sheet) ≡ false → after ≤ before)
@@ -87,9 +84,6 @@ pub record IsRenewing (p : ProjectData) (old now : Rows) (a b : ℕ) (all left :
   pub are : done ++ left ≡ all
   pub renews : Renews p old now a b done
   pub renewed : AreRenewed old now done
-
-pub renewing_begins : (p : ProjectData) (rows : Rows) (steps : ℕ) (all : List SheetName) → HoldsProject p rows → IsRenewing p rows rows steps steps all all
-renewing_begins p rows steps all held = record { done = []; are = refl; renews = renews_none p rows steps [] held; renewed = renewed_none rows }
 
 module _ (p : ProjectData) (old now new : Rows) (a b c : ℕ) (all xs ys : List SheetName) (way : IsRenewing p old now a b all (xs ++ ys)) (next : Renews p now new b c xs) where
   pub renewing_more : AreRenewed now new xs → IsRenewing p old new a c all ys

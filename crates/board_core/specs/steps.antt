@@ -1,7 +1,6 @@
 -- Steps of the code; no public clause cites them.
 pub mod Members
 pub mod ChangedThings
-pub mod Sizes
 pub mod Standing
 pub mod Kept
 pub mod Reading

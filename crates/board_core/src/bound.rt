@@ -3,21 +3,17 @@ ghost use Rattle.std.specs.Prelude.{IfOk};
 ghost use Rattle.project_model.specs.Changes.{CanApply};
 ghost use Rattle.board_core.specs.Bounds.{IsBound};
 
-use crate::changed::Things;
-use crate::drawn::coming_drawn;
-use crate::rows::coming_rows;
-use crate::sizes::sizes_of;
+use crate::grouped::grouped;
+use crate::regroup::regroup;
 use project_model::{Change, Project};
 use std::alloc::{AllocError, Global};
 
-/// The bound of a change; at most 2^64 - 1.
+/// The bound of a change; at most 2^64 - 1. The project is grouped anew, and the change is made to
+/// those groups.
 pub(crate) fn bound_of(alloc: Global, project: &Project, change: &Change) -> Result<u64, AllocError>
     requires { CanApply change.now.items }
     ensures { IfOk result (IsBound project.now.contents change.now.items) }
 {
-    let things = Things::of(alloc, change.items.as_slice())?;
-    let sizes = sizes_of(alloc, project, &things)?;
-    let rows = coming_rows(alloc, project, &things)?;
-    let coming = coming_drawn(alloc, project, change, &things, &rows)?;
-    Ok(sizes.saturating_add(coming.len() as u64))
+    let mut groups = grouped(alloc, project)?;
+    regroup(alloc, project, &mut groups, change)
 }

@@ -3,14 +3,13 @@ ghost use Rattle.std.specs.Prelude.{◌≡◌, false, IfOk, OnOk, map};
 ghost use Rattle.std.specs.BTreeSet.{IsOrdered};
 ghost use Rattle.std.specs.HashSet.{contains_text};
 ghost use Rattle.std.specs.Ordering.{nat_cmp};
-ghost use Rattle.std.specs.List.{list_any};
 ghost use Rattle.std.specs.Option.{option_map};
 ghost use Rattle.project_model.specs.Items.{Item};
 ghost use Rattle.board_core.specs.Changed.{has_symbol, has_symbol_of, has_thing};
 ghost use Rattle.board_core.specs.Changed.{is_changed, is_object};
 ghost use Rattle.board_core.specs.Bounds.{is_renewed};
 ghost use Rattle.board_core.specs.steps.ChangedThings.{AddsId, AddsSymbol, HasNoSymbol};
-ghost use Rattle.board_core.specs.steps.ChangedThings.{has_id, may_touch};
+ghost use Rattle.board_core.specs.steps.ChangedThings.{has_id};
 ghost use Rattle.board_core.specs.steps.Standing.{found_row, found_rows, own_rows};
 ghost use Rattle.project_model.specs.Tables.{row_now};
 
@@ -175,23 +174,4 @@ impl<'a> Things<'a> {
     {
         !self.has_object(id) && self.has_symbol_of(&placed.object)
     }
-}
-
-fn may_touch(project: &Project, thing: &Thing) -> bool
-    ensures { result ≡ may_touch project.now.contents thing.now }
-{
-    match thing {
-        Thing::Object(id) => project.object(*id).is_some(),
-        Thing::SymbolName(_) => true,
-        Thing::SheetName(_) => false,
-    }
-}
-
-/// Whether a change may take any conductor of a project away: it has a symbol, or an object that
-/// stands there. It takes no memory.
-pub(crate) fn may_take(project: &Project, items: &[(Thing, Option<Value>)]) -> bool
-    ensures { result ≡
-        list_any (λ (item : Item). may_touch project.now.contents item.0) items.now }
-{
-    items.iter().any(|item| may_touch(project, &item.0))
 }

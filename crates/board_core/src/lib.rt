@@ -14,6 +14,5 @@ mod put_in;
 mod regroup;
 mod renewing;
 mod rows;
-mod sizes;
 
 pub use board::Board;

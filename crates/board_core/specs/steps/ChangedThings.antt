@@ -1,15 +1,10 @@
 -- Steps of the code; no public clause cites them.
--- The things of a change as sets of ids and of names of symbols, and whether it may take away any
--- conductor of a project.
+-- The things of a change as sets of ids and of names of symbols.
 use Rattle.std.specs.Prelude.{◌≡◌, ℕ, Bool, true, false, cond, List}
-use Rattle.std.specs.FinMap as map
 use Rattle.std.specs.BTreeSet.{BTreeSet, contains}
-use Rattle.std.specs.Option.{is_some}
 use Rattle.std.specs.Ordering.{nat_cmp}
 use Rattle.project_model.specs.declared.change.Thing.{Thing}
-use Rattle.project_model.specs.declared.change.Thing.TheVariants as things
 use Rattle.project_model.specs.Items.{Item}
-use Rattle.project_model.specs.Projects.{ProjectData}
 use Rattle.board_core.specs.Changed.{has_thing, is_object, is_symbol}
 
 -- the set has this id
@@ -33,9 +28,3 @@ AddsSymbol thing old new = (name : List ℕ) → new name ≡ cond (is_symbol na
 -- no symbol is among the things of a change
 abbrev pub HasNoSymbol : List Item → Type 0
 HasNoSymbol items = (name : List ℕ) → has_thing (is_symbol name) items ≡ false
-
--- the thing is a symbol, or an object that stands in the project
-abbrev pub may_touch : ProjectData → Thing → Bool
-may_touch p (things.Object id) = is_some (map.get p.objects id)
-may_touch p (things.SymbolName name) = true
-may_touch p (things.SheetName name) = false
