@@ -2,8 +2,10 @@
 ghost use Rattle.std.specs.Prelude.{◌≡◌};
 
 use crate::hall_fault::HallFault;
-use hall_core::{Hall, HallName, NewLog, Places, Seat, ShowsBoard, close_hall, open_hall};
-use hall_http::{LinkEnd, MemoryLink, serve_link};
+use hall_core::{
+    Hall, HallName, NewLog, Places, Seat, ShowsBoard, ShowsKept, close_hall, open_hall,
+};
+use hall_http::{KeptReports, LinkEnd, MemoryLink, serve_link};
 use keeper_core::MemoryKeeper;
 use std::alloc::{AllocError, Global};
 use std::marker::Brand;
@@ -35,7 +37,7 @@ pub struct Served {
     pub held: bool,
 }
 
-fn serve_input<W: Wait, B: HallName, S: ShowsBoard<B>, R: Wait + Drop>(
+fn serve_input<W: Wait, B: HallName, S: ShowsKept<B, KeptReports<B>>, R: Wait + Drop>(
     rt: &W,
     alloc: Global,
     hall: &Hall<MemoryKeeper, B, S, R>,
@@ -48,7 +50,7 @@ fn serve_input<W: Wait, B: HallName, S: ShowsBoard<B>, R: Wait + Drop>(
 }
 
 /// Serves each input by the next of the seats, and after the last by the first again.
-fn serve_inputs<W: Wait, B: HallName, S: ShowsBoard<B>, R: Wait + Drop>(
+fn serve_inputs<W: Wait, B: HallName, S: ShowsKept<B, KeptReports<B>>, R: Wait + Drop>(
     rt: &W,
     alloc: Global,
     hall: &Hall<MemoryKeeper, B, S, R>,
@@ -74,7 +76,7 @@ fn last_look<B: HallName, S: ShowsBoard<B>>(seats: &mut Vec<Seat<B, S>>) -> Opti
 }
 
 /// Serves the inputs, and closes the hall.
-fn serve_and_close<W: Wait, B: HallName, S: ShowsBoard<B>, R: Wait + Drop>(
+fn serve_and_close<W: Wait, B: HallName, S: ShowsKept<B, KeptReports<B>>, R: Wait + Drop>(
     rt: &W,
     alloc: Global,
     hall: &Hall<MemoryKeeper, B, S, R>,

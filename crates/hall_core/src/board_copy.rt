@@ -8,23 +8,22 @@ ghost use Rattle.hall_core.specs.BoardSteps.{StepData, applied_to};
 use board_core::Board;
 use edit_entries::Entry;
 use hall_log::{HallName, Prefix};
-use kept_reports::KeptReports;
 use left_right::Absorb;
 use project_model::Change;
 use std::alloc::{AllocError, Global};
 use std::marker::Model;
 
-/// A board, the prefix whose project it has, and the texts of reports on it that were made.
-/// Contracts see the entries of the prefix.
+/// A board, the prefix whose project it has, and what is kept beside it until it takes the next
+/// change, as texts that were made of it. Contracts see the entries of the prefix.
 #[derive(Drop)]
-pub struct PrefixBoard<B: HallName> {
+pub struct PrefixBoard<B: HallName, T: Default + Drop> {
     alloc: Global,
     board: Board,
     prefix: Prefix<B>,
-    kept: KeptReports<B>,
+    kept: T,
 }
 
-impl<B: HallName> Model for PrefixBoard<B> {
+impl<B: HallName, T: Default + Drop> Model for PrefixBoard<B, T> {
     ghost use Rattle.std.specs.Prelude.{◌≡◌, List};
     ghost use Rattle.edit_entries.specs.Entries.{EntryData};
     ghost use Rattle.edit_rules.specs.Histories.{project};
@@ -55,9 +54,9 @@ impl<B: HallName> Model for NextChange<B> {
     ghost invariant = { λ o. IsNextChange o.before o.after o.change.items };
 }
 
-impl<B: HallName> PrefixBoard<B> {
-    /// The board of these entries. It takes no memory.
-    pub fn new(alloc: Global, board: Board, prefix: Prefix<B>) -> PrefixBoard<B>
+impl<B: HallName, T: Default + Drop> PrefixBoard<B, T> {
+    /// The board of these entries, and nothing beside it.
+    pub fn new(alloc: Global, board: Board, prefix: Prefix<B>) -> PrefixBoard<B, T>
         requires { board.project ≡ project prefix }
         ensures { result ≡ prefix }
     {
@@ -65,7 +64,7 @@ impl<B: HallName> PrefixBoard<B> {
             alloc,
             board,
             prefix,
-            kept: KeptReports::new(),
+            kept: T::default(),
         }
     }
 }
@@ -111,9 +110,6 @@ pub trait ShowsBoard<B: HallName>: Absorb<NextChange<B>, State = [Entry; 0]> + D
     fn board(&self) -> &Board
         ensures { result.now.project ≡ project (list self.now) };
 
-    /// The texts of reports that were made on it. It takes no memory.
-    fn kept(&self) -> &KeptReports<B>;
-
     /// The state of a copy is its entries.
     ghost lists: { (s : Self) → Self.Absorb.state s ≡ list s };
 
@@ -122,7 +118,13 @@ pub trait ShowsBoard<B: HallName>: Absorb<NextChange<B>, State = [Entry; 0]> + D
         Self.Absorb.applied xs op ≡ applied_to xs op };
 }
 
-impl<B: HallName> ShowsBoard<B> for PrefixBoard<B> {
+/// What is published, with a T beside the board until it takes the next change.
+pub trait ShowsKept<B: HallName, T>: ShowsBoard<B> {
+    /// What is kept beside the board. It takes no memory.
+    fn kept(&self) -> &T;
+}
+
+impl<B: HallName, T: Default + Drop> ShowsBoard<B> for PrefixBoard<B, T> {
     ghost use Rattle.std.specs.Prelude.{refl};
 
     ghost list = { λ s. s };
@@ -138,13 +140,15 @@ impl<B: HallName> ShowsBoard<B> for PrefixBoard<B> {
     fn board(&self) -> &Board {
         &self.board
     }
+}
 
-    fn kept(&self) -> &KeptReports<B> {
+impl<B: HallName, T: Default + Drop> ShowsKept<B, T> for PrefixBoard<B, T> {
+    fn kept(&self) -> &T {
         &self.kept
     }
 }
 
-impl<B: HallName> Absorb<NextChange<B>> for PrefixBoard<B> {
+impl<B: HallName, T: Default + Drop> Absorb<NextChange<B>> for PrefixBoard<B, T> {
     type State = [Entry; 0];
 
     ghost state = { λ s. s };
@@ -154,7 +158,7 @@ impl<B: HallName> Absorb<NextChange<B>> for PrefixBoard<B> {
     fn absorb_first(
         &mut self,
         operation: &NextChange<B>,
-        _other: &PrefixBoard<B>,
+        _other: &PrefixBoard<B, T>,
     ) -> Result<(), AllocError> {
         // Each copy takes the steps in their order, so this is never so. The proof needs the test:
         // it knows the prefix that a step is to follow, and not which one this copy has.
@@ -165,7 +169,7 @@ impl<B: HallName> Absorb<NextChange<B>> for PrefixBoard<B> {
         self.board.apply(self.alloc, &operation.change)?;
         self.prefix = operation.after.again();
         // What was kept is of the entries before, and would never be answered.
-        self.kept = KeptReports::new();
+        self.kept = T::default();
         Ok(())
     }
 }

@@ -1,5 +1,5 @@
 // The hall: the pen behind a lock, and the seats.
-ghost use Rattle.std.specs.Prelude.{◌≡◌, ◌≤◌, ◌<◌, ◌+◌, ◌*◌, [], All, length, IfSome, IfOk, IfErr, IsErrOf, None, Option, List};
+ghost use Rattle.std.specs.Prelude.{◌≡◌, ◌≤◌, ◌<◌, ◌+◌, ◌*◌, [], All, length, IfSome, IfOk, IfErr, IsErrOf, IsTrue, None, Option, List};
 ghost use Rattle.geda_defs.specs.Causes.{HasRisen};
 ghost use Rattle.edit_entries.specs.Entries.{EntryData};
 ghost use Rattle.edit_rules.specs.Verdicts.{Legal};
@@ -36,11 +36,11 @@ impl<K: Keeper, B: HallName, S: ShowsBoard<B>, R: Wait + Drop> Drop for Hall<K, 
     }
 }
 
-/// The hall of a board, whose writer waits by R.
-pub type BoardHall<K, B, R> = Hall<K, B, PrefixBoard<B>, R>;
+/// The hall of a board that a T is kept beside, and whose writer waits by R.
+pub type BoardHall<K, B, T, R> = Hall<K, B, PrefixBoard<B, T>, R>;
 
 /// A seat of it.
-pub type BoardSeat<B> = Seat<B, PrefixBoard<B>>;
+pub type BoardSeat<B, T> = Seat<B, PrefixBoard<B, T>>;
 
 /// Takes the lock, and answers the entry: exactly by the verdict on it after the whole history
 /// (docs/RULES.md, "Seats"). The seat has then seen the whole history, but for `NoEntry` and
@@ -95,12 +95,32 @@ fn seats_at<B: HallName, S: ShowsBoard<B>, R: Wait + Drop>(
     Ok(seats)
 }
 
+// Adds the entries of a history to the list of none, and says whether it did: it did not where the
+// list is longer than was seen.
+fn list_all<B: HallName>(listed: &mut Prefix<B>, log_length: &LogLength<B>, desk: &Desk) -> bool
+    requires { listed.old ≡ [] }
+    ensures { IsTrue result → listed.new ≡ desk.now.history }
+{
+    let front = desk.front();
+    let mut serial = 0;
+    while serial < front {
+        let Some(entry) = desk.entry(serial) else {
+            return false;
+        };
+        if !listed.add(log_length, entry) {
+            return false;
+        }
+        serial += 1;
+    }
+    true
+}
+
 // What is published at first: the board of the whole history.
-fn first_board<B: HallName>(
+fn first_board<B: HallName, T: Default + Drop>(
     alloc: Global,
     desk: &Desk,
     prefix: &Prefix<B>,
-) -> Result<PrefixBoard<B>, OpenFault>
+) -> Result<PrefixBoard<B, T>, OpenFault>
     requires { prefix.now ≡ desk.now.history }
     ensures shown { IfOk result (λ board. board ≡ desk.now.history) }
     ensures other { IfErr result (λ e. e ≡ OpenFault.NoMemory) }
@@ -109,11 +129,11 @@ fn first_board<B: HallName>(
     Ok(PrefixBoard::new(alloc, board, prefix.again()))
 }
 
-fn first_boards<B: HallName>(
+fn first_boards<B: HallName, T: Default + Drop>(
     alloc: Global,
     desk: &Desk,
     prefix: &Prefix<B>,
-) -> Result<(PrefixBoard<B>, PrefixBoard<B>), OpenFault>
+) -> Result<(PrefixBoard<B, T>, PrefixBoard<B, T>), OpenFault>
     requires { prefix.now ≡ desk.now.history }
     ensures shown { IfOk result
         (λ boards. (boards.0 ≡ desk.now.history) × (boards.1 ≡ desk.now.history)) }
@@ -130,13 +150,13 @@ fn first_boards<B: HallName>(
 }
 
 // The history, published whole. Each exit gives what goes away to `drop`, by its type.
-fn published_at_first<B: HallName, R: Wait + Drop>(
+fn published_at_first<B: HallName, T: Default + Drop, R: Wait + Drop>(
     alloc: Global,
     rt: R,
     desk: Desk,
     log: (LogLength<B>, Prefix<B>),
     seats: u32,
-) -> Result<PublishedDesk<B, PrefixBoard<B>, R>, OpenFault>
+) -> Result<PublishedDesk<B, PrefixBoard<B, T>, R>, OpenFault>
     requires listed { log.1 ≡ desk.history }
     requires seats { 0 < seats }
     ensures published { IfOk result (λ d. (d.history ≡ desk.history) × (d.shown ≡ desk.history)
@@ -163,14 +183,14 @@ fn published_at_first<B: HallName, R: Wait + Drop>(
 /// `KeeperFault` only where a call of the keeper failed. Where the rows are told, `RowRefused` only
 /// where the rules do not accept that row, which is the first such one, and a hall only where they
 /// accept each. `NoPlace` only where the count of `places` rose.
-pub fn open_hall<K: Keeper, B: HallName, R: Wait + Drop>(
+pub fn open_hall<K: Keeper, B: HallName, T: Default + Drop, R: Wait + Drop>(
     alloc: Global,
     rt: R,
     named: NamedLog<B>,
     keeper: K,
     seats: u32,
     places: &mut Places,
-) -> Result<(BoardHall<K, B, R>, Vec<BoardSeat<B>>), OpenFault>
+) -> Result<(BoardHall<K, B, T, R>, Vec<BoardSeat<B, T>>), OpenFault>
     requires { (0 < seats) × (seats ≤ 32) × (seats ≡ B.seats) }
     ensures seats { IfOk result (λ opened. length opened.1.items ≡ seats) }
     ensures seen { IfOk result (λ opened. IfSome (K.rows keeper)
@@ -184,7 +204,7 @@ pub fn open_hall<K: Keeper, B: HallName, R: Wait + Drop>(
     let desk = read_rows(alloc, &mut keeper)?;
     let (log_length, mut seen, mut owed, mut rest) = named.into_parts();
     // The list is new, so that it takes all entries; no clause says so.
-    if !seen.add_all(&log_length, &desk) {
+    if !list_all(&mut seen, &log_length, &desk) {
         drop(desk);
         return Err(OpenFault::NoMemory);
     }

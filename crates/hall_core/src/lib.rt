@@ -17,7 +17,7 @@ mod published;
 mod rows;
 mod seat;
 
-pub use board_copy::{NextChange, PrefixBoard, ShowsBoard};
+pub use board_copy::{NextChange, PrefixBoard, ShowsBoard, ShowsKept};
 pub use door::{Door, Places};
 pub use hall::{BoardHall, BoardSeat, Hall, close_hall, edit, open_hall};
 pub use hall_log::{HallName, NamedLog, NewLog, Prefix};

@@ -107,7 +107,7 @@ impl<B: HallName, S: ShowsBoard<B>> Seat<B, S> {
         )
     }
 
-    /// Shows all that is published, the board with its prefix and the kept texts of reports, as
+    /// Shows all that is published, the board with its prefix and what is kept beside it, as
     /// `look_from` shows the board.
     pub fn look_whole<T, F: FnOnce(&S) -> T + Drop>(
         &mut self,

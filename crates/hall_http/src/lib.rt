@@ -8,5 +8,6 @@
 mod seat_service;
 mod serving;
 
+pub use kept_reports::KeptReports;
 pub use serving::serve_link;
 pub use web_http::{Link, LinkEnd, LinkFault, MemoryLink};

@@ -7,8 +7,9 @@ ghost use Rattle.reports.specs.NetLists.{seen};
 ghost use Rattle.reports.specs.Reports.{Reports};
 
 use edit_entries::Entry;
-use hall_core::{Hall, HallName, Seat, ShowsBoard, edit};
+use hall_core::{Hall, HallName, Seat, ShowsKept, edit};
 use keeper_core::{Keeper, Reply};
+use kept_reports::KeptReports;
 use reports::{ReportFault, What};
 use std::alloc::Global;
 use std::sync::Wait;
@@ -16,7 +17,14 @@ use web_http::{Bytes, Service, Shown};
 
 /// A seat of a hall, with the hall that its edits go to.
 #[derive(Drop)]
-pub struct SeatService<'a, W: Wait, K: Keeper, B: HallName, S: ShowsBoard<B>, R: Wait + Drop> {
+pub struct SeatService<
+    'a,
+    W: Wait,
+    K: Keeper,
+    B: HallName,
+    S: ShowsKept<B, KeptReports<B>>,
+    R: Wait + Drop,
+> {
     pub rt: &'a W,
     pub hall: &'a Hall<K, B, S, R>,
     pub seat: &'a mut Seat<B, S>,
@@ -47,7 +55,7 @@ fn shown(front: u32, told: Result<Vec<u8>, ReportFault>) -> Shown
 }
 
 /// The report on what is published, by the usual matrix: a text that is kept, or one that is made.
-fn report_on<B: HallName, S: ShowsBoard<B>>(
+fn report_on<B: HallName, S: ShowsKept<B, KeptReports<B>>>(
     alloc: Global,
     published: &S,
     what: &What,
@@ -58,7 +66,7 @@ fn report_on<B: HallName, S: ShowsBoard<B>>(
     kept.report(alloc, published.board(), published.prefix(), what)
 }
 
-impl<W: Wait, K: Keeper, B: HallName, S: ShowsBoard<B>, R: Wait + Drop> Service
+impl<W: Wait, K: Keeper, B: HallName, S: ShowsKept<B, KeptReports<B>>, R: Wait + Drop> Service
     for SeatService<'_, W, K, B, S, R> {
     ghost use Rattle.std.specs.Prelude.{Some};
 

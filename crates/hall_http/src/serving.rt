@@ -7,8 +7,9 @@ ghost use Rattle.web_http.specs.Serving.{Serves};
 ghost use Rattle.hall_http.specs.Stands.{stand_of};
 
 use crate::seat_service::SeatService;
-use hall_core::{Hall, HallName, Seat, ShowsBoard};
+use hall_core::{Hall, HallName, Seat, ShowsKept};
 use keeper_core::Keeper;
+use kept_reports::KeptReports;
 use std::alloc::Global;
 use std::sync::Wait;
 use web_http::{Link, LinkEnd, serve};
@@ -22,13 +23,14 @@ use web_http::{Link, LinkEnd, serve};
 /// or it is 503, or 500, of which there are at most as many as the seat's refusals rose, or 507, by
 /// whose number its losses rose. After `NoMemory` nothing was read or written, and the seat has seen
 /// what it had.
-pub fn serve_link<W: Wait, K: Keeper, B: HallName, S: ShowsBoard<B>, R: Wait + Drop, L: Link>(
-    rt: &W,
-    alloc: Global,
-    hall: &Hall<K, B, S, R>,
-    seat: &mut Seat<B, S>,
-    link: &mut L,
-) -> LinkEnd
+pub fn serve_link<
+    W: Wait,
+    K: Keeper,
+    B: HallName,
+    S: ShowsKept<B, KeptReports<B>>,
+    R: Wait + Drop,
+    L: Link,
+>(rt: &W, alloc: Global, hall: &Hall<K, B, S, R>, seat: &mut Seat<B, S>, link: &mut L) -> LinkEnd
     // what was answered, and how it ended
     ensures serves { Serves (stand_of seat.old) (stand_of seat.new)
         (L.input link.old) (L.input link.new) (L.output link.old) (L.output link.new) result }

@@ -5,7 +5,6 @@ ghost use mathlib.Core.List.{IsPrefix};
 ghost use Rattle.hall_log.specs.Histories.{IsHistory, MayFollow};
 ghost use Rattle.hall_log.specs.Logs.{IsLonger, head_of};
 
-use edit_desk::Desk;
 use edit_entries::Entry;
 use logbook::{Gain, Offer, Plain, Play, Rule, Seen, Start, Word};
 use std::marker::{Brand, Model, PhantomData};
@@ -253,25 +252,5 @@ impl<B: HallName> Prefix<B> {
             );
         self.entries = if found == entries { entries + 1 } else { found };
         found == entries
-    }
-
-    /// Adds the entries of a history to the list of none, and says whether it did: it did not where
-    /// the list is longer than was seen. It takes no memory.
-    pub fn add_all(&mut self, log_length: &LogLength<B>, desk: &Desk) -> bool
-        requires { self.old ≡ [] }
-        ensures { IsTrue result → self.new ≡ desk.now.history }
-    {
-        let front = desk.front();
-        let mut serial = 0;
-        while serial < front {
-            let Some(entry) = desk.entry(serial) else {
-                return false;
-            };
-            if !self.add(log_length, entry) {
-                return false;
-            }
-            serial += 1;
-        }
-        true
     }
 }

@@ -9,6 +9,7 @@ use crate::fault::ServeFault;
 use crate::workers::serve_all;
 use gates::Gate;
 use hall_core::{BoardHall, BoardSeat, HallName, NewLog, Places, open_hall};
+use hall_http::KeptReports;
 use keeper_core::Keeper;
 use sinks::{Sink, SinkFault};
 use std::alloc::{AllocError, Global};
@@ -43,8 +44,8 @@ fn serve_opened<
 >(
     rt: &W,
     alloc: Global,
-    hall: &BoardHall<K, B, R>,
-    seats: Vec<BoardSeat<B>>,
+    hall: &BoardHall<K, B, KeptReports<B>, R>,
+    seats: Vec<BoardSeat<B, KeptReports<B>>>,
     gate: &G,
     out: &mut O,
 ) -> Result<(), ServeFault>

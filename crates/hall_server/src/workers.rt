@@ -2,8 +2,8 @@
 ghost use Rattle.std.specs.Prelude.{◌≡◌, IfOk, length};
 
 use gates::Gate;
-use hall_core::{BoardHall, BoardSeat, Hall, HallName, Seat, ShowsBoard};
-use hall_http::serve_link;
+use hall_core::{BoardHall, BoardSeat, Hall, HallName, Seat, ShowsKept};
+use hall_http::{KeptReports, serve_link};
 use keeper_core::Keeper;
 use std::alloc::{AllocError, Global};
 use std::sync::Wait;
@@ -29,15 +29,29 @@ fn work_with_each<W: Threads + Sync, T: Send + Drop, J: Work<T> + Sync>(
 
 /// To serve the links of a gate until it gives none.
 #[derive(Drop)]
-struct LinkWork<'a, W: Wait, K: Keeper, B: HallName, S: ShowsBoard<B>, R: Wait + Drop, G: Gate> {
+struct LinkWork<
+    'a,
+    W: Wait,
+    K: Keeper,
+    B: HallName,
+    S: ShowsKept<B, KeptReports<B>>,
+    R: Wait + Drop,
+    G: Gate,
+> {
     rt: &'a W,
     alloc: Global,
     hall: &'a Hall<K, B, S, R>,
     gate: &'a G,
 }
 
-impl<W: Wait, K: Keeper, B: HallName, S: ShowsBoard<B>, R: Wait + Drop, G: Gate> Work<Seat<B, S>>
-    for LinkWork<'_, W, K, B, S, R, G> {
+impl<
+    W: Wait,
+    K: Keeper,
+    B: HallName,
+    S: ShowsKept<B, KeptReports<B>>,
+    R: Wait + Drop,
+    G: Gate,
+> Work<Seat<B, S>> for LinkWork<'_, W, K, B, S, R, G> {
     fn work_with(&self, with: Seat<B, S>) -> Seat<B, S> {
         let mut seat = with;
         for _ in 0..u64::MAX {
@@ -65,10 +79,10 @@ pub fn serve_all<
 >(
     rt: &W,
     alloc: Global,
-    hall: &BoardHall<K, B, R>,
-    seats: Vec<BoardSeat<B>>,
+    hall: &BoardHall<K, B, KeptReports<B>, R>,
+    seats: Vec<BoardSeat<B, KeptReports<B>>>,
     gate: &G,
-) -> Result<Vec<BoardSeat<B>>, AllocError>
+) -> Result<Vec<BoardSeat<B, KeptReports<B>>>, AllocError>
     ensures all { IfOk result (λ back. length back.items ≡ length seats.items) }
 {
     let work = LinkWork {

@@ -27,9 +27,9 @@ pub struct KeptReports<B: HallName> {
     sheets: OnceLock<KeptText<B>>,
 }
 
-impl<B: HallName> KeptReports<B> {
+impl<B: HallName> Default for KeptReports<B> {
     /// None yet. It takes no memory.
-    pub fn new() -> KeptReports<B> {
+    fn default() -> KeptReports<B> {
         KeptReports {
             list: OnceLock::new(),
             tango: OnceLock::new(),
@@ -39,7 +39,9 @@ impl<B: HallName> KeptReports<B> {
             sheets: OnceLock::new(),
         }
     }
+}
 
+impl<B: HallName> KeptReports<B> {
     fn cell(&self, kind: ReportKind) -> &OnceLock<KeptText<B>> {
         match kind {
             ReportKind::Net(Form::List) => &self.list,
