@@ -1,11 +1,12 @@
 // The kinds of cases.
-use crate::{programs, rewrites};
-use case_tables::{Asked, Case, CaseFault, TableFiles, report};
+use crate::{programs, rewrites, served};
+use case_tables::{Asked, Case, CaseFault, TableFiles, cell, report};
 use std::alloc::{AllocError, Global};
 use std::sync::Wait;
 use std::thread::Threads;
+use std::time::Clock;
 
-fn row<W: Threads + Wait + Sync>(
+fn row<W: Threads + Wait + Clock + Sync>(
     rt: &W,
     alloc: Global,
     kind: &str,
@@ -16,11 +17,12 @@ fn row<W: Threads + Wait + Sync>(
         "command" => programs::command(rt, alloc, cells, files),
         "work" => programs::work(rt, alloc, cells, files),
         "rewritten" => rewrites::rewritten(rt, alloc, cells, files),
+        "status" => served::status(rt, alloc, cell(cells, 0), files),
         _ => Err(CaseFault::BadCase),
     }
 }
 
-fn question<W: Threads + Wait + Sync>(
+fn question<W: Threads + Wait + Clock + Sync>(
     rt: &W,
     alloc: Global,
     kind: &str,
@@ -30,11 +32,12 @@ fn question<W: Threads + Wait + Sync>(
     match kind {
         "program" => programs::lines(rt, alloc, words, files),
         "contents" => rewrites::contents(rt, alloc, words, files),
+        "serving" => served::serving(rt, alloc, words, files),
         _ => Err(CaseFault::BadCase),
     }
 }
 
-fn answer<W: Threads + Wait + Sync>(
+fn answer<W: Threads + Wait + Clock + Sync>(
     rt: &W,
     alloc: Global,
     case: &Case<'_>,
@@ -45,8 +48,8 @@ fn answer<W: Threads + Wait + Sync>(
     }
 }
 
-/// What there is to tell of a table. `rt` is what a serving would make threads of, and wait by.
-pub fn program_report<W: Threads + Wait + Sync>(
+/// What there is to tell of a table. `rt` is what servings make threads of, and wait by.
+pub fn program_report<W: Threads + Wait + Clock + Sync>(
     rt: &W,
     alloc: Global,
     shared: &str,

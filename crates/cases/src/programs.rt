@@ -1,15 +1,13 @@
 // The whole program on the files of a table.
+use crate::servings::{Outputs, status_in};
 use case_projects::folder_of;
 use case_tables::{CaseFault, TableFiles, arguments_of, cell, failing_calls, text_in, text_of};
-use gafd_run::{MemorySink, run};
-use gates::MemoryGate;
-use hall_core::Places;
-use keeper_core::MemoryKeeper;
+use gafd_run::MemorySink;
 use project_files::MemoryFolder;
 use std::alloc::{AllocError, Global};
 use std::sync::Wait;
 use std::thread::Threads;
-use web_heads::MemoryLink;
+use std::time::Clock;
 
 const ROOM: usize = 100_000;
 
@@ -28,66 +26,33 @@ fn call_of(number: &str) -> Result<u64, CaseFault> {
     }
 }
 
-fn sink(alloc: Global, failing: &str, whose: &str) -> Result<MemorySink, CaseFault> {
-    let calls = failing_calls(alloc, failing, whose)?;
-    Ok(MemorySink::new(alloc, ROOM, calls)?)
-}
-
-fn outcome(
-    alloc: Global,
-    status: u8,
-    out: &MemorySink,
-    err: &MemorySink,
-) -> Result<Ran, CaseFault> {
-    let out = text_in(alloc, out.written())?;
-    let err = text_in(alloc, err.written())?;
-    Ok(Ran { status, out, err })
-}
-
-/// Runs the program, and answers its status. A serving would find no connections and no rows.
-fn status_of<W: Threads + Wait + Sync>(
-    rt: &W,
-    alloc: Global,
-    arguments: &[String],
-    folder: &mut MemoryFolder,
-    out: &mut MemorySink,
-    err: &mut MemorySink,
-) -> u8 {
-    let links: Vec<MemoryLink> = Vec::new(alloc);
-    let mut gate = MemoryGate::new(rt, links, Vec::new(alloc));
-    let keeper = MemoryKeeper::new(Vec::new(alloc), Vec::new(alloc));
-    let mut places = Places::new();
-    let status = run(
-        rt,
-        alloc,
-        arguments,
-        folder,
-        out,
-        err,
-        &mut gate,
-        keeper,
-        &mut places,
-    );
-    drop(gate);
-    status
+/// Outputs with room, of which the calls fail that a case names.
+fn outputs_of(alloc: Global, failing: &str) -> Result<Outputs, CaseFault> {
+    let out = failing_calls(alloc, failing, "out")?;
+    let err = failing_calls(alloc, failing, "err")?;
+    Ok(Outputs {
+        out: MemorySink::new(alloc, ROOM, out)?,
+        err: MemorySink::new(alloc, ROOM, err)?,
+    })
 }
 
 /// Runs the program in a folder. Of the calls that `failing` names, those of the sinks fail.
-pub fn run_in<W: Threads + Wait + Sync>(
+pub fn run_in<W: Threads + Wait + Clock + Sync>(
     rt: &W,
     alloc: Global,
     arguments: &[String],
     folder: &mut MemoryFolder,
     failing: &str,
 ) -> Result<Ran, CaseFault> {
-    let mut out = sink(alloc, failing, "out")?;
-    let mut err = sink(alloc, failing, "err")?;
-    let status = status_of(rt, alloc, arguments, folder, &mut out, &mut err);
-    outcome(alloc, status, &out, &err)
+    let mut outputs = outputs_of(alloc, failing)?;
+    let status = status_in(rt, alloc, arguments, folder, &mut outputs)?;
+    let out = text_in(alloc, outputs.out.written())?;
+    let err = text_in(alloc, outputs.err.written())?;
+    Ok(Ran { status, out, err })
 }
 
 /// Runs the program. The calls that `failing` names fail.
-fn outcome_of<W: Threads + Wait + Sync>(
+fn outcome_of<W: Threads + Wait + Clock + Sync>(
     rt: &W,
     alloc: Global,
     words: &str,
@@ -102,7 +67,8 @@ fn outcome_of<W: Threads + Wait + Sync>(
     ran
 }
 
-fn put_marked(to: &mut String, mark: &str, text: &str) -> Result<(), AllocError> {
+/// Puts a text behind a mark, without its last line feed.
+pub fn put_marked(to: &mut String, mark: &str, text: &str) -> Result<(), AllocError> {
     if text.is_empty() {
         return Ok(());
     }
@@ -111,7 +77,7 @@ fn put_marked(to: &mut String, mark: &str, text: &str) -> Result<(), AllocError>
 }
 
 /// The status of a command, what goes to the output after `>`, and to the errors after `!`.
-pub fn command<W: Threads + Wait + Sync>(
+pub fn command<W: Threads + Wait + Clock + Sync>(
     rt: &W,
     alloc: Global,
     cells: &[&str],
@@ -133,7 +99,7 @@ fn steps_words(bound: &str, steps: &str) -> Result<&'static str, CaseFault> {
 }
 
 /// What a command of the work comes to, as `command` tells it, with words for its calls.
-pub fn work<W: Threads + Wait + Sync>(
+pub fn work<W: Threads + Wait + Clock + Sync>(
     rt: &W,
     alloc: Global,
     cells: &[&str],
@@ -168,7 +134,7 @@ pub fn put_lines(to: &mut String, mark: &str, text: &str) -> Result<(), AllocErr
 }
 
 /// The output of a command, its errors and its status, a line each.
-pub fn lines<W: Threads + Wait + Sync>(
+pub fn lines<W: Threads + Wait + Clock + Sync>(
     rt: &W,
     alloc: Global,
     words: &str,

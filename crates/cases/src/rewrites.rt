@@ -7,6 +7,7 @@ use std::alloc::{AllocError, Global};
 use std::collections::BTreeMap;
 use std::sync::Wait;
 use std::thread::Threads;
+use std::time::Clock;
 
 /// Files by name, as they were before a run.
 type Before = BTreeMap<String, Vec<u8>>;
@@ -77,7 +78,7 @@ fn put_contents(
     Ok(())
 }
 
-fn rewritten_in<W: Threads + Wait + Sync>(
+fn rewritten_in<W: Threads + Wait + Clock + Sync>(
     rt: &W,
     alloc: Global,
     cells: &[&str],
@@ -94,7 +95,7 @@ fn rewritten_in<W: Threads + Wait + Sync>(
 
 /// What a command comes to, as `command` tells it, and the names of the files that it writes after
 /// `*`.
-pub fn rewritten<W: Threads + Wait + Sync>(
+pub fn rewritten<W: Threads + Wait + Clock + Sync>(
     rt: &W,
     alloc: Global,
     cells: &[&str],
@@ -107,7 +108,7 @@ pub fn rewritten<W: Threads + Wait + Sync>(
     text
 }
 
-fn put_run<W: Threads + Wait + Sync>(
+fn put_run<W: Threads + Wait + Clock + Sync>(
     rt: &W,
     alloc: Global,
     to: &mut String,
@@ -121,7 +122,7 @@ fn put_run<W: Threads + Wait + Sync>(
     put_contents(alloc, to, before, folder)
 }
 
-fn contents_in<W: Threads + Wait + Sync>(
+fn contents_in<W: Threads + Wait + Clock + Sync>(
     rt: &W,
     alloc: Global,
     words: &str,
@@ -139,7 +140,7 @@ fn contents_in<W: Threads + Wait + Sync>(
 
 /// The output of each command of a question, its errors and its status, and then the lines of the
 /// files that it writes. ` then ` parts the commands, which run in one folder.
-pub fn contents<W: Threads + Wait + Sync>(
+pub fn contents<W: Threads + Wait + Clock + Sync>(
     rt: &W,
     alloc: Global,
     words: &str,

@@ -1,5 +1,6 @@
 // What is asked of servings.
 use crate::case_words::serving_case;
+use crate::programs::{put_lines, put_marked};
 use crate::progress::{Progress, Traces};
 use crate::servings::{Ran, run_case};
 use case_tables::{CaseFault, TableFiles, text_in};
@@ -9,24 +10,13 @@ use std::sync::{Mutex, Wait};
 use std::thread::Threads;
 use std::time::Clock;
 
-/// Puts a text behind a mark.
-fn put_marked(alloc: Global, to: &mut String, mark: &str, written: &[u8]) -> Result<(), CaseFault> {
-    if written.is_empty() {
-        return Ok(());
-    }
-    let text = text_in(alloc, written)?;
-    let text = text
-        .as_str()
-        .strip_suffix('\n')
-        .unwrap_or("no line feed at the end");
-    Ok(write!(to, " {mark} {text}")?)
-}
-
 /// The status, the output and the errors, in a line.
 fn status_line(alloc: Global, ran: &Ran) -> Result<String, CaseFault> {
     let mut line = format!(in alloc; "{}", ran.status)?;
-    put_marked(alloc, &mut line, ">", ran.outputs.out.written())?;
-    put_marked(alloc, &mut line, "!", ran.outputs.err.written())?;
+    let out = text_in(alloc, ran.outputs.out.written())?;
+    let err = text_in(alloc, ran.outputs.err.written())?;
+    put_marked(&mut line, ">", out.as_str())?;
+    put_marked(&mut line, "!", err.as_str())?;
     Ok(line)
 }
 
@@ -39,20 +29,6 @@ pub fn status<W: Threads + Wait + Clock + Sync>(
 ) -> Result<String, CaseFault> {
     let ran = run_case(rt, alloc, &serving_case(text), files)?;
     status_line(alloc, &ran)
-}
-
-/// Puts each line of a text behind a mark.
-fn put_lines(alloc: Global, to: &mut String, mark: &str, written: &[u8]) -> Result<(), CaseFault> {
-    let text = text_in(alloc, written)?;
-    for line in text.as_str().split_inclusive('\n') {
-        let end = if line.ends_with('\n') {
-            ""
-        } else {
-            " (no line feed)\n"
-        };
-        write!(to, "{mark} {line}{end}")?;
-    }
-    Ok(())
 }
 
 /// Puts the replies of each connection behind its name.
@@ -82,9 +58,11 @@ fn serving_lines<W: Wait + Clock>(
     ran: &Ran,
 ) -> Result<String, CaseFault> {
     let mut lines = String::new(alloc);
-    put_lines(alloc, &mut lines, ">", ran.outputs.out.written())?;
+    let out = text_in(alloc, ran.outputs.out.written())?;
+    let err = text_in(alloc, ran.outputs.err.written())?;
+    put_lines(&mut lines, ">", out.as_str())?;
     put_replies(rt, alloc, &mut lines, names, &ran.traces)?;
-    put_lines(alloc, &mut lines, "!", ran.outputs.err.written())?;
+    put_lines(&mut lines, "!", err.as_str())?;
     writeln!(lines, "status {}", ran.status)?;
     Ok(lines)
 }

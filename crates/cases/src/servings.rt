@@ -18,7 +18,7 @@ use std::sync::{Mutex, Wait};
 use std::thread::Threads;
 use std::time::Clock;
 
-/// How many bytes an output takes.
+/// How many bytes an output of a serving takes.
 const ROOM: usize = 1_000;
 
 /// The outputs of a run.
@@ -41,10 +41,9 @@ pub struct Ran {
     pub traces: Mutex<Traces>,
 }
 
-/// What a run begins with, but its connections.
+/// What a serving begins with, but its connections.
 #[derive(Drop)]
 struct Start {
-    arguments: Vec<String>,
     rows: Vec<Entry>,
     failing_calls: Vec<u64>,
     failing_binds: Vec<u64>,
@@ -76,7 +75,6 @@ fn rows_of(
 fn start_of(alloc: Global, case: &ServingCase<'_>, files: &TableFiles) -> Result<Start, CaseFault> {
     let held = held_call_of(case.links, case.held)?;
     Ok(Start {
-        arguments: arguments_of(alloc, case.words)?,
         rows: rows_of(alloc, case, files)?,
         failing_calls: failing_calls(alloc, case.failing, "keeper")?,
         failing_binds: failing_calls(alloc, case.failing, "gate")?,
@@ -102,25 +100,38 @@ fn links_of<'a, W: Wait + Clock>(
     Ok(links)
 }
 
+/// What a run has beside its folder and its outputs: connections, and a keeper whose steps stand at a
+/// place.
+#[derive(Drop)]
+struct Wires<'a, W: Wait + Clock> {
+    start: Start,
+    links: Vec<SharedLink<'a, W>>,
+    progress: Progress<'a, W>,
+    place: usize,
+}
+
 /// Runs the program, and answers its status. Nothing in it can fail, and what goes away is given to
 /// `drop`, which is proved once for a type.
 fn run_with<'a, W: Threads + Wait + Clock + Sync>(
     rt: &'a W,
     alloc: Global,
-    start: Start,
+    arguments: &[String],
+    folder: &mut MemoryFolder,
     outputs: &mut Outputs,
-    links: Vec<SharedLink<'a, W>>,
-    progress: Progress<'a, W>,
-    place: usize,
+    wires: Wires<'a, W>,
 ) -> u8 {
+    let Wires {
+        start,
+        links,
+        progress,
+        place,
+    } = wires;
     let Start {
-        arguments,
         rows,
         failing_calls,
         failing_binds,
         held,
     } = start;
-    let mut folder = MemoryFolder::new(BTreeMap::new(alloc), Vec::new(alloc));
     let mut gate = MemoryGate::new(rt, links, failing_binds);
     let mut places = Places::new();
     let keeper = MemoryKeeper::new(rows, failing_calls);
@@ -128,8 +139,8 @@ fn run_with<'a, W: Threads + Wait + Clock + Sync>(
     let status = run(
         rt,
         alloc,
-        arguments.as_slice(),
-        &mut folder,
+        arguments,
+        folder,
         &mut outputs.out,
         &mut outputs.err,
         &mut gate,
@@ -137,10 +148,32 @@ fn run_with<'a, W: Threads + Wait + Clock + Sync>(
         &mut places,
     );
     drop(gate);
-    drop(folder);
     drop(places);
-    drop(arguments);
     status
+}
+
+/// Runs the program in a folder, and answers its status. A serving would find no connections and no
+/// rows.
+pub fn status_in<W: Threads + Wait + Clock + Sync>(
+    rt: &W,
+    alloc: Global,
+    arguments: &[String],
+    folder: &mut MemoryFolder,
+    outputs: &mut Outputs,
+) -> Result<u8, CaseFault> {
+    let traces = traces_of(alloc, "")?;
+    let wires = Wires {
+        start: Start {
+            rows: Vec::new(alloc),
+            failing_calls: Vec::new(alloc),
+            failing_binds: Vec::new(alloc),
+            held: None,
+        },
+        links: Vec::new(alloc),
+        progress: Progress::new(rt, &traces),
+        place: 0,
+    };
+    Ok(run_with(rt, alloc, arguments, folder, outputs, wires))
 }
 
 /// Runs a case, and answers its status. What its connections write is in the traces then.
@@ -152,11 +185,19 @@ fn status_of<W: Threads + Wait + Clock + Sync>(
     outputs: &mut Outputs,
     traces: &Mutex<Traces>,
 ) -> Result<u8, CaseFault> {
+    let arguments = arguments_of(alloc, case.words)?;
     let start = start_of(alloc, case, files)?;
     let links = links_of(rt, alloc, case.links, files, traces)?;
-    let progress = Progress::new(rt, traces);
-    let place = name_count(case.links);
-    Ok(run_with(rt, alloc, start, outputs, links, progress, place))
+    let wires = Wires {
+        start,
+        links,
+        progress: Progress::new(rt, traces),
+        place: name_count(case.links),
+    };
+    let mut folder = MemoryFolder::new(BTreeMap::new(alloc), Vec::new(alloc));
+    let status = run_with(rt, alloc, &arguments, &mut folder, outputs, wires);
+    drop(folder);
+    Ok(status)
 }
 
 /// The traces of the connections of these names, and of the keeper.
