@@ -2,13 +2,13 @@
 use Rattle.std.proofs.Common.{◌≡◌, ℕ, false, List, [], ◌∷◌, Some, None, refl}
 use Rattle.std.specs.Prelude.{codes}
 use Rattle.std.specs.Fmt.{digits}
-use Rattle.link_classes.specs.declared.member.Member.{Member}
-use Rattle.flat_sheets.specs.declared.package.Package.{Package}
-use Rattle.net_names.specs.declared.nets.Net.{Net}
-use Rattle.net_names.specs.declared.nets.NetSort.{NetSort}
-use Rattle.net_names.specs.declared.nets.NetSort.TheVariants as sorts
-use Rattle.net_names.specs.declared.nets.Nets.{Nets}
-use Rattle.backends.specs.declared.form.Form.TheVariants as forms
+use Rattle.net_list.specs.declared.member.Member.{Member}
+use Rattle.net_list.specs.declared.package.Package.{Package}
+use Rattle.net_list.specs.declared.nets.Net.{Net}
+use Rattle.net_list.specs.declared.nets.NetSort.{NetSort}
+use Rattle.net_list.specs.declared.nets.NetSort.TheVariants as sorts
+use Rattle.net_list.specs.declared.nets.Nets.{Nets}
+use Rattle.net_list.specs.declared.form.Form.TheVariants as forms
 use Rattle.backends.specs.CsvRecords.{field_text}
 use Rattle.backends.specs.Forms.{net_text}
 

@@ -6,7 +6,7 @@ use Rattle.std.proofs.lemmas.List.Elements.{filter-append}
 use Rattle.std.proofs.lemmas.List.Folds.{flat_map-map}
 use Rattle.std.proofs.lemmas.List.Sums.{fold-append}
 use Rattle.std.proofs.lemmas.Bool.{or_parts}
-use Rattle.flat_sheets.specs.declared.package.Package.{Package}
+use Rattle.net_list.specs.declared.package.Package.{Package}
 use Rattle.backends.specs.BillText.{ArticleData, article_of, articles_of, group_text, packages_of, same_article, with_article}
 use Rattle.backends.specs.steps.Groups.{GroupData, group_in, group_record, group_seen, groups_of, with_member, with_package}
 use Rattle.backends.specs.declared.articles.Group.{Group}

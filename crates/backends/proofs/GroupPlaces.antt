@@ -1,7 +1,7 @@
 -- A package joins the group at the place of its article among the articles of the code.
 use Rattle.std.proofs.Common.{◌≡◌, ◌<◌, ◌∙◌, ap, refl, sym, ℕ, zero, suc, Bool, true, false, not, ◌||◌, ◌+◌, List, [], ◌∷◌, ◌++◌, arith, if◌then◌else◌, length, map, slice_set, slice_index_or, true≢false}
 use Rattle.std.specs.List.{list_any, position_or_len}
-use Rattle.flat_sheets.specs.declared.package.Package.{Package}
+use Rattle.net_list.specs.declared.package.Package.{Package}
 use Rattle.backends.specs.BillText.{article_of, same_article}
 use Rattle.backends.specs.steps.Groups.{GroupData, article_seen, group_seen, with_member, with_member_at, with_package}
 use Rattle.backends.specs.declared.articles.Article.{Article}

@@ -1,7 +1,7 @@
 -- The nets that join pins, one net after the other.
 use Rattle.std.proofs.Common.{◌≡◌, refl, ℕ, Bool, true, false, List, [], ◌∷◌, ◌++◌, if◌then◌else◌}
 use Rattle.std.specs.List.{flat_map}
-use Rattle.net_names.specs.declared.nets.Net.{Net}
+use Rattle.net_list.specs.declared.nets.Net.{Net}
 use Rattle.backends.specs.Joined.{is_joined, joined_nets}
 
 -- the first net adds its text, if it joins pins

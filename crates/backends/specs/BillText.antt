@@ -6,8 +6,8 @@ use Rattle.std.specs.Fmt.{decimal}
 use Rattle.std.specs.Str.{bytes_eq}
 use Rattle.geda_defs.specs.Lines.{spaced}
 use Rattle.printed_texts.specs.PrintedTexts.{flat, word}
-use Rattle.flat_sheets.specs.declared.package.Package.{Package}
-use Rattle.net_names.specs.declared.nets.Nets.{Nets}
+use Rattle.net_list.specs.declared.package.Package.{Package}
+use Rattle.net_list.specs.declared.nets.Nets.{Nets}
 use Rattle.backends.specs.CsvRecords.{record_text}
 
 -- what the packages of one group have in common: an absent value and an empty one do not differ

@@ -1,8 +1,8 @@
 -- The text of a net list in each form (own).
 use Rattle.std.specs.Prelude.{ℕ, List}
-use Rattle.net_names.specs.declared.nets.Nets.{Nets}
-use Rattle.backends.specs.declared.form.Form.{Form}
-use Rattle.backends.specs.declared.form.Form.TheVariants as forms
+use Rattle.net_list.specs.declared.nets.Nets.{Nets}
+use Rattle.net_list.specs.declared.form.Form.{Form}
+use Rattle.net_list.specs.declared.form.Form.TheVariants as forms
 use Rattle.backends.specs.ListText.{list_text}
 use Rattle.backends.specs.TangoText.{tango_text}
 use Rattle.backends.specs.PcbText.{pcb_text}

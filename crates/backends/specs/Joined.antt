@@ -1,8 +1,8 @@
 -- The nets that join pins (own).
 use Rattle.std.specs.Prelude.{Bool, true, false, List, filter}
-use Rattle.net_names.specs.declared.nets.Net.{Net}
-use Rattle.net_names.specs.declared.nets.NetSort.{NetSort}
-use Rattle.net_names.specs.declared.nets.NetSort.TheVariants as sorts
+use Rattle.net_list.specs.declared.nets.Net.{Net}
+use Rattle.net_list.specs.declared.nets.NetSort.{NetSort}
+use Rattle.net_list.specs.declared.nets.NetSort.TheVariants as sorts
 
 -- a net that is no unconnected pin
 abbrev pub is_joined : Net → Bool

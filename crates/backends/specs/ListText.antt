@@ -4,10 +4,10 @@ use Rattle.std.specs.List.{flat_map}
 use Rattle.std.specs.Fmt.{decimal}
 use Rattle.geda_defs.specs.Lines.{spaced, ended}
 use Rattle.printed_texts.specs.PrintedTexts.{flat, pin_words, word}
-use Rattle.link_classes.specs.declared.member.Member.{Member}
-use Rattle.net_names.specs.declared.nets.Net.{Net}
-use Rattle.flat_sheets.specs.declared.package.Package.{Package}
-use Rattle.net_names.specs.declared.nets.Nets.{Nets}
+use Rattle.net_list.specs.declared.member.Member.{Member}
+use Rattle.net_list.specs.declared.nets.Net.{Net}
+use Rattle.net_list.specs.declared.package.Package.{Package}
+use Rattle.net_list.specs.declared.nets.Nets.{Nets}
 
 -- a value, or `-` for an absent one
 abbrev pub field : Option (List ℕ) → List ℕ

@@ -6,7 +6,7 @@ ghost use Rattle.backends.specs.steps.Groups.{with_member_at, with_package};
 
 use geda_model::Block;
 use indexmap::IndexSet;
-use net_names::Package;
+use net_list::Package;
 use std::alloc::{AllocError, Global};
 
 /// What the packages of one group have in common. An absent value is an empty text.

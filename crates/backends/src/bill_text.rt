@@ -11,7 +11,7 @@ ghost use Rattle.backends.specs.steps.Groups.{group_record, group_seen};
 use crate::articles::{Group, groups_of};
 use crate::csv_records::{put_record, record_writer, written};
 use csv::Writer;
-use net_names::{Nets, Package};
+use net_list::{Nets, Package};
 use printed_texts::{put_flat, put_word};
 use std::alloc::{AllocError, Global};
 

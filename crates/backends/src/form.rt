@@ -6,21 +6,8 @@ use crate::bill_text::bill_text;
 use crate::list_text::list_text;
 use crate::pcb_text::pcb_text;
 use crate::tango_text::tango_text;
-use net_names::Nets;
+use net_list::{Form, Nets};
 use std::alloc::{AllocError, Global};
-
-/// A form in which a net list is written.
-#[derive(Clone, Copy, Debug, PartialEq, Eq)]
-pub enum Form {
-    /// A line for each package and each net.
-    List,
-    /// A block of lines for each package and each net that joins pins, as Tango reads them.
-    Tango,
-    /// A line for each net that joins pins, as PCB reads them.
-    Pcb,
-    /// A bill of materials as CSV: a record for each group of packages that are one article.
-    Bom,
-}
 
 /// The text of a net list in a form (docs/FORMATS.md, "List text", "Tango text", "PCB text" and
 /// "Bill of materials").

@@ -2,7 +2,7 @@
 ghost use Rattle.std.specs.Prelude.{◌≡◌};
 ghost use Rattle.backends.specs.Joined.{is_joined};
 
-use net_names::{Net, NetSort};
+use net_list::{Net, NetSort};
 
 /// Whether a net is no unconnected pin. It takes no memory.
 pub fn is_joined(net: &Net) -> bool

@@ -12,4 +12,5 @@ mod net_lines;
 mod pcb_text;
 mod tango_text;
 
-pub use form::{Form, net_text};
+pub use form::net_text;
+pub use net_list::Form;

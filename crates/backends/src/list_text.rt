@@ -7,7 +7,7 @@ ghost use Rattle.backends.specs.ListText.{field, list_text, net_line_text, packa
 
 use crate::net_lines::put_net_line;
 use geda_model::Block;
-use net_names::{Net, Nets, Package};
+use net_list::{Net, Nets, Package};
 use printed_texts::{put_flat, put_word};
 use std::alloc::{AllocError, Global};
 

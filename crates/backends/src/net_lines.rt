@@ -4,7 +4,7 @@ ghost use Rattle.std.specs.List.{flat_map};
 ghost use Rattle.geda_defs.specs.Lines.{spaced};
 ghost use Rattle.backends.specs.ListText.{member_text, net_line_text};
 
-use net_names::{Member, Net};
+use net_list::{Member, Net};
 use printed_texts::put_word;
 use std::alloc::AllocError;
 

@@ -7,7 +7,7 @@ ghost use Rattle.backends.specs.PcbText.{pcb_text};
 
 use crate::joined::is_joined;
 use crate::net_lines::put_net_line;
-use net_names::{Net, Nets};
+use net_list::{Net, Nets};
 use std::alloc::{AllocError, Global};
 
 fn put_joined(out: &mut Vec<u8>, net: &Net) -> Result<(), AllocError>

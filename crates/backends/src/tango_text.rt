@@ -10,7 +10,7 @@ ghost use Rattle.backends.specs.TangoText.{known, lines, net_block, package_bloc
 use crate::joined::is_joined;
 use crate::net_lines::put_member;
 use geda_model::Block;
-use net_names::{Member, Net, Nets, Package};
+use net_list::{Member, Net, Nets, Package};
 use printed_texts::{put_flat, put_word};
 use std::alloc::{AllocError, Global};
 

@@ -11,8 +11,8 @@ ghost use Rattle.command_words.specs.Commands.{work_of};
 use crate::argument::Argument;
 use crate::files::{file_of, sheets_of};
 use crate::numbers::{MOST_STEPS, number_of};
-use backends::Form;
 use geda_model::{Items, Name};
+use net_list::Form;
 use option_words::{Parts, WordFault, read_parts};
 use std::alloc::Global;
 

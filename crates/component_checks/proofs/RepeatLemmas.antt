@@ -8,6 +8,7 @@ use Rattle.text_tallies.specs.NameSets.{has_name}
 use Rattle.text_tallies.specs.PairSets.{PairData, has_pair, same_pair}
 use Rattle.text_tallies.specs.TwoOfAList.{two_pass}
 use Rattle.text_tallies.proofs.PairLemmas.{any_filter, any_same, clash_is, passes, two_pass_filter, two_pass_same}
+use Rattle.drc_findings.specs.declared.rule.Rule.TheVariants as drc
 use Rattle.drc_findings.specs.declared.finding.Finding.{Finding}
 use Rattle.drc_findings.specs.Findings.{an_error, found_if}
 use Rattle.component_checks.specs.CheckedComponents.{CheckedData}
@@ -86,8 +87,8 @@ module _ (cs : List CheckedData) (repeats : Repeats) (are : AreRepeats cs repeat
   -- on one component
   found_by-is : (c : CheckedData) → found_by repeats c ≡ found_on cs c
   found_by-is c =
-      let duplicate : duplicate_by repeats c ≡ duplicate_refdes cs c = ap (λ (b : Bool). found_if b (an_error 3 (word (refdes_of c)))) (duplicate_is c) in
-      let slot : duplicate_slot_by repeats c ≡ duplicate_slot cs c = ap (λ (b : Bool). found_if b (an_error 4 (two_words (word (refdes_of c)) (word (slot_of c))))) (duplicate_slot_is c) in
+      let duplicate : duplicate_by repeats c ≡ duplicate_refdes cs c = ap (λ (b : Bool). found_if b (an_error drc.DuplicateRefdes (word (refdes_of c)))) (duplicate_is c) in
+      let slot : duplicate_slot_by repeats c ≡ duplicate_slot cs c = ap (λ (b : Bool). found_if b (an_error drc.DuplicateSlot (two_words (word (refdes_of c)) (word (slot_of c))))) (duplicate_slot_is c) in
       behind _ _ (duplicate_by repeats c) (duplicate_slot_by repeats c) _ ∙ rw (duplicate, slot) refl
 
   -- on all of them

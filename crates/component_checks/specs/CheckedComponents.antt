@@ -14,11 +14,10 @@ use Rattle.attr_rules.specs.Slots.{slot_count, slot_pins}
 use Rattle.attr_rules.specs.declared.slots.SlotFault.{SlotFault}
 use Rattle.hierarchy.specs.declared.instances.Instance.{Instance}
 use Rattle.pin_place.specs.declared.pins.PlacedPin.{PlacedPin}
-use Rattle.pin_place.specs.Pins.{pins_of}
+use Rattle.pin_place.specs.Pins.{is_drawn, pins_of}
 use Rattle.instance_objects.specs.Occurrences.{FlatObject, flat_objects}
 use Rattle.instance_objects.specs.Texts.{under}
 use Rattle.instance_objects.specs.Ports.{is_port}
-use Rattle.flat_sheets.specs.Conductors.{is_drawn}
 
 -- a component in an instance, which is neither graphical nor a directive: its sheet, its id and the
 -- name of its symbol, whether it has a symbol, its printed refdes where it has a refdes, whether it

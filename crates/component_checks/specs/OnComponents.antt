@@ -9,6 +9,7 @@ use Rattle.pin_place.specs.declared.pins.PlacedPin.{PlacedPin}
 use Rattle.printed_texts.specs.PrintedTexts.{numbered_words, pin_words, two_words, word}
 use Rattle.text_tallies.specs.TwoOfAList.{pairs, two_pass}
 use Rattle.pin_matrix.specs.Matrices.{same_kind}
+use Rattle.drc_findings.specs.declared.rule.Rule.TheVariants as drc
 use Rattle.drc_findings.specs.declared.finding.Finding.{Finding}
 use Rattle.drc_findings.specs.Findings.{a_warning, an_error, found_if}
 use Rattle.component_checks.specs.CheckedComponents.{CheckedData}
@@ -41,7 +42,7 @@ ends_open text = not (length text == 0) && (slice_index text (length text - 1) =
 -- Unnumbered: the printed refdes of a listed part, or of a component with sheets below, ends in `?`
 abbrev pub unnumbered : CheckedData → List Finding
 unnumbered c =
-    found_if (is_numbered c && ends_open (refdes_of c)) (an_error 1 (word (refdes_of c)))
+    found_if (is_numbered c && ends_open (refdes_of c)) (an_error drc.Unnumbered (word (refdes_of c)))
 
 -- a component without refdes has sheets below, or has a drawn net pin and no value of `net`
 abbrev pub lacks_refdes : CheckedData → Bool
@@ -50,7 +51,7 @@ lacks_refdes c =
 
 -- NoRefdes: so it is
 abbrev pub without_refdes : CheckedData → List Finding
-without_refdes c = found_if (lacks_refdes c) (an_error 2 (numbered_words c.sheet c.id))
+without_refdes c = found_if (lacks_refdes c) (an_error drc.NoRefdes (numbered_words c.sheet c.id))
 
 -- a listed part, or a component with sheets below, with this printed refdes
 abbrev pub is_numbered_as : List ℕ → CheckedData → Bool
@@ -73,7 +74,7 @@ is_duplicate cs c = is_numbered c
 
 -- DuplicateRefdes: so it is
 abbrev pub duplicate_refdes : List CheckedData → CheckedData → List Finding
-duplicate_refdes cs c = found_if (is_duplicate cs c) (an_error 3 (word (refdes_of c)))
+duplicate_refdes cs c = found_if (is_duplicate cs c) (an_error drc.DuplicateRefdes (word (refdes_of c)))
 
 -- a listed part with this printed refdes and this `slot`
 abbrev pub is_slotted_as : List ℕ → List ℕ → CheckedData → Bool
@@ -88,7 +89,7 @@ is_duplicate_slot cs c = (is_listed c && is_some c.slot)
 -- DuplicateSlot: so it is
 abbrev pub duplicate_slot : List CheckedData → CheckedData → List Finding
 duplicate_slot cs c = found_if (is_duplicate_slot cs c)
-    (an_error 4 (two_words (word (refdes_of c)) (word (slot_of c))))
+    (an_error drc.DuplicateSlot (two_words (word (refdes_of c)) (word (slot_of c))))
 
 -- a fault of a slot; want of memory is none of a slot's
 abbrev pub fault_word : SlotFault → List ℕ
@@ -104,12 +105,12 @@ bad_slot c = on_fault c.slot_fault
     on_fault : Option SlotFault → List Finding
     on_fault None = []
     on_fault (Some fault) = found_if (is_listed c)
-        (an_error 5 (two_words (word (refdes_of c)) (fault_word fault)))
+        (an_error drc.BadSlot (two_words (word (refdes_of c)) (fault_word fault)))
 
 -- UnknownPintype: a drawn pin of a listed part has kind unknown
 abbrev pub unknown_pin : CheckedData → PlacedPin → List Finding
 unknown_pin c pin = found_if (is_listed c && same_kind pin.kind kinds.Unknown)
-    (a_warning 7 (pin_words (refdes_of c) pin.number))
+    (a_warning drc.UnknownPintype (pin_words (refdes_of c) pin.number))
 
 abbrev pub unknown_pins : CheckedData → List Finding
 unknown_pins c = flat_map (unknown_pin c) c.pins
@@ -117,11 +118,11 @@ unknown_pins c = flat_map (unknown_pin c) c.pins
 -- MissingSymbol: a component without symbol
 abbrev pub missing_symbol : CheckedData → List Finding
 missing_symbol c =
-    found_if (not c.has_symbol) (an_error 13 (two_words (word c.sheet) (word c.basename)))
+    found_if (not c.has_symbol) (an_error drc.MissingSymbol (two_words (word c.sheet) (word c.basename)))
 
 -- BadNet: a component has a value of `net` that is bad
 abbrev pub bad_net : CheckedData → List Finding
-bad_net c = found_if c.has_bad_net (an_error 17 (numbered_words c.sheet c.id))
+bad_net c = found_if c.has_bad_net (an_error drc.BadNet (numbered_words c.sheet c.id))
 
 -- what is found on one of these components
 abbrev pub found_on : List CheckedData → CheckedData → List Finding

@@ -4,8 +4,9 @@ use Rattle.std.specs.Fmt.{decimal}
 use Rattle.std.specs.List.{filter_map, flat_map, list_any, range_with_len, slice_get}
 use Rattle.std.specs.Str.{bytes_eq}
 use Rattle.attr_rules.specs.Slots.{short_number}
-use Rattle.flat_sheets.specs.declared.package.Package.{Package}
+use Rattle.net_list.specs.declared.package.Package.{Package}
 use Rattle.printed_texts.specs.PrintedTexts.{two_words, word}
+use Rattle.drc_findings.specs.declared.rule.Rule.TheVariants as drc
 use Rattle.drc_findings.specs.declared.finding.Finding.{Finding}
 use Rattle.drc_findings.specs.Findings.{a_warning, found_if, same_text}
 use Rattle.component_checks.specs.CheckedComponents.{CheckedData}
@@ -36,7 +37,7 @@ uses_slot cs k = list_any (λ c. is_number k (slot_value c.slot)) cs
 -- no component of the package has this slot
 abbrev pub unused_slot : List CheckedData → List ℕ → ℕ → List Finding
 unused_slot members refdes k =
-    found_if (not (uses_slot members k)) (a_warning 6 (two_words (word refdes) (decimal k)))
+    found_if (not (uses_slot members k)) (a_warning drc.UnusedSlot (two_words (word refdes) (decimal k)))
 
 -- UnusedSlot: so it is with one of the slots of the package, whose numbers begin with 1
 abbrev pub unused_slots : List CheckedData → List ℕ → List Finding

@@ -4,9 +4,8 @@ ghost use Rattle.std.specs.List.{list_any};
 ghost use Rattle.attr_rules.specs.Attributes.{all_attrs, attr};
 ghost use Rattle.attr_rules.specs.Components.{refdes_of};
 ghost use Rattle.attr_rules.specs.Slots.{slot_count};
-ghost use Rattle.pin_place.specs.Pins.{pins_of};
+ghost use Rattle.pin_place.specs.Pins.{is_drawn, pins_of};
 ghost use Rattle.instance_objects.specs.Texts.{under};
-ghost use Rattle.flat_sheets.specs.Conductors.{is_drawn};
 ghost use Rattle.component_checks.specs.CheckedComponents.{is_bad_net, slot_fault};
 
 use attr_rules::{

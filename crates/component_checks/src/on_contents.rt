@@ -9,7 +9,7 @@ ghost use Rattle.component_checks.specs.steps.FoundBy.{found_on_contents};
 use crate::checked::CheckedComponent;
 use crate::parts::{is_listed, refdes_of};
 use attr_rules::{PinKind, SlotFault};
-use drc_findings::{Finding, add_error, add_warning};
+use drc_findings::{Finding, Rule, add_error, add_warning};
 use pin_matrix::same_kind;
 use pin_place::PlacedPin;
 use printed_texts::{numbered_words, pair_words, pin_words};
@@ -39,7 +39,7 @@ fn add_bad_slot(
     if let Some(fault) = component.slot_fault {
         if is_listed(component) {
             let words = pair_words(alloc, refdes_of(component), fault_word(fault))?;
-            add_error(found, 5, words)?;
+            add_error(found, Rule::BadSlot, words)?;
         }
     }
     Ok(())
@@ -56,7 +56,7 @@ fn add_unknown_pin(
 {
     if is_listed(component) && same_kind(pin.kind, PinKind::Unknown) {
         let words = pin_words(alloc, refdes_of(component), pin.number.as_str())?;
-        add_warning(found, 7, words)?;
+        add_warning(found, Rule::UnknownPintype, words)?;
     }
     Ok(())
 }
@@ -89,7 +89,7 @@ fn add_missing_symbol(
         let sheet = component.sheet.as_str();
         add_error(
             found,
-            13,
+            Rule::MissingSymbol,
             pair_words(alloc, sheet, component.basename.as_str())?,
         )?;
     }
@@ -105,7 +105,11 @@ fn add_bad_net(
 {
     if component.has_bad_net {
         let sheet = component.sheet.as_str();
-        add_error(found, 17, numbered_words(alloc, sheet, component.id)?)?;
+        add_error(
+            found,
+            Rule::BadNet,
+            numbered_words(alloc, sheet, component.id)?,
+        )?;
     }
     Ok(())
 }

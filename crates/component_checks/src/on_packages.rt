@@ -2,7 +2,7 @@
 ghost use Rattle.std.specs.Prelude.{◌≡◌, IfOk, List, OnOk, Some, map};
 ghost use Rattle.text_tallies.specs.LookAlike.{look_alike};
 ghost use Rattle.text_tallies.specs.NameSets.{HasNames};
-ghost use Rattle.flat_sheets.specs.declared.package.Package.{Package};
+ghost use Rattle.net_list.specs.declared.package.Package.{Package};
 ghost use Rattle.drc_findings.specs.Order.{with_findings};
 ghost use Rattle.component_checks.specs.CheckedComponents.{CheckedData};
 ghost use Rattle.component_checks.specs.OnPackages.{found_on_package, found_on_packages, refdeses};
@@ -11,9 +11,9 @@ ghost use Rattle.component_checks.specs.steps.SlotRows.{unused_in};
 
 use crate::checked::CheckedComponent;
 use crate::slot_rows::{PackageSlots, slots_by_refdes};
-use drc_findings::{Finding, add_same_text, add_warning};
-use flat_sheets::Package;
+use drc_findings::{Finding, Rule, add_same_text, add_warning};
 use geda_model::Line;
+use net_list::Package;
 use printed_texts::numbered_words;
 use std::alloc::{AllocError, Global};
 use std::collections::{BTreeMap, BTreeSet};
@@ -30,7 +30,11 @@ fn add_if_unused(
         ≡ with_findings found.old.keys (unused_in (Some slots.now) refdes.now number)) }
 {
     if !slots.used.contains(&number) {
-        add_warning(found, 6, numbered_words(alloc, refdes, number)?)?;
+        add_warning(
+            found,
+            Rule::UnusedSlot,
+            numbered_words(alloc, refdes, number)?,
+        )?;
     }
     Ok(())
 }

@@ -9,7 +9,7 @@ ghost use Rattle.component_checks.specs.steps.FoundBy.{is_duplicate_slot_by};
 use crate::checked::CheckedComponent;
 use crate::parts::{ends_open, is_numbered, refdes_of, slot_of};
 use crate::repeats::{Repeats, slotted_pair};
-use drc_findings::{Finding, add_error};
+use drc_findings::{Finding, Rule, add_error};
 use geda_model::Line;
 use printed_texts::{name_words, numbered_words, pair_words};
 use std::alloc::{AllocError, Global};
@@ -25,7 +25,7 @@ fn add_unnumbered(
 {
     let refdes = refdes_of(component);
     if is_numbered(component) && ends_open(refdes.as_bytes()) {
-        add_error(found, 1, name_words(alloc, refdes)?)?;
+        add_error(found, Rule::Unnumbered, name_words(alloc, refdes)?)?;
     }
     Ok(())
 }
@@ -52,7 +52,11 @@ fn add_without_refdes(
 {
     if lacks_refdes(component) {
         let sheet = component.sheet.as_str();
-        add_error(found, 2, numbered_words(alloc, sheet, component.id)?)?;
+        add_error(
+            found,
+            Rule::NoRefdes,
+            numbered_words(alloc, sheet, component.id)?,
+        )?;
     }
     Ok(())
 }
@@ -91,7 +95,11 @@ fn add_duplicate(
         (found.new.keys ≡ with_findings found.old.keys (duplicate_by repeats.now component.now)) }
 {
     if is_duplicate(repeats, component) {
-        add_error(found, 3, name_words(alloc, refdes_of(component))?)?;
+        add_error(
+            found,
+            Rule::DuplicateRefdes,
+            name_words(alloc, refdes_of(component))?,
+        )?;
     }
     Ok(())
 }
@@ -119,7 +127,7 @@ fn add_duplicate_slot<'a>(
 {
     if is_duplicate_slot(repeats, component) {
         let words = pair_words(alloc, refdes_of(component), slot_of(component))?;
-        add_error(found, 4, words)?;
+        add_error(found, Rule::DuplicateSlot, words)?;
     }
     Ok(())
 }

@@ -4,6 +4,7 @@ ghost use Rattle.drc_findings.specs.Findings.{a_warning, an_error, finding};
 ghost use Rattle.drc_findings.specs.Order.{with_findings};
 
 use crate::finding::Finding;
+use crate::rule::Rule;
 use geda_model::Line;
 use pin_matrix::Level;
 use std::alloc::AllocError;
@@ -13,28 +14,29 @@ use std::collections::BTreeSet;
 pub fn add_finding(
     found: &mut BTreeSet<Finding>,
     level: Level,
-    code: u8,
+    rule: Rule,
     words: Line,
 ) -> Result<(), AllocError>
     ensures { OnOk result
-        (found.new.keys ≡ with_findings found.old.keys (finding level code words ∷ [])) }
+        (found.new.keys ≡ with_findings found.old.keys (finding level rule words ∷ [])) }
 {
+    let code = rule.code();
     found.insert(Finding { code, level, words })?;
     Ok(())
 }
 
 /// Adds an error of a rule.
-pub fn add_error(found: &mut BTreeSet<Finding>, code: u8, words: Line) -> Result<(), AllocError>
+pub fn add_error(found: &mut BTreeSet<Finding>, rule: Rule, words: Line) -> Result<(), AllocError>
     ensures { OnOk result
-        (found.new.keys ≡ with_findings found.old.keys (an_error code words ∷ [])) }
+        (found.new.keys ≡ with_findings found.old.keys (an_error rule words ∷ [])) }
 {
-    add_finding(found, Level::Error, code, words)
+    add_finding(found, Level::Error, rule, words)
 }
 
 /// Adds a warning of a rule.
-pub fn add_warning(found: &mut BTreeSet<Finding>, code: u8, words: Line) -> Result<(), AllocError>
+pub fn add_warning(found: &mut BTreeSet<Finding>, rule: Rule, words: Line) -> Result<(), AllocError>
     ensures { OnOk result
-        (found.new.keys ≡ with_findings found.old.keys (a_warning code words ∷ [])) }
+        (found.new.keys ≡ with_findings found.old.keys (a_warning rule words ∷ [])) }
 {
-    add_finding(found, Level::Warning, code, words)
+    add_finding(found, Level::Warning, rule, words)
 }

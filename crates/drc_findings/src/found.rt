@@ -9,6 +9,7 @@ ghost use Rattle.drc_findings.specs.Order.{by_finding, in_order, with_findings};
 
 use crate::adding::add_error;
 use crate::finding::Finding;
+use crate::rule::Rule;
 use geda_model::Line;
 use printed_texts::name_words;
 use std::alloc::{AllocError, Global};
@@ -29,7 +30,7 @@ pub fn add_same_text(
     }
     let words = name_words(alloc, name)?;
     if alike.contains(&words) {
-        add_error(found, 18, words)?;
+        add_error(found, Rule::SameText, words)?;
     }
     Ok(())
 }
@@ -39,6 +40,7 @@ pub fn listed(alloc: Global, found: BTreeSet<Finding>) -> Result<Vec<Finding>, A
     ensures same { IfOk result (λ list. list.items ≡ found.keys) }
     ensures ordered { IsStrictlySortedBy by_finding found.keys }
 {
+    // That no finding stands twice, and that they rise, is told by the length.
     let _ = found.len();
     let mut list = Vec::new(alloc);
     for finding in found {

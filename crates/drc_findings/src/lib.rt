@@ -8,8 +8,10 @@ mod adding;
 mod finding;
 mod found;
 mod report;
+mod rule;
 
 pub use adding::{add_error, add_finding, add_warning};
 pub use finding::Finding;
 pub use found::{add_same_text, listed, order_law};
 pub use report::report_text;
+pub use rule::Rule;

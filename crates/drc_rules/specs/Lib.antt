@@ -1,1 +1,3 @@
+pub mod OnNets
 pub mod Findings
+pub mod steps

@@ -5,12 +5,12 @@ ghost use Rattle.hierarchy.specs.Instances.{instances_of, lost_of};
 ghost use Rattle.drc_findings.specs.Order.{by_finding, with_findings};
 ghost use Rattle.drc_rules.specs.Findings.{findings, lost_finding};
 
+use crate::on_nets::add_on_nets;
 use component_checks::{add_on_components, add_on_packages, checked_components};
-use drc_findings::{Finding, add_error, add_warning, listed};
+use drc_findings::{Finding, Rule, add_error, add_warning, listed};
 use hierarchy::{Hierarchy, Lost};
 use instance_objects::InstanceObjects;
-use net_checks::add_on_nets;
-use net_names::Nets;
+use net_list::Nets;
 use pin_matrix::Matrix;
 use printed_texts::{name_words, pair_words};
 use project_model::Project;
@@ -24,15 +24,15 @@ fn add_lost_one(alloc: Global, found: &mut BTreeSet<Finding>, lost: &Lost) -> Re
     match lost {
         Lost::MissingSource { sheet, value } => {
             let words = pair_words(alloc, sheet.as_str(), value.as_str())?;
-            add_error(found, 14, words)
+            add_error(found, Rule::MissingSource, words)
         }
         Lost::SourceLoop { refdes, sheet } => {
             let words = pair_words(alloc, refdes.as_str(), sheet.as_str())?;
-            add_error(found, 15, words)
+            add_error(found, Rule::SourceLoop, words)
         }
         Lost::Unreached { sheet } => {
             let words = name_words(alloc, sheet.as_str())?;
-            add_warning(found, 16, words)
+            add_warning(found, Rule::Unreached, words)
         }
     }
 }

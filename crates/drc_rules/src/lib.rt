@@ -1,11 +1,21 @@
 //! The check of a project: which rules its components, nets and sheets break.
 //!
 //! `findings` answers all of them in order, and `report_text` prints them. Rules: docs/RULES.md,
-//! "Findings". Definitions: specs/Findings.antt, which stands on those of component_checks and
-//! net_checks.
+//! "Findings". Definitions: specs/Findings.antt, which stands on specs/OnNets.antt and on those of
+//! component_checks.
 #![tactic(auto)]
 
 mod check;
+mod conflicts;
+mod kind_counts;
+mod kind_words;
+mod no_connection;
+mod not_driven;
+mod on_nets;
+mod one_pin;
+mod pairs_on_two;
+mod pins_on_two;
+mod unconnected;
 
 pub use check::{findings, findings_on};
 pub use drc_findings::{Finding, order_law, report_text};

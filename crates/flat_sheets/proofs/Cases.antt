@@ -23,14 +23,14 @@ use Rattle.geda_geom.specs.declared.conductor.Point.{Point}
 use Rattle.geda_geom.specs.declared.conductor.Conductor.TheVariants.{End, Segment}
 use Rattle.hierarchy.specs.declared.instances.Instance.{Instance}
 use Rattle.pin_place.specs.declared.pins.PlacedPin.{PlacedPin}
-use Rattle.pin_place.specs.Pins.{pins_of}
+use Rattle.pin_place.specs.Pins.{is_drawn, pins_of}
 use Rattle.link_classes.specs.declared.conductors.FlatConductor.{FlatConductor}
 use Rattle.instance_objects.specs.Occurrences.{FlatObject}
 use Rattle.instance_objects.specs.Texts.{under}
 use Rattle.instance_objects.specs.Ports.{labels_of, labels_on}
 use Rattle.flat_sheets.specs.Ports.{pins_at}
 use Rattle.flat_sheets.specs.ListedParts.{is_no_part}
-use Rattle.flat_sheets.specs.Conductors.{RoleData, drawn_of, drawn_pins, hidden_pins, is_drawn, pin_conductor, pins_below, role_of}
+use Rattle.flat_sheets.specs.Conductors.{RoleData, drawn_of, drawn_pins, hidden_pins, pin_conductor, pins_below, role_of}
 
 abbrev text : List ℕ → TextData
 text content = record { x = pos 0; y = pos 0; color = pos 5; size = pos 8; visible = 0; show = 0; angle = 0; align = 0; content = content }

@@ -12,12 +12,12 @@ use Rattle.project_model.specs.Projects.{ProjectData}
 use Rattle.attr_rules.specs.Attributes.{attrs, attached, or_else}
 use Rattle.attr_rules.specs.Libraries.{library_of}
 use Rattle.pin_place.specs.declared.pins.PlacedPin.{PlacedPin}
-use Rattle.pin_place.specs.Pins.{pins_of}
+use Rattle.pin_place.specs.Pins.{is_drawn, pins_of}
 use Rattle.instance_objects.specs.Occurrences.{FlatObject, OccurrenceData, object_at}
 use Rattle.instance_objects.proofs.FlatObjects.{with_body, with_body-same}
-use Rattle.flat_sheets.specs.declared.package.Package.{Package}
+use Rattle.net_list.specs.declared.package.Package.{Package}
 use Rattle.flat_sheets.specs.ListedParts.{listed_part}
-use Rattle.flat_sheets.specs.Conductors.{RoleData, drawn_of, hidden_of, hidden_pins, is_drawn, pin_conductor}
+use Rattle.flat_sheets.specs.Conductors.{RoleData, drawn_of, hidden_of, hidden_pins, pin_conductor}
 use Rattle.flat_sheets.specs.steps.ObjectContents.{drawn_if, drawn_in, drawn_of_component, drawn_pin, hidden_if, hidden_in, hidden_of_component, hidden_pin, part_if, parts_in, role_at}
 
 or_else-none : (values : List (List ℕ)) → or_else values [] ≡ values

@@ -13,8 +13,8 @@ use Rattle.geda_geom.specs.declared.conductor.Point.{Point}
 use Rattle.geda_geom.specs.declared.conductor.Conductor.TheVariants.{Segment, End}
 use Rattle.pin_place.specs.declared.pins.PlacedPin.{PlacedPin}
 use Rattle.pin_place.specs.SymbolPins.{point}
-use Rattle.pin_place.specs.Pins.{pins_of}
-use Rattle.link_classes.specs.declared.member.Member.{Member}
+use Rattle.pin_place.specs.Pins.{is_drawn, pins_of}
+use Rattle.net_list.specs.declared.member.Member.{Member}
 use Rattle.link_classes.specs.declared.conductors.FlatConductor.{FlatConductor}
 use Rattle.link_classes.specs.declared.conductors.PortPins.{PortPins}
 use Rattle.instance_objects.specs.Occurrences.{FlatObject, flat_objects}
@@ -77,10 +77,6 @@ segment_conductor place id names a b = record {
   leads_up = None;
   directive = false;
 }
-
--- the pin has an end
-abbrev pub is_drawn : PlacedPin → Bool
-is_drawn pin = is_some pin.end
 
 -- the drawn pins of a component
 abbrev pub drawn_pins : ProjectData → FlatObject → Option SymbolData → List FlatConductor

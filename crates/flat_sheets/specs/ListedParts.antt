@@ -11,7 +11,7 @@ use Rattle.attr_rules.specs.Components.{has_sources, is_annotation, refdes_of}
 use Rattle.hierarchy.specs.declared.instances.Instance.{Instance}
 use Rattle.instance_objects.specs.Occurrences.{FlatObject, flat_objects}
 use Rattle.instance_objects.specs.Texts.{under}
-use Rattle.flat_sheets.specs.declared.package.Package.{Package}
+use Rattle.net_list.specs.declared.package.Package.{Package}
 use Rattle.flat_sheets.specs.Ports.{stands_as_port}
 
 -- a component that is no part, whatever its refdes: it is graphical or a directive, or has sheets

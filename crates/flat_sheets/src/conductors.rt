@@ -12,7 +12,8 @@ use attr_rules::{PinKind, attrs_of};
 use geda_geom::{Conductor, Key, Point};
 use geda_model::{Block, Items, Line, Shape, Word};
 use instance_objects::InstanceObject;
-use link_classes::{FlatConductor, Member, PortPins};
+use link_classes::{FlatConductor, PortPins};
+use net_list::Member;
 use pin_place::PlacedPin;
 use std::alloc::{AllocError, Global};
 

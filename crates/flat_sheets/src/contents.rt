@@ -9,10 +9,11 @@ ghost use Rattle.flat_sheets.specs.steps.ObjectContents.{hidden_if, hidden_in, h
 ghost use Rattle.flat_sheets.specs.steps.ObjectContents.{part_if, part_of_component, parts_in};
 
 use crate::conductors::FlatConductors;
-use crate::package::{Package, package_under};
+use crate::package::package_under;
 use crate::roles::{Role, role_of};
 use geda_model::Body;
 use instance_objects::{InstanceObject, InstanceObjects, Occurrence};
+use net_list::Package;
 use pin_place::pins_of;
 use std::alloc::{AllocError, Global};
 

@@ -13,5 +13,4 @@ mod project;
 mod roles;
 mod texts;
 
-pub use package::Package;
 pub use project::{FlatProject, flatten};

@@ -5,20 +5,8 @@ ghost use Rattle.flat_sheets.specs.ListedParts.{package_under};
 
 use attr_rules::attr_of;
 use geda_model::{Block, Line, Object, Symbol};
+use net_list::Package;
 use std::alloc::{AllocError, Global};
-
-/// One physical part, or what one of its components says of it.
-#[derive(Debug, Drop)]
-pub struct Package {
-    /// The printed refdes.
-    pub refdes: Line,
-    /// The attribute `device`; of a package, that of its first component that has it.
-    pub device: Option<Block>,
-    /// The attribute `value`, likewise.
-    pub value: Option<Block>,
-    /// The attribute `footprint`, likewise.
-    pub footprint: Option<Block>,
-}
 
 fn attr_block(
     alloc: Global,

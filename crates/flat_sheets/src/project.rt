@@ -4,9 +4,9 @@ ghost use Rattle.flat_sheets.specs.Conductors.{conductors_of};
 ghost use Rattle.flat_sheets.specs.ListedParts.{listed_parts};
 
 use crate::contents::{ProjectContents, contents_of};
-use crate::package::Package;
 use instance_objects::InstanceObjects;
 use link_classes::FlatConductor;
+use net_list::Package;
 use std::alloc::{AllocError, Global};
 
 /// What joins in a project, and its listed components.

@@ -4,7 +4,7 @@ use Rattle.std.specs.Prelude.{⊤}
 use Rattle.std.specs.declared.option.Option.{Option}
 use Rattle.geda_defs.specs.Contents.{Files}
 use Rattle.project_model.specs.Projects.{ProjectData}
-use Rattle.net_names.specs.declared.nets.Nets.{Nets}
+use Rattle.net_list.specs.declared.nets.Nets.{Nets}
 use Rattle.project_files.specs.FileReads.{FileComesTo}
 use Rattle.project_files.specs.Gathering.{ProjectFiles}
 use Rattle.project_files.specs.ProjectFiles.{OfFiles, OfSome}

@@ -3,7 +3,7 @@ use Rattle.std.proofs.Common.{◌≡◌, List, ℕ, None, Ok, Err, inl, inr, ref
 use Rattle.project_model.specs.Projects.{ProjectData}
 use Rattle.hierarchy.specs.declared.fault.ElabFault.{ElabFault}
 use Rattle.hierarchy.specs.declared.fault.ElabFault.TheVariants as elaboration
-use Rattle.net_names.specs.declared.nets.Nets.{Nets}
+use Rattle.net_list.specs.declared.nets.Nets.{Nets}
 use Rattle.reports.specs.NetLists.{Elaborates, OfNetList}
 use Rattle.spice_out.specs.declared.fault.SpiceFault.{SpiceFault}
 use Rattle.spice_out.specs.declared.fault.SpiceFault.TheVariants as spice_faults

@@ -6,7 +6,7 @@ use Rattle.project_model.specs.Projects.{ProjectData}
 use Rattle.geda_grammar.specs.Faults.{sheet_file, symbol_file}
 use Rattle.geda_grammar.proofs.ReadingLaws.{sheet_determined, symbol_determined}
 use Rattle.pin_matrix.specs.declared.level.Level.{Level}
-use Rattle.net_names.specs.declared.nets.Nets.{Nets}
+use Rattle.net_list.specs.declared.nets.Nets.{Nets}
 use Rattle.command_words.specs.declared.command.Command.{Command}
 use Rattle.command_words.specs.declared.command.Command.TheVariants as commands
 use Rattle.project_files.specs.declared.fault.FileFault.{FileFault}

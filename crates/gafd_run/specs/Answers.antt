@@ -9,8 +9,8 @@ use Rattle.project_model.specs.Projects.{ProjectData}
 use Rattle.geda_grammar.specs.Faults.{sheet_file, symbol_file}
 use Rattle.geda_grammar.specs.Canonical.{sheet_text, symbol_text}
 use Rattle.hierarchy.specs.Instances.{IsCrowded}
-use Rattle.net_names.specs.declared.nets.Nets.{Nets}
-use Rattle.backends.specs.declared.form.Form.{Form}
+use Rattle.net_list.specs.declared.nets.Nets.{Nets}
+use Rattle.net_list.specs.declared.form.Form.{Form}
 use Rattle.backends.specs.Forms.{net_text}
 use Rattle.pin_matrix.specs.declared.level.Level.{Level}
 use Rattle.pin_matrix.specs.Matrices.{usual}

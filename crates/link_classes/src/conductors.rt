@@ -1,7 +1,7 @@
 // What joins in a project.
-use crate::member::Member;
 use geda_geom::{Conductor, Key};
 use geda_model::{Block, Items};
+use net_list::Member;
 
 /// Pins of a component that leads down to a sheet below: those with one label.
 #[derive(Debug, Drop)]

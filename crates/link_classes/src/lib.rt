@@ -9,11 +9,9 @@
 mod conductors;
 mod groups;
 mod labels;
-mod member;
 mod names;
 mod port_order;
 mod ports;
 
 pub use conductors::{FlatConductor, PortPins};
 pub use labels::class_labels;
-pub use member::Member;

@@ -4,12 +4,12 @@ use Rattle.std.specs.Prelude.{codes}
 use Rattle.std.specs.Fmt.{digits}
 use Rattle.geda_geom.specs.declared.conductor.Conductor.{Conductor}
 use Rattle.geda_geom.specs.declared.conductor.Conductor.TheVariants.{End}
-use Rattle.link_classes.specs.declared.member.Member.{Member}
+use Rattle.net_list.specs.declared.member.Member.{Member}
 use Rattle.link_classes.specs.declared.conductors.FlatConductor.{FlatConductor}
-use Rattle.flat_sheets.specs.declared.package.Package.{Package}
-use Rattle.net_names.specs.declared.nets.Net.{Net}
-use Rattle.net_names.specs.declared.nets.NetSort.{NetSort}
-use Rattle.net_names.specs.declared.nets.NetSort.TheVariants as sorts
+use Rattle.net_list.specs.declared.package.Package.{Package}
+use Rattle.net_list.specs.declared.nets.Net.{Net}
+use Rattle.net_list.specs.declared.nets.NetSort.{NetSort}
+use Rattle.net_list.specs.declared.nets.NetSort.TheVariants as sorts
 use Rattle.net_names.specs.Packages.{packages_by}
 use Rattle.net_names.specs.NetLists.{nets_by}
 

@@ -18,7 +18,7 @@ use Rattle.hierarchy.proofs.ListLemmas.{all_filter_map, all_flat_map, all_none, 
 use Rattle.pair_classes.proofs.LabelLemmas.{joined_back, joined_keeps, joined_then, label_inside, labels_agree}
 use Rattle.pair_classes.proofs.ListLemmas.{head_is_in, none_is_in, tail_is_in}
 use Rattle.link_classes.specs.declared.conductors.FlatConductor.{FlatConductor}
-use Rattle.link_classes.specs.declared.member.Member.{Member}
+use Rattle.net_list.specs.declared.member.Member.{Member}
 use Rattle.link_classes.specs.Links.{AreTied, AreTouching, AtPlaces, Linked, ShapesTouch, ShareName, names_of}
 use Rattle.geda_defs.specs.Order.{by_bytes, once_in_order}
 use Rattle.net_names.specs.NetClasses.{ClassPinData, Labelled, NetClassData, by_member, by_pin, class_pin, class_pin_of, has_pins, labelled_from, net_class_of, net_classes}

@@ -9,9 +9,9 @@ use Rattle.std.proofs.lemmas.Bool.{ne_eqb}
 use Rattle.std.proofs.lemmas.List.FromFn.{fill_by_all}
 use Rattle.link_classes.specs.declared.conductors.FlatConductor.{FlatConductor}
 use Rattle.link_classes.specs.Links.{names_of}
-use Rattle.net_names.specs.declared.nets.Net.{Net}
-use Rattle.net_names.specs.declared.nets.NetSort.{NetSort}
-use Rattle.net_names.specs.declared.nets.NetSort.TheVariants as sorts
+use Rattle.net_list.specs.declared.nets.Net.{Net}
+use Rattle.net_list.specs.declared.nets.NetSort.{NetSort}
+use Rattle.net_list.specs.declared.nets.NetSort.TheVariants as sorts
 use Rattle.geda_defs.specs.Order.{once_in_order, by_bytes}
 use Rattle.net_names.specs.NetClasses.{labelled_from, NetClassData, net_class_of, has_pins}
 use Rattle.net_names.specs.NetLists.{is_named, is_unnamed, is_unconnected, named_net, net_of, by_least_pin, by_name, is_free, first_or, numbered, numbered_nets, nets_by}

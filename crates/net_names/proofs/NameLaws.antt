@@ -17,9 +17,9 @@ use Rattle.pair_classes.proofs.ListLemmas.{in_cases, none_is_in}
 use Rattle.link_classes.specs.declared.conductors.FlatConductor.{FlatConductor}
 use Rattle.link_classes.specs.Links.{Linked, names_of}
 use Rattle.geda_defs.specs.Order.{once_in_order}
-use Rattle.net_names.specs.declared.nets.Net.{Net}
-use Rattle.net_names.specs.declared.nets.NetSort.{NetSort}
-use Rattle.net_names.specs.declared.nets.NetSort.TheVariants as sorts
+use Rattle.net_list.specs.declared.nets.Net.{Net}
+use Rattle.net_list.specs.declared.nets.NetSort.{NetSort}
+use Rattle.net_list.specs.declared.nets.NetSort.TheVariants as sorts
 use Rattle.net_names.specs.NetClasses.{NetClassData, has_pins}
 use Rattle.net_names.specs.NetLists.{AreCountable, free_numbers, is_free, is_named, is_unconnected, is_unnamed, named_net, numbered, numbered_nets, by_least_pin, nets_by}
 use Rattle.net_names.specs.NetLaws.{NamesDiffer}

@@ -13,8 +13,8 @@ use Rattle.std.proofs.lemmas.List.{append_assoc, append_cancel_left}
 use Rattle.std.proofs.lemmas.List.Elements.{filter_agree}
 use Rattle.std.proofs.lemmas.Map.Lookups.{exact_bytes}
 use Rattle.std.proofs.lemmas.Map.Text.{is_eq-slice_cmp}
-use Rattle.net_names.specs.declared.nets.Net.{Net}
-use Rattle.net_names.specs.declared.nets.NetSort.{NetSort}
+use Rattle.net_list.specs.declared.nets.Net.{Net}
+use Rattle.net_list.specs.declared.nets.NetSort.{NetSort}
 use Rattle.net_names.specs.NetClasses.{NetClassData}
 use Rattle.net_names.specs.NetLists.{is_free, numbered, net_of}
 use Rattle.geda_defs.specs.Order.{by_bytes, is_equal}

@@ -14,7 +14,7 @@ use Rattle.std.specs.Str.{bytes_eq}
 use Rattle.std.proofs.lemmas.Map.Text.{is_eq-slice_cmp}
 use Rattle.std.proofs.lemmas.Slice.Eq.{bytes_eq-Decides}
 use Rattle.geda_defs.proofs.Bytes.{bytes_same}
-use Rattle.flat_sheets.specs.declared.package.Package.{Package}
+use Rattle.net_list.specs.declared.package.Package.{Package}
 use Rattle.net_names.specs.declared.packages.PackageAttributes.{PackageAttributes}
 use Rattle.geda_defs.specs.Order.{by_bytes, is_equal, once_in_order}
 use Rattle.net_names.specs.Packages.{attr_in_package, package_attr, package_of, packages_by}

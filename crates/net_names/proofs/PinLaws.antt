@@ -14,12 +14,12 @@ use Rattle.std.proofs.lemmas.Option.{get_or_from_slice_get, same_Some, slice_get
 use Rattle.geda_defs.specs.Classes.{AreClasses}
 use Rattle.hierarchy.proofs.ListLemmas.{contains_map}
 use Rattle.link_classes.specs.declared.conductors.FlatConductor.{FlatConductor}
-use Rattle.link_classes.specs.declared.member.Member.{Member}
+use Rattle.net_list.specs.declared.member.Member.{Member}
 use Rattle.link_classes.specs.Links.{Linked, names_of}
 use Rattle.geda_defs.specs.Order.{once_in_order}
-use Rattle.net_names.specs.declared.nets.Net.{Net}
-use Rattle.net_names.specs.declared.nets.NetSort.{NetSort}
-use Rattle.net_names.specs.declared.nets.NetSort.TheVariants as sorts
+use Rattle.net_list.specs.declared.nets.Net.{Net}
+use Rattle.net_list.specs.declared.nets.NetSort.{NetSort}
+use Rattle.net_list.specs.declared.nets.NetSort.TheVariants as sorts
 use Rattle.net_names.specs.NetClasses.{NetClassData, has_pins}
 use Rattle.net_names.specs.NetLists.{AreCountable, by_least_pin, free_numbers, is_named, is_unconnected, is_unnamed, named_net, nets_by, numbered, numbered_nets}
 use Rattle.net_names.specs.NetLaws.{EachPinHasOneNet, IsPinAt, IsPinOf, PrintAlike}

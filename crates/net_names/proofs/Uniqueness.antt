@@ -4,9 +4,9 @@ use Rattle.std.proofs.lemmas.List.{ext_get_or}
 use Rattle.geda_defs.specs.Classes.{AreClasses}
 use Rattle.project_model.specs.Projects.{ProjectData}
 use Rattle.link_classes.specs.declared.conductors.FlatConductor.{FlatConductor}
-use Rattle.net_names.specs.declared.nets.Net.{Net}
-use Rattle.net_names.specs.declared.nets.Nets.{Nets}
-use Rattle.flat_sheets.specs.declared.package.Package.{Package}
+use Rattle.net_list.specs.declared.nets.Net.{Net}
+use Rattle.net_list.specs.declared.nets.Nets.{Nets}
+use Rattle.net_list.specs.declared.package.Package.{Package}
 use Rattle.net_names.specs.NetLists.{AreNetsOf, IsNetListOf, nets_by}
 
 same_labels : (R : ℕ → ℕ → Type 0) (count : ℕ) (xs ys : List ℕ) → AreClasses R count xs → AreClasses R count ys → xs ≡ ys

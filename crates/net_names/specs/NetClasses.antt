@@ -5,7 +5,7 @@ use Rattle.std.specs.List.{filter_map, flat_map, list_any, range_with_len}
 use Rattle.std.specs.Ordering.{nat_cmp, on, then_cmp}
 use Rattle.geda_geom.specs.declared.conductor.Conductor.{Conductor}
 use Rattle.geda_geom.specs.declared.conductor.Conductor.TheVariants.{End}
-use Rattle.link_classes.specs.declared.member.Member.{Member}
+use Rattle.net_list.specs.declared.member.Member.{Member}
 use Rattle.geda_defs.specs.Order.{once_in_order, by_bytes}
 use Rattle.link_classes.specs.declared.conductors.FlatConductor.{FlatConductor}
 use Rattle.link_classes.specs.Links.{names_of}

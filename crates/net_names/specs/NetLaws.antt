@@ -7,12 +7,12 @@ use Rattle.attr_rules.specs.Libraries.{library_of}
 use Rattle.pin_place.specs.declared.pins.PlacedPin.{PlacedPin}
 use Rattle.pin_place.specs.Pins.{pins_of}
 use Rattle.link_classes.specs.declared.conductors.FlatConductor.{FlatConductor}
-use Rattle.link_classes.specs.declared.member.Member.{Member}
+use Rattle.net_list.specs.declared.member.Member.{Member}
 use Rattle.link_classes.specs.Links.{Linked}
 use Rattle.flat_sheets.specs.Conductors.{conductors_of, member_under}
 use Rattle.flat_sheets.specs.ListedParts.{listed_refdes}
 use Rattle.instance_objects.specs.Occurrences.{FlatObject, flat_objects}
-use Rattle.net_names.specs.declared.nets.Net.{Net}
+use Rattle.net_list.specs.declared.nets.Net.{Net}
 
 -- no two nets have one name
 abbrev pub NamesDiffer : List Net → Type 0

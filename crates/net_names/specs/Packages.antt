@@ -3,7 +3,7 @@ use Rattle.std.specs.Prelude.{ℕ, cond, List, Option, None, map}
 use Rattle.std.specs.List.{filter_map, slice_get}
 use Rattle.std.specs.Str.{bytes_eq}
 use Rattle.project_model.specs.Projects.{ProjectData}
-use Rattle.flat_sheets.specs.declared.package.Package.{Package}
+use Rattle.net_list.specs.declared.package.Package.{Package}
 use Rattle.flat_sheets.specs.ListedParts.{listed_parts}
 use Rattle.geda_defs.specs.Order.{by_bytes, once_in_order}
 

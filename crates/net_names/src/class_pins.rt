@@ -1,5 +1,5 @@
 // The pins of a class, ordered by what is printed of them.
-use link_classes::Member;
+use net_list::Member;
 use std::cmp::Ordering;
 use std::marker::Model;
 

@@ -2,7 +2,7 @@
 ghost use Rattle.std.specs.Prelude.{◌≡◌, ℕ, List};
 ghost use Rattle.project_model.specs.Projects.{ProjectData};
 ghost use Rattle.flat_sheets.specs.Conductors.{conductors_of};
-ghost use Rattle.net_names.specs.declared.nets.Nets.{Nets};
+ghost use Rattle.net_list.specs.declared.nets.Nets.{Nets};
 ghost use Rattle.net_names.specs.NetClasses.{ClassPinData, NetClassData, by_member};
 ghost use Rattle.net_names.specs.NetLaws.{EachPinHasOneNet, EachPinStands, NamesDiffer};
 ghost use Rattle.net_names.specs.NetLists.{IsNetListOf, by_least_pin, by_name};

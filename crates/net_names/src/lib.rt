@@ -5,19 +5,16 @@
 
 mod class_pins;
 mod gathering;
+mod joining;
 mod laws;
 mod listing;
 mod named;
 mod names;
 mod net_classes;
-mod net_list;
-mod nets;
 mod numbering;
 mod packages;
 mod taken;
 
-pub use flat_sheets::Package;
+pub use joining::{join, join_objects};
 pub use laws::{each_pin_has_one_net, each_stands_once, names_differ, one_net_list};
-pub use link_classes::Member;
-pub use net_list::{join, join_objects};
-pub use nets::{Members, Net, NetList, NetSort, Nets, Packages};
+pub use net_list::{Member, Members, Net, NetList, NetSort, Nets, Package, Packages};

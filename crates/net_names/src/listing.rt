@@ -6,10 +6,10 @@ ghost use Rattle.net_names.specs.steps.Gathering.{ArePlaces};
 use crate::gathering::gathered;
 use crate::named::listed;
 use crate::net_classes::{NetClasses, in_order};
-use crate::nets::{NetList, NetSort};
 use crate::numbering::number_classes;
 use geda_model::Items;
 use link_classes::FlatConductor;
+use net_list::{NetList, NetSort};
 use std::alloc::{AllocError, Global};
 
 /// The nets of conductors whose classes have these labels, in order: the named ones by the bytes of

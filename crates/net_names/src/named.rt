@@ -4,8 +4,8 @@ ghost use Rattle.net_names.specs.NetLists.{net_of};
 
 use crate::class_pins::ClassPin;
 use crate::net_classes::NetClass;
-use crate::nets::{Members, Net, NetSort};
 use geda_model::{Block, Items};
+use net_list::{Members, Net, NetSort};
 use std::alloc::{AllocError, Global};
 use std::cmp::Ordering;
 use std::marker::Model;
@@ -49,7 +49,7 @@ pub struct NamedNet {
 }
 
 impl Model for NamedNet {
-    ghost use Rattle.net_names.specs.declared.nets.Net.{Net};
+    ghost use Rattle.net_list.specs.declared.nets.Net.{Net};
 
     ghost Value = { Net };
 

@@ -7,8 +7,8 @@ ghost use Rattle.net_names.specs.steps.Numbering.{AreNumbered, IsNextFree};
 use crate::named::net_of;
 use crate::names::NetName;
 use crate::net_classes::NetClass;
-use crate::nets::{Net, NetSort};
 use geda_model::Block;
+use net_list::{Net, NetSort};
 use std::alloc::{AllocError, Global};
 use std::collections::BTreeSet;
 

@@ -7,9 +7,8 @@ ghost use Rattle.net_names.specs.Packages.{packages_by};
 ghost use Rattle.net_names.specs.steps.PackageRows.{AreRowsOf, TakesIn, no_attributes};
 ghost use Rattle.net_names.specs.steps.PackageRows.{package_of_row};
 
-use crate::nets::Packages;
-use flat_sheets::Package;
 use geda_model::{Block, Items, Line};
+use net_list::{Package, Packages};
 use std::alloc::{AllocError, Global};
 use std::collections::BTreeMap;
 

@@ -2,7 +2,7 @@
 use Rattle.std.proofs.Common.{Result, inl, inr, ap}
 use Rattle.std.specs.Result.{result_map_both}
 use Rattle.project_model.specs.Projects.{ProjectData}
-use Rattle.net_names.specs.declared.nets.Nets.{Nets}
+use Rattle.net_list.specs.declared.nets.Nets.{Nets}
 use Rattle.reports.specs.NetLists.{OfNetList}
 
 -- an answer by the net list is taken further, and so is a fault

@@ -4,7 +4,7 @@ use Rattle.std.specs.Result.{IsErrAnd}
 use Rattle.project_model.specs.Projects.{ProjectData}
 use Rattle.hierarchy.specs.declared.fault.ElabFault.{ElabFault}
 use Rattle.hierarchy.specs.declared.fault.ElabFault.TheVariants as elaboration
-use Rattle.backends.specs.declared.form.Form.{Form}
+use Rattle.net_list.specs.declared.form.Form.{Form}
 use Rattle.backends.specs.Forms.{net_text}
 use Rattle.pin_matrix.specs.declared.level.Level.{Level}
 use Rattle.reports.specs.declared.fault.ReportFault.{ReportFault}

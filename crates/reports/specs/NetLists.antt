@@ -7,7 +7,7 @@ use Rattle.project_model.specs.Projects.{ProjectData}
 use Rattle.hierarchy.specs.Instances.{IsCrowded}
 use Rattle.hierarchy.specs.declared.fault.ElabFault.{ElabFault}
 use Rattle.hierarchy.specs.declared.fault.ElabFault.TheVariants as faults
-use Rattle.net_names.specs.declared.nets.Nets.{Nets}
+use Rattle.net_list.specs.declared.nets.Nets.{Nets}
 use Rattle.net_names.specs.NetLists.{IsNetListOf}
 use Rattle.pin_matrix.specs.declared.level.Level.{Level}
 use Rattle.drc_findings.specs.declared.finding.Finding.{Finding}

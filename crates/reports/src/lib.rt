@@ -12,9 +12,9 @@ mod net_lists;
 mod sheet_texts;
 mod what;
 
-pub use backends::Form;
 pub use check_report::Check;
 pub use each_report::report;
 pub use fault::ReportFault;
+pub use net_list::Form;
 pub use net_lists::{check, net_list, net_report};
 pub use what::What;

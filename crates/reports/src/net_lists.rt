@@ -5,13 +5,14 @@ ghost use Rattle.backends.specs.Forms.{net_text};
 ghost use Rattle.reports.specs.NetLists.{Elaborates, OfNetList, checked, seen};
 
 use crate::check_report::{Check, reported};
-use backends::{Form, net_text};
+use backends::net_text;
 use board_core::Board;
 use drc_rules::{Matrix, findings_on};
 use geda_geom::Key;
 use hierarchy::{ElabFault, elaborate};
 use instance_objects::InstanceObjects;
-use net_names::{Nets, join, join_objects};
+use net_list::{Form, Nets};
+use net_names::{join, join_objects};
 use project_model::Project;
 use sheet_groups::local_groups;
 use std::alloc::{AllocError, Global};

@@ -1,6 +1,6 @@
 // What is reported.
-use backends::Form;
 use geda_model::Name;
+use net_list::Form;
 
 /// What is reported of a project (docs/FORMATS.md, "Reports").
 #[derive(Debug, Drop)]

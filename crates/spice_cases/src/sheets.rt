@@ -2,7 +2,8 @@
 use case_projects::project_in;
 use case_tables::{CaseFault, TableFiles};
 use hierarchy::{ElabFault, elaborate};
-use net_names::{Nets, join};
+use net_list::Nets;
+use net_names::join;
 use project_model::Project;
 use sheet_groups::local_groups;
 use std::alloc::Global;

@@ -2,7 +2,7 @@
 use crate::sheets::nets_in;
 use case_tables::{CaseFault, TableFiles, cell, text_in};
 use geda_model::Line;
-use net_names::Nets;
+use net_list::Nets;
 use spice_out::{SpiceFault, spice_text};
 use std::alloc::Global;
 

@@ -4,12 +4,12 @@ use Rattle.std.specs.BTreeMap.{btree_map_len}
 use Rattle.std.specs.List.{flat_map, range_with_len}
 use Rattle.std.specs.Option.{is_some, option_or, unwrap_or}
 use Rattle.printed_texts.specs.PrintedTexts.{flat}
-use Rattle.flat_sheets.specs.declared.package.Package.{Package}
+use Rattle.net_list.specs.declared.package.Package.{Package}
 use Rattle.spice_out.specs.declared.fault.SpiceFault.{SpiceFault}
 use Rattle.spice_out.specs.declared.fault.SpiceFault.TheVariants as faults
 use Rattle.spice_out.specs.declared.net_nodes.NetNode.{NetNode}
 use Rattle.spice_out.specs.Cards.{card_name}
-use Rattle.net_names.specs.declared.nets.Net.{Net}
+use Rattle.net_list.specs.declared.nets.Net.{Net}
 use Rattle.spice_out.specs.Faults.{Fails, first_fault, package_fault}
 use Rattle.spice_out.specs.Pins.{PinData, has_pin, has_pins, numbers_of}
 use Rattle.spice_out.specs.SpiceText.{card_line, node_text, pin_node, value_of}

@@ -10,10 +10,10 @@ use Rattle.std.proofs.lemmas.Option.{none-some, same_Some}
 use Rattle.geda_defs.proofs.Bytes.{bytes_true}
 use Rattle.pair_classes.proofs.ListLemmas.{head_is_in}
 use Rattle.link_classes.specs.declared.conductors.FlatConductor.{FlatConductor}
-use Rattle.link_classes.specs.declared.member.Member.{Member}
-use Rattle.flat_sheets.specs.declared.package.Package.{Package}
-use Rattle.net_names.specs.declared.nets.Net.{Net}
-use Rattle.net_names.specs.declared.nets.Nets.{Nets}
+use Rattle.net_list.specs.declared.member.Member.{Member}
+use Rattle.net_list.specs.declared.package.Package.{Package}
+use Rattle.net_list.specs.declared.nets.Net.{Net}
+use Rattle.net_list.specs.declared.nets.Nets.{Nets}
 use Rattle.net_names.specs.NetLaws.{AreNetsOfPins, IsPinAt}
 use Rattle.net_names.proofs.ApartLemmas.{Apart, as_pairs, of_filter}
 use Rattle.net_names.proofs.NameLaws.{AreNamedApart}

@@ -7,7 +7,7 @@ use Rattle.std.specs.List.{list_any}
 use Rattle.std.specs.Str.{bytes_eq}
 use Rattle.std.proofs.lemmas.List.Folds.{list_any-append}
 use Rattle.std.proofs.lemmas.Map.Text.{is_eq-slice_cmp}
-use Rattle.flat_sheets.specs.declared.package.Package.{Package}
+use Rattle.net_list.specs.declared.package.Package.{Package}
 use Rattle.attr_rules.proofs.SeenLemmas.{one_or}
 use Rattle.spice_out.specs.Cards.{card_name, folded, has_card}
 use Rattle.spice_out.specs.Faults.{clashes, is_named}

@@ -7,7 +7,7 @@ use Rattle.std.proofs.lemmas.List.Elements.{All-cons, All-head, All-tail, All-we
 use Rattle.std.proofs.lemmas.Option.{none-some, same_Some, slice_get-map}
 use Rattle.geda_defs.proofs.Bytes.{bytes_same}
 use Rattle.hierarchy.proofs.ListLemmas.{all_none}
-use Rattle.net_names.specs.declared.nets.Net.{Net}
+use Rattle.net_list.specs.declared.nets.Net.{Net}
 use Rattle.net_names.proofs.ApartLemmas.{Apart, apart_map, one_place}
 use Rattle.net_names.proofs.NameLaws.{AreNamedApart}
 use Rattle.net_names.proofs.PlaceLemmas.{is_there}

@@ -10,10 +10,10 @@ use Rattle.std.proofs.lemmas.Option.{none-some, same_Some}
 use Rattle.geda_defs.proofs.Bytes.{bytes_same, bytes_true}
 use Rattle.hierarchy.proofs.ListLemmas.{all_filter_map, all_flat_map, contains_filter_map, contains_flat_map}
 use Rattle.pair_classes.proofs.ListLemmas.{in_cases, none_is_in}
-use Rattle.link_classes.specs.declared.member.Member.{Member}
-use Rattle.flat_sheets.specs.declared.package.Package.{Package}
-use Rattle.net_names.specs.declared.nets.Net.{Net}
-use Rattle.net_names.specs.declared.nets.Nets.{Nets}
+use Rattle.net_list.specs.declared.member.Member.{Member}
+use Rattle.net_list.specs.declared.package.Package.{Package}
+use Rattle.net_list.specs.declared.nets.Net.{Net}
+use Rattle.net_list.specs.declared.nets.Nets.{Nets}
 use Rattle.net_names.proofs.PlaceLemmas.{found, is_there, place_in}
 use Rattle.spice_out.specs.declared.net_nodes.NetNode.{NetNode}
 use Rattle.spice_out.specs.declared.fault.SpiceFault.{SpiceFault}

@@ -14,8 +14,8 @@ use Rattle.std.proofs.lemmas.Str.Parse.{IsNumeralModel, numerals_by_value}
 use Rattle.geda_defs.specs.Lines.{ended, is_line_feed}
 use Rattle.hierarchy.proofs.ListLemmas.{all_flat_map, all_none}
 use Rattle.printed_texts.specs.PrintedTexts.{flat, flat_byte, word, word_byte}
-use Rattle.flat_sheets.specs.declared.package.Package.{Package}
-use Rattle.net_names.specs.declared.nets.Nets.{Nets}
+use Rattle.net_list.specs.declared.package.Package.{Package}
+use Rattle.net_list.specs.declared.nets.Nets.{Nets}
 use Rattle.spice_out.specs.declared.net_nodes.NetNode.{NetNode}
 use Rattle.spice_out.specs.Cards.{card_name, earlier_pieces, has_card, last_piece, letter_of, name_byte, pin_count, pins_of_letter}
 use Rattle.spice_out.specs.Nodes.{NodedNetData, noded_nets}

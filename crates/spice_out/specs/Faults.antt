@@ -3,9 +3,9 @@ use Rattle.std.specs.Prelude.{◌≡◌, ℕ, ◌&&◌, not, if◌then◌else◌
 use Rattle.std.specs.List.{list_any}
 use Rattle.std.specs.Option.{is_some, option_or}
 use Rattle.std.specs.Str.{bytes_eq}
-use Rattle.flat_sheets.specs.declared.package.Package.{Package}
-use Rattle.net_names.specs.declared.nets.Net.{Net}
-use Rattle.net_names.specs.declared.nets.Nets.{Nets}
+use Rattle.net_list.specs.declared.package.Package.{Package}
+use Rattle.net_list.specs.declared.nets.Net.{Net}
+use Rattle.net_list.specs.declared.nets.Nets.{Nets}
 use Rattle.spice_out.specs.declared.fault.SpiceFault.{SpiceFault}
 use Rattle.spice_out.specs.declared.fault.SpiceFault.TheVariants as faults
 use Rattle.spice_out.specs.Cards.{card_name, folded, has_card, pin_count}

@@ -1,7 +1,7 @@
 -- The nodes of nets (own): 0 for the one named `GND`, 1, 2, 3 for the others in their order.
 use Rattle.std.specs.Prelude.{ℕ, ◌+◌, if◌then◌else◌, Bool, List, [], ◌∷◌, codes}
 use Rattle.std.specs.Str.{bytes_eq}
-use Rattle.net_names.specs.declared.nets.Net.{Net}
+use Rattle.net_list.specs.declared.nets.Net.{Net}
 use Rattle.spice_out.specs.declared.net_nodes.NetNode.{NetNode}
 
 -- the net is named `GND`, in capital letters

@@ -5,8 +5,8 @@ use Rattle.std.specs.List.{filter_map, find, flat_map, list_all, list_any, range
 use Rattle.std.specs.Option.{option_map}
 use Rattle.std.specs.Str.{bytes_eq}
 use Rattle.geda_defs.specs.Lists.{each_once}
-use Rattle.link_classes.specs.declared.member.Member.{Member}
-use Rattle.net_names.specs.declared.nets.Net.{Net}
+use Rattle.net_list.specs.declared.member.Member.{Member}
+use Rattle.net_list.specs.declared.nets.Net.{Net}
 use Rattle.spice_out.specs.declared.net_nodes.NetNode.{NetNode}
 use Rattle.spice_out.specs.Nodes.{NodedNetData, noded_nets}
 

@@ -8,11 +8,11 @@ use Rattle.geda_defs.specs.Classes.{Joined}
 use Rattle.geda_defs.specs.Lines.{is_line_feed}
 use Rattle.printed_texts.specs.PrintedTexts.{flat}
 use Rattle.link_classes.specs.declared.conductors.FlatConductor.{FlatConductor}
-use Rattle.link_classes.specs.declared.member.Member.{Member}
+use Rattle.net_list.specs.declared.member.Member.{Member}
 use Rattle.link_classes.specs.Links.{Linked}
-use Rattle.flat_sheets.specs.declared.package.Package.{Package}
-use Rattle.net_names.specs.declared.nets.Net.{Net}
-use Rattle.net_names.specs.declared.nets.Nets.{Nets}
+use Rattle.net_list.specs.declared.package.Package.{Package}
+use Rattle.net_list.specs.declared.nets.Net.{Net}
+use Rattle.net_list.specs.declared.nets.Nets.{Nets}
 use Rattle.net_names.specs.NetLaws.{IsPinAt}
 use Rattle.spice_out.specs.Pins.{PinData, numbers_of, pins_of}
 use Rattle.spice_out.specs.Cards.{card_name, folded, has_card, pin_count}

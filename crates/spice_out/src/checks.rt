@@ -1,6 +1,6 @@
 // The fault of a package with a card.
 ghost use Rattle.std.specs.Prelude.{List, ◌≡◌, ◌++◌, ◌∷◌, [], true, IfOk, OnOk, option_copied};
-ghost use Rattle.flat_sheets.specs.declared.package.Package.{Package};
+ghost use Rattle.net_list.specs.declared.package.Package.{Package};
 ghost use Rattle.spice_out.specs.Cards.{has_card};
 ghost use Rattle.spice_out.specs.Faults.{card_fault, clashes, fault_of};
 ghost use Rattle.spice_out.specs.SpiceText.{value_of};
@@ -13,7 +13,7 @@ use crate::net_nodes::NetNode;
 use crate::package_pins::{has_pins, is_on_two_nets};
 use crate::pin_table::Pin;
 use geda_model::Block;
-use net_names::Package;
+use net_list::Package;
 use std::alloc::{AllocError, Global};
 use std::collections::{BTreeMap, BTreeSet};
 

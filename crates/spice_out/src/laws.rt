@@ -2,7 +2,7 @@
 ghost use Rattle.std.specs.Prelude.{◌≡◌, ◌↔◌, ◌<◌, ◌^◌, ℕ, true, List, None, map};
 ghost use Rattle.project_model.specs.Projects.{ProjectData};
 ghost use Rattle.flat_sheets.specs.Conductors.{conductors_of};
-ghost use Rattle.net_names.specs.declared.nets.Nets.{Nets};
+ghost use Rattle.net_list.specs.declared.nets.Nets.{Nets};
 ghost use Rattle.net_names.specs.NetLists.{IsNetListOf};
 ghost use Rattle.spice_out.specs.Faults.{spice_fault};
 ghost use Rattle.spice_out.specs.SpiceLaws.{AreFew, CardsDiffer, NodesAreChains, NodesAreNets};

@@ -2,7 +2,7 @@
 ghost use Rattle.std.specs.Prelude.{◌≡◌, ◌<◌, ◌^◌, IfOk};
 ghost use Rattle.spice_out.specs.Nodes.{is_ground, next_after, node_of, noded_nets};
 
-use net_names::Net;
+use net_list::Net;
 use std::alloc::{AllocError, Global};
 use std::marker::Model;
 

@@ -10,7 +10,7 @@ use Rattle.std.specs.Str.{bytes_eq}
 use Rattle.matchit.specs.Rows.{RowsOf}
 use Rattle.matchit.specs.Router.{RouteOf}
 use Rattle.matchit.specs.Seek.{first, has_slash}
-use Rattle.backends.specs.declared.form.Form.TheVariants as forms
+use Rattle.net_list.specs.declared.form.Form.TheVariants as forms
 use Rattle.web_requests.specs.declared.route.Route.{Route}
 use Rattle.web_requests.specs.declared.route.Route.TheVariants.{Edits, Net, Drc, Sheets, Sheet, Symbol, Objects}
 use Rattle.web_requests.specs.Paths.{is_slash, behind, is_segment, or_else, fixed, named, route_at}

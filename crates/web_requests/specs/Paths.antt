@@ -2,7 +2,7 @@
 use Rattle.std.specs.Prelude.{ℕ, Bool, false, not, ◌==◌, if◌then◌else◌, List, [], ◌∷◌, length, take, drop, Option, Some, None, codes}
 use Rattle.std.specs.List.{list_any, before_first, after_first}
 use Rattle.std.specs.Str.{bytes_eq}
-use Rattle.backends.specs.declared.form.Form.TheVariants as forms
+use Rattle.net_list.specs.declared.form.Form.TheVariants as forms
 use Rattle.web_requests.specs.declared.request.Allowed.{Allowed}
 use Rattle.web_requests.specs.declared.request.Allowed.TheVariants.{Get, Post}
 use Rattle.web_requests.specs.declared.route.Route.{Route}

@@ -2,7 +2,7 @@
 use Rattle.std.specs.Prelude.{ℕ, ◌+◌, List, [], ◌∷◌, ◌++◌, length, codes}
 use Rattle.matchit.specs.Rows.{RowsOf, param_token}
 use Rattle.matchit.specs.Router.{RouteOf}
-use Rattle.backends.specs.declared.form.Form.TheVariants as forms
+use Rattle.net_list.specs.declared.form.Form.TheVariants as forms
 use Rattle.web_requests.specs.declared.route.Route.{Route}
 use Rattle.web_requests.specs.declared.route.Route.TheVariants.{Edits, Net, Drc, Sheets, Sheet, Symbol, Objects}
 

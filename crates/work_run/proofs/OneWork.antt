@@ -14,7 +14,7 @@ use Rattle.sheet_groups.specs.Conductors.{SheetConductor, sheet_conductors}
 use Rattle.sheet_groups.specs.Groups.{AreGroups, group_rows}
 use Rattle.board_core.specs.GroupSizes.{IsGroupSize}
 use Rattle.board_core.specs.Bounds.{IsBound, Leaving, SizesSum, coming_count, leaving}
-use Rattle.net_names.specs.declared.nets.Nets.{Nets}
+use Rattle.net_list.specs.declared.nets.Nets.{Nets}
 use Rattle.net_names.specs.NetLists.{IsNetListOf}
 use Rattle.net_names.proofs.Uniqueness.{same_lists}
 use Rattle.gaf_work.specs.Draws.{drawn}

@@ -6,7 +6,7 @@ use Rattle.geda_geom.specs.declared.conductor.Key.{Key}
 use Rattle.project_model.specs.Projects.{ProjectData}
 use Rattle.hierarchy.specs.Instances.{IsCrowded}
 use Rattle.hierarchy.specs.declared.fault.ElabFault.TheVariants as faults
-use Rattle.net_names.specs.declared.nets.Nets.{Nets}
+use Rattle.net_list.specs.declared.nets.Nets.{Nets}
 use Rattle.net_names.specs.NetLists.{IsNetListOf}
 use Rattle.reports.specs.NetLists.{OfNetList}
 use Rattle.work_run.specs.Runs.{IsRun}

@@ -4,7 +4,7 @@ use Rattle.std.specs.FinMap.{entries}
 use Rattle.std.specs.Fmt.{decimal}
 use Rattle.geda_defs.specs.Lines.{ended}
 use Rattle.geda_geom.specs.declared.conductor.Key.{Key}
-use Rattle.net_names.specs.declared.nets.Nets.{Nets}
+use Rattle.net_list.specs.declared.nets.Nets.{Nets}
 use Rattle.net_names.specs.NetLists.{IsNetListOf}
 use Rattle.sheet_groups.specs.Conductors.{sheet_conductors}
 use Rattle.sheet_groups.specs.Groups.{AreGroups}

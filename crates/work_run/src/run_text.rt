@@ -13,7 +13,7 @@ ghost use Rattle.work_run.specs.steps.SoundRuns.{run_of};
 use crate::steps::{Run, run_from};
 use geda_geom::Key;
 use hierarchy::ElabFault;
-use net_names::Nets;
+use net_list::Nets;
 use project_model::Project;
 use reports::net_list;
 use std::alloc::{AllocError, Global};

@@ -3,7 +3,7 @@
 use Rattle.std.specs.Prelude.{ℕ, zero, suc, if◌then◌else◌, List, [], ◌∷◌, ◌++◌, Vec, map}
 use Rattle.std.specs.List.{fold}
 use Rattle.std.specs.declared.alloc.Global.{Global}
-use Rattle.flat_sheets.specs.declared.package.Package.{Package}
+use Rattle.net_list.specs.declared.package.Package.{Package}
 use Rattle.backends.specs.BillText.{ArticleData, article_of, fields_of, packages_of, same_article}
 use Rattle.backends.specs.CsvRecords.{record_text}
 use Rattle.backends.specs.declared.articles.Article.{Article}

@@ -4,6 +4,7 @@ use Rattle.std.specs.Prelude.{ℕ, not, ◌&&◌, Bool, List, ◌++◌, is_some}
 use Rattle.printed_texts.specs.PrintedTexts.{two_words, word}
 use Rattle.text_tallies.specs.NameSets.{has_name}
 use Rattle.text_tallies.specs.PairSets.{has_pair}
+use Rattle.drc_findings.specs.declared.rule.Rule.TheVariants as drc
 use Rattle.drc_findings.specs.declared.finding.Finding.{Finding}
 use Rattle.drc_findings.specs.Findings.{an_error, found_if}
 use Rattle.component_checks.specs.CheckedComponents.{CheckedData}
@@ -21,7 +22,7 @@ is_duplicate_by repeats c = is_numbered c && clashes repeats (refdes_of c)
 
 -- so it is
 abbrev pub duplicate_by : Repeats → CheckedData → List Finding
-duplicate_by repeats c = found_if (is_duplicate_by repeats c) (an_error 3 (word (refdes_of c)))
+duplicate_by repeats c = found_if (is_duplicate_by repeats c) (an_error drc.DuplicateRefdes (word (refdes_of c)))
 
 -- two listed parts have the refdes and the slot of this one; the refdes does not end in `?`
 abbrev pub is_duplicate_slot_by : Repeats → CheckedData → Bool
@@ -32,7 +33,7 @@ is_duplicate_slot_by repeats c = (is_listed c && is_some c.slot)
 -- so it is
 abbrev pub duplicate_slot_by : Repeats → CheckedData → List Finding
 duplicate_slot_by repeats c = found_if (is_duplicate_slot_by repeats c)
-    (an_error 4 (two_words (word (refdes_of c)) (word (slot_of c))))
+    (an_error drc.DuplicateSlot (two_words (word (refdes_of c)) (word (slot_of c))))
 
 -- what is found on the refdes of a component
 abbrev pub found_on_refdes : Repeats → CheckedData → List Finding

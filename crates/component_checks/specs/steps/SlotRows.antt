@@ -10,6 +10,7 @@ use Rattle.std.specs.Ordering.{nat_cmp}
 use Rattle.std.specs.Str.{bytes_eq}
 use Rattle.geda_defs.specs.Order.{by_bytes}
 use Rattle.printed_texts.specs.PrintedTexts.{two_words, word}
+use Rattle.drc_findings.specs.declared.rule.Rule.TheVariants as drc
 use Rattle.drc_findings.specs.declared.finding.Finding.{Finding}
 use Rattle.drc_findings.specs.Findings.{a_warning, found_if}
 use Rattle.component_checks.specs.CheckedComponents.{CheckedData}
@@ -78,7 +79,7 @@ pub record AreSlotsOf (cs : List CheckedData) (rows : SlotRows) : Type 0 where
 -- the slot of this number is not used in a row
 abbrev pub unused_in : Option PackageSlots → List ℕ → ℕ → List Finding
 unused_in row refdes k =
-    found_if (not (is_used row k)) (a_warning 6 (two_words (word refdes) (decimal k)))
+    found_if (not (is_used row k)) (a_warning drc.UnusedSlot (two_words (word refdes) (decimal k)))
 
 -- so it is with one of the slots of a row
 abbrev pub all_unused_in : Option PackageSlots → List ℕ → List Finding

@@ -9,14 +9,14 @@ use Rattle.project_model.specs.Projects.{ProjectData}
 use Rattle.attr_rules.specs.Attributes.{attached}
 use Rattle.attr_rules.specs.Libraries.{library_of}
 use Rattle.pin_place.specs.declared.pins.PlacedPin.{PlacedPin}
-use Rattle.pin_place.specs.Pins.{pins_of}
+use Rattle.pin_place.specs.Pins.{is_drawn, pins_of}
 use Rattle.pin_place.specs.SymbolPins.{point}
 use Rattle.link_classes.specs.declared.conductors.FlatConductor.{FlatConductor}
 use Rattle.instance_objects.specs.Occurrences.{FlatObject, OccurrenceData, object_at}
 use Rattle.instance_objects.specs.Texts.{under}
-use Rattle.flat_sheets.specs.declared.package.Package.{Package}
+use Rattle.net_list.specs.declared.package.Package.{Package}
 use Rattle.flat_sheets.specs.ListedParts.{listed_part, package_under}
-use Rattle.flat_sheets.specs.Conductors.{RoleData, drawn_of, hidden_of, is_drawn, pin_conductor}
+use Rattle.flat_sheets.specs.Conductors.{RoleData, drawn_of, hidden_of, pin_conductor}
 use Rattle.flat_sheets.specs.Conductors.{role_of, segment_conductor}
 
 -- the pin, if it is drawn

@@ -5,7 +5,7 @@ use Rattle.std.specs.List.{fold}
 use Rattle.std.specs.Ordering.{match_ordering}
 use Rattle.link_classes.specs.declared.conductors.FlatConductor.{FlatConductor}
 use Rattle.geda_defs.specs.Order.{once_in_order}
-use Rattle.net_names.specs.declared.nets.Net.{Net}
+use Rattle.net_list.specs.declared.nets.Net.{Net}
 use Rattle.net_names.specs.NetClasses.{ClassPinData, class_pin, by_member, NetClassData, is_drawn_pin, has_pins}
 use Rattle.net_names.specs.NetLists.{by_least_pin, by_name, is_named, named_net}
 use Rattle.net_names.specs.steps.Orders.{by_net_name}

@@ -4,8 +4,8 @@ use Rattle.std.specs.Prelude.{◌≡◌, ℕ, ◌+◌, ◌-◌, ◌^◌, ◌<◌
 use Rattle.std.specs.List.{fold, list_any, range_with_len, starts_with}
 use Rattle.std.specs.Fmt.{decimal}
 use Rattle.std.specs.BTreeSet.{insert_key}
-use Rattle.net_names.specs.declared.nets.Net.{Net}
-use Rattle.net_names.specs.declared.nets.NetSort.{NetSort}
+use Rattle.net_list.specs.declared.nets.Net.{Net}
+use Rattle.net_list.specs.declared.nets.NetSort.{NetSort}
 use Rattle.net_names.specs.NetClasses.{NetClassData}
 use Rattle.net_names.specs.NetLists.{numbered}
 use Rattle.geda_defs.specs.Order.{by_bytes, is_equal}

@@ -4,7 +4,7 @@ use Rattle.std.specs.declared.cmp.Ordering.{Ordering}
 use Rattle.std.specs.Ordering.{on}
 use Rattle.std.specs.Cmp.{IsTotalOrder, on_total, then_total, nat_cmp_total}
 use Rattle.std.specs.Cmp.Lexicographic.{lists_total, options_total}
-use Rattle.net_names.specs.declared.nets.Net.{Net}
+use Rattle.net_list.specs.declared.nets.Net.{Net}
 use Rattle.net_names.specs.NetClasses.{by_member, by_pin}
 use Rattle.net_names.specs.NetLists.{least_pin, by_least_pin, slashes, by_name}
 use Rattle.geda_defs.specs.Order.{by_bytes}

@@ -5,7 +5,7 @@ use Rattle.std.specs.Fmt.{decimal}
 use Rattle.std.specs.List.{flat_map, range_with_len}
 use Rattle.std.specs.Option.{unwrap_or}
 use Rattle.printed_texts.specs.PrintedTexts.{flat}
-use Rattle.flat_sheets.specs.declared.package.Package.{Package}
+use Rattle.net_list.specs.declared.package.Package.{Package}
 use Rattle.spice_out.specs.Cards.{card_name}
 use Rattle.spice_out.specs.SpiceText.{node_text, value_of}
 use Rattle.spice_out.specs.steps.FirstPins.{FirstPins, firsts_at}

@@ -1,6 +1,6 @@
 use Rattle.std.proofs.Common.{rules, ap, ◌∙◌, ◌≡◌, List, ◌∷◌, [], ◌++◌, map, slice_index_or}
 use Rattle.std.proofs.lemmas.List.{map-append}
-use Rattle.flat_sheets.specs.declared.package.Package.{Package}
+use Rattle.net_list.specs.declared.package.Package.{Package}
 use Rattle.backends.specs.declared.articles.Article.{Article}
 use Rattle.backends.specs.declared.articles.Group.{Group}
 use Rattle.backends.specs.steps.Groups.{GroupData, article_seen, group_seen, with_member}

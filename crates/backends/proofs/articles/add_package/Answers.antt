@@ -1,7 +1,7 @@
 use Rattle.std.proofs.Common.{rules, ap, ap₂, sym, ◌∙◌, ◌≡◌, Bool, List, ℕ, ◌∷◌, [], ◌++◌, map, false, true}
 use Rattle.std.specs.List.{list_any, position_or_len}
 use Rattle.std.proofs.lemmas.List.{map-append}
-use Rattle.flat_sheets.specs.declared.package.Package.{Package}
+use Rattle.net_list.specs.declared.package.Package.{Package}
 use Rattle.backends.specs.BillText.{ArticleData, article_of, same_article}
 use Rattle.backends.specs.declared.articles.Article.{Article}
 use Rattle.backends.specs.steps.Groups.{GroupData, article_seen, articles_in, group_seen, with_member_at}

@@ -1,6 +1,6 @@
 use Rattle.std.proofs.Common.{rules, ◌≡◌, refl, List, ◌++◌, map}
 use Rattle.std.specs.List.{flat_map}
-use Rattle.flat_sheets.specs.declared.package.Package.{Package}
+use Rattle.net_list.specs.declared.package.Package.{Package}
 use Rattle.backends.specs.BillText.{articles_of, group_text, head_fields}
 use Rattle.backends.specs.CsvRecords.{record_text}
 use Rattle.backends.specs.steps.CsvWriters.{written}

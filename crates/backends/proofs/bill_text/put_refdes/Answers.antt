@@ -1,7 +1,7 @@
 use Rattle.std.proofs.Common.{List, ℕ, ◌++◌, append_assoc, ap, ◌∙◌, sym, map}
 use Rattle.geda_defs.specs.Lines.{spaced}
 use Rattle.printed_texts.specs.PrintedTexts.{word}
-use Rattle.flat_sheets.specs.declared.package.Package.{Package}
+use Rattle.net_list.specs.declared.package.Package.{Package}
 use Rattle.backends.proofs.Spaces.{spaced_from_first}
 use Rattle.backends.proofs.bill_text.put_refdes.Goals as goal
 

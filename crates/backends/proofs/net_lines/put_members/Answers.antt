@@ -1,6 +1,6 @@
 use Rattle.std.proofs.Common.{List, ℕ, ◌++◌, append_assoc, ap, ◌∙◌, sym, map}
 use Rattle.geda_defs.specs.Lines.{spaced}
-use Rattle.link_classes.specs.declared.member.Member.{Member}
+use Rattle.net_list.specs.declared.member.Member.{Member}
 use Rattle.backends.proofs.Spaces.{spaced_from_first}
 use Rattle.backends.specs.ListText.{member_text}
 use Rattle.backends.proofs.net_lines.put_members.Goals as goal

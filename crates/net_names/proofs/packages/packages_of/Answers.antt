@@ -1,5 +1,5 @@
 use Rattle.std.proofs.Common.{List, IfOk, ◌≡◌, subst}
-use Rattle.flat_sheets.specs.declared.package.Package.{Package}
+use Rattle.net_list.specs.declared.package.Package.{Package}
 use Rattle.net_names.proofs.PackageLemmas.{packages_of_rows-are}
 use Rattle.net_names.proofs.packages.packages_of.Goals as goal
 

@@ -1,6 +1,6 @@
 use Rattle.std.proofs.Common.{List, subst, sym}
 use Rattle.flat_sheets.specs.Conductors.{conductors_of}
-use Rattle.net_names.specs.declared.nets.Net.{Net}
+use Rattle.net_list.specs.declared.nets.Net.{Net}
 use Rattle.net_names.specs.NetLaws.{EachPinHasOneNet}
 use Rattle.net_names.proofs.ApartLemmas.{Apart}
 use Rattle.net_names.proofs.NameLaws.{AreNamedApart, names_apart}

@@ -2,7 +2,7 @@ use Rattle.std.proofs.Common.{◌≡◌, ◌∙◌, ◌∷◌, ◌++◌, ◌+◌
 use Rattle.std.proofs.lemmas.List.{drop_more, take_more}
 use Rattle.std.proofs.lemmas.Result.{err_from_is_err_and}
 use Rattle.geda_defs.specs.Lines.{ended}
-use Rattle.flat_sheets.specs.declared.package.Package.{Package}
+use Rattle.net_list.specs.declared.package.Package.{Package}
 use Rattle.spice_out.specs.Faults.{first_fault, package_fault}
 use Rattle.spice_out.specs.SpiceText.{package_line}
 use Rattle.spice_out.specs.steps.CardNames.{HasNames}

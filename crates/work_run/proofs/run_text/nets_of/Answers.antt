@@ -1,6 +1,6 @@
 use Rattle.std.proofs.Common.{Err, ap, subst, ◌∙◌}
 use Rattle.hierarchy.specs.declared.fault.ElabFault.TheVariants as faults
-use Rattle.net_names.specs.declared.nets.Nets.{Nets}
+use Rattle.net_list.specs.declared.nets.Nets.{Nets}
 use Rattle.reports.specs.NetLists.{Elaborates, OfNetList}
 use Rattle.work_run.proofs.ToldLemmas.{net_list_of, not_crowded}
 use Rattle.work_run.proofs.run_text.nets_of.Goals as goal

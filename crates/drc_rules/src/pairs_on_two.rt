@@ -1,0 +1,88 @@
+// The pins that are members of two nets.
+ghost use Rattle.std.specs.Prelude.{◌≡◌, IfOk, OnOk};
+ghost use Rattle.drc_rules.specs.OnNets.{pair_of};
+ghost use Rattle.drc_rules.specs.steps.Pins.{AddsPair, AddsPairIfSeen, AddsPairs};
+ghost use Rattle.drc_rules.specs.steps.Pins.{AddsPairsIfSeen, HasPinsOnTwo};
+
+use net_list::{Member, Net};
+use std::alloc::{AllocError, Global};
+use std::collections::{BTreeSet, HashSet};
+use text_tallies::PairKey;
+
+/// The refdes and the pin number of a member. It takes no memory.
+pub fn pair_of(member: &Member) -> PairKey<'_>
+    ensures { result ≡ pair_of member.now }
+{
+    PairKey {
+        first: member.refdes.as_str(),
+        second: member.pin.as_str(),
+    }
+}
+
+fn add_pair<'a>(seen: &mut HashSet<PairKey<'a>>, pair: PairKey<'a>) -> Result<(), AllocError>
+    ensures { OnOk result (AddsPair pair.entry seen.old seen.new) }
+{
+    seen.insert(pair)?;
+    Ok(())
+}
+
+fn add_if_seen<'a>(
+    seen: &HashSet<PairKey<'a>>,
+    twice: &mut BTreeSet<PairKey<'a>>,
+    pair: PairKey<'a>,
+) -> Result<(), AllocError>
+    ensures { OnOk result (AddsPairIfSeen pair.entry seen.now twice.old twice.new) }
+{
+    if seen.contains(&pair) {
+        twice.insert(pair)?;
+    }
+    Ok(())
+}
+
+fn add_members<'a>(seen: &mut HashSet<PairKey<'a>>, members: &'a [Member]) -> Result<(), AllocError>
+    ensures { OnOk result (AddsPairs members.now seen.old seen.new) }
+{
+    for member in members {
+        add_pair(seen, pair_of(member))?;
+    }
+    Ok(())
+}
+
+#[tactic(auto, using(crate::proofs::PinLemmas::seen_more))]
+fn add_seen_members<'a>(
+    seen: &HashSet<PairKey<'a>>,
+    twice: &mut BTreeSet<PairKey<'a>>,
+    members: &'a [Member],
+) -> Result<(), AllocError>
+    ensures { OnOk result (AddsPairsIfSeen members.now seen.now twice.old twice.new) }
+{
+    for member in members {
+        add_if_seen(seen, twice, pair_of(member))?;
+    }
+    Ok(())
+}
+
+// Members are first asked of those that were seen, so that a pair twice in one net is not on two.
+fn take_net<'a>(
+    seen: &mut HashSet<PairKey<'a>>,
+    twice: &mut BTreeSet<PairKey<'a>>,
+    members: &'a [Member],
+) -> Result<(), AllocError>
+    ensures seen { OnOk result (AddsPairs members.now seen.old seen.new) }
+    ensures twice { OnOk result (AddsPairsIfSeen members.now seen.old twice.old twice.new) }
+{
+    add_seen_members(seen, twice, members)?;
+    add_members(seen, members)
+}
+
+/// The pins that are members of two nets.
+pub fn pairs_on_two<'a>(alloc: Global, nets: &'a [Net]) -> Result<BTreeSet<PairKey<'a>>, AllocError>
+    ensures { IfOk result (HasPinsOnTwo nets.now) }
+{
+    let mut seen = HashSet::new(alloc);
+    let mut twice = BTreeSet::new(alloc);
+    for net in nets {
+        take_net(&mut seen, &mut twice, net.members.as_slice())?;
+    }
+    Ok(twice)
+}

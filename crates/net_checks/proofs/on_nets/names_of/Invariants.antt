@@ -1,8 +1,0 @@
-use Rattle.std.proofs.Common.{◌≡◌, ◌++◌, drop}
-use Rattle.std.specs.Prelude.{map}
-use Rattle.net_checks.specs.OnNets.{names_of}
-use Rattle.net_checks.proofs.on_nets.names_of.Given as goal
-
-abbrev pub invariant-loop-net : goal.invariant-loop-net
-invariant-loop-net l =
-    map (λ n. n.now) l.names.items ++ names_of (drop l.net-index l.nets) ≡ names_of l.nets

@@ -1,7 +1,0 @@
-use Rattle.text_tallies.proofs.PairLemmas.{twice_from_none}
-use Rattle.net_checks.specs.OnNets.{has_pair_in}
-use Rattle.net_checks.proofs.pairs_on_two.pairs_on_two.Goals as goal
-
-pub loop-net-init : goal.loop-net-init
-loop-net-init c = λ q.
-    rw (c.new-seen.ensures.empty, c.new-twice.ensures.empty) (twice_from_none (has_pair_in q) c.args.nets.now)

@@ -1,2 +1,0 @@
-pub mod OnNets
-pub mod steps
