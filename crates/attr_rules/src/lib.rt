@@ -1,7 +1,7 @@
 //! The attributes of objects: `name=value`, attached or inherited, what a component is by them, and
 //! what the values of `pintype`, `slot` and `net` say.
-//! Rules: docs/RULES.md, "Attributes", "Graphical components", "No-connection directives", "Kinds of
-//! pins", "Slots" and "Values of `net`". Definitions: specs/.
+//! Rules: docs/RULES.md, "Attributes", "Graphical components", "No-connection directives", "Kinds
+//! of pins", "Slots" and "Values of `net`". Definitions: specs/.
 #![tactic(auto)]
 
 mod components;

@@ -2,8 +2,7 @@
 ghost use Rattle.std.specs.Prelude.{◌≡◌, ◌==◌, ◌≤◌, ◌++◌, IfOk, OnOk, length, option_copied};
 ghost use Rattle.std.specs.List.{filter_map, slice_get, starts_with};
 ghost use Rattle.attr_rules.specs.Attributes.{all_attrs, attached, attr, attrs, free_text};
-ghost use Rattle.attr_rules.specs.Attributes.{inherited, parts_of, value_if, value_named};
-ghost use Rattle.attr_rules.specs.Attributes.{values_named};
+ghost use Rattle.attr_rules.specs.Attributes.{inherited, parts_of, value_if, value_named, values_named};
 ghost use Rattle.attr_rules.specs.Splits.{split_of};
 ghost use Rattle.attr_rules.specs.steps.PartValues.{has_equals_at, value_in_part};
 
@@ -39,7 +38,8 @@ fn value_if_named<'a>(content: &'a str, name: &str) -> Option<&'a str>
     None
 }
 
-/// The same. Most texts have no `=` behind so many bytes and are passed over, with no call.
+/// The value of an item's text that is an attribute of a name. Most texts have no `=` behind so many
+/// bytes and are passed over, with no call.
 fn value_named<'a>(text: &'a Text, name: &str) -> Option<&'a str>
     ensures { option_copied result ≡ value_named name.now text.now }
 {

@@ -263,7 +263,8 @@ impl Table {
         self.pass(done)
     }
 
-    /// Takes all lines, those of `shared` before the table's own, and hands out what there is to tell.
+    /// Takes all lines, those of `shared` before the table's own, and hands out what there is to
+    /// tell.
     fn tell<F: Fn(Global, &Case<'_>) -> Result<String, CaseFault>>(
         &mut self,
         alloc: Global,

@@ -1,6 +1,6 @@
-//! Computes again the cases of the tables that its arguments name, by the whole program over what is
-//! in memory: commands over folders and outputs, and `serve ADDRESS STORE` over connections and a
-//! keeper. It prints for each table how many cases there are, and each that came out otherwise.
+//! Computes again the cases of the tables that its arguments name, by the whole program over what
+//! is in memory: commands over folders and outputs, and `serve ADDRESS STORE` over connections and
+//! a keeper. It prints for each table how many cases there are, and each that came out otherwise.
 //!
 //! The tables are in data/, with what each rule wants; data/README.txt says how they are written.
 //! The first argument has the files that all tables share. The workers of a serving run at once.

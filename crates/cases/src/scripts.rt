@@ -1,6 +1,6 @@
 // What a connection sends, and when: the requests of a file, and before some of them a line
-// `after NAME N`. What follows it waits until the connection NAME has N replies, or the call N of the
-// keeper has begun.
+// `after NAME N`. What follows it waits until the connection NAME has N replies, or the call N of
+// the keeper has begun.
 ghost use Rattle.std.specs.Prelude.{◌≤◌, length};
 
 use crate::progress::Milestone;

@@ -50,7 +50,8 @@ fn put_replies<W: Wait + Clock>(
     Ok(())
 }
 
-/// The output, the replies on the connections of these names, the errors and the status, a line each.
+/// The output, the replies on the connections of these names, the errors and the status, a line
+/// each.
 fn serving_lines<W: Wait + Clock>(
     rt: &W,
     alloc: Global,

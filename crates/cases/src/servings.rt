@@ -100,8 +100,8 @@ fn links_of<'a, W: Wait + Clock>(
     Ok(links)
 }
 
-/// What a run has beside its folder and its outputs: connections, and a keeper whose steps stand at a
-/// place.
+/// What a run has beside its folder and its outputs: connections, and a keeper whose steps stand at
+/// a place.
 #[derive(Drop)]
 struct Wires<'a, W: Wait + Clock> {
     start: Start,

@@ -42,7 +42,8 @@ ends_open text = not (length text == 0) && (slice_index text (length text - 1) =
 -- Unnumbered: the printed refdes of a listed part, or of a component with sheets below, ends in `?`
 abbrev pub unnumbered : CheckedData → List Finding
 unnumbered c =
-    found_if (is_numbered c && ends_open (refdes_of c)) (an_error drc.Unnumbered (word (refdes_of c)))
+    found_if (is_numbered c && ends_open (refdes_of c))
+    (an_error drc.Unnumbered (word (refdes_of c)))
 
 -- a component without refdes has sheets below, or has a drawn net pin and no value of `net`
 abbrev pub lacks_refdes : CheckedData → Bool
@@ -74,7 +75,8 @@ is_duplicate cs c = is_numbered c
 
 -- DuplicateRefdes: so it is
 abbrev pub duplicate_refdes : List CheckedData → CheckedData → List Finding
-duplicate_refdes cs c = found_if (is_duplicate cs c) (an_error drc.DuplicateRefdes (word (refdes_of c)))
+duplicate_refdes cs c =
+    found_if (is_duplicate cs c) (an_error drc.DuplicateRefdes (word (refdes_of c)))
 
 -- a listed part with this printed refdes and this `slot`
 abbrev pub is_slotted_as : List ℕ → List ℕ → CheckedData → Bool
@@ -118,7 +120,8 @@ unknown_pins c = flat_map (unknown_pin c) c.pins
 -- MissingSymbol: a component without symbol
 abbrev pub missing_symbol : CheckedData → List Finding
 missing_symbol c =
-    found_if (not c.has_symbol) (an_error drc.MissingSymbol (two_words (word c.sheet) (word c.basename)))
+    found_if (not c.has_symbol)
+    (an_error drc.MissingSymbol (two_words (word c.sheet) (word c.basename)))
 
 -- BadNet: a component has a value of `net` that is bad
 abbrev pub bad_net : CheckedData → List Finding

@@ -37,7 +37,8 @@ uses_slot cs k = list_any (λ c. is_number k (slot_value c.slot)) cs
 -- no component of the package has this slot
 abbrev pub unused_slot : List CheckedData → List ℕ → ℕ → List Finding
 unused_slot members refdes k =
-    found_if (not (uses_slot members k)) (a_warning drc.UnusedSlot (two_words (word refdes) (decimal k)))
+    found_if (not (uses_slot members k))
+    (a_warning drc.UnusedSlot (two_words (word refdes) (decimal k)))
 
 -- UnusedSlot: so it is with one of the slots of the package, whose numbers begin with 1
 abbrev pub unused_slots : List CheckedData → List ℕ → List Finding

@@ -1,6 +1,6 @@
 //! Computes again the cases of the tables that its arguments name: histories of entries, each of
-//! which a desk judges, and takes where it is accepted. It prints for each table how many cases there
-//! are, and each that came out otherwise.
+//! which a desk judges, and takes where it is accepted. It prints for each table how many cases
+//! there are, and each that came out otherwise.
 //!
 //! The tables are in data/, with what each rule wants; how they are written stands in
 //! crates/cases/data/README.txt. An entry stands as JSON in a line of a file. Where the text of its

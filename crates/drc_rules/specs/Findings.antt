@@ -20,8 +20,10 @@ use Rattle.drc_rules.specs.OnNets.{found_on_nets}
 -- MissingSource: a source of a component names no sheet. SourceLoop: a source is left out, since
 -- its sheet is on the way. Unreached: a sheet has no instance
 abbrev pub lost_finding : Lost → Finding
-lost_finding (losts.MissingSource sheet value) = an_error drc.MissingSource (two_words (word sheet) (word value))
-lost_finding (losts.SourceLoop refdes sheet) = an_error drc.SourceLoop (two_words (word refdes) (word sheet))
+lost_finding (losts.MissingSource sheet value) =
+    an_error drc.MissingSource (two_words (word sheet) (word value))
+lost_finding (losts.SourceLoop refdes sheet) =
+    an_error drc.SourceLoop (two_words (word refdes) (word sheet))
 lost_finding (losts.Unreached sheet) = a_warning drc.Unreached (word sheet)
 
 -- all that is found, given the components, what is left out, the net list and the matrix

@@ -126,7 +126,8 @@ has_pair_in q n = list_any (λ m. same_pair q (pair_of m)) n.members
 -- PinOnTwoNets: two of these nets have a member with this refdes and this number
 abbrev pub member_on_two : List Net → Member → List Finding
 member_on_two nets m =
-    found_if (two_pass (has_pair_in (pair_of m)) nets) (an_error drc.PinOnTwoNets (pin_words m.refdes m.pin))
+    found_if (two_pass (has_pair_in (pair_of m)) nets)
+    (an_error drc.PinOnTwoNets (pin_words m.refdes m.pin))
 
 abbrev pub pins_on_two : List Net → Net → List Finding
 pins_on_two nets n = flat_map (member_on_two nets) n.members

@@ -30,8 +30,8 @@ fn first_of_shape(shape: &Shape) -> Point
 }
 
 /// The first point of an object (docs/RULES.md, "Setting attributes"): the first end of a line, the
-/// corner of a box, the centre of a circle or an arc, where a text, a picture or a component stands,
-/// and (0, 0) of a path. It takes no memory.
+/// corner of a box, the centre of a circle or an arc, where a text, a picture or a component
+/// stands, and (0, 0) of a path. It takes no memory.
 #[tactic(auto, unfolding(crate::specs::FirstPoints::first_point))]
 pub fn first_point(object: &Object) -> Point
     ensures point { result ≡ first_point object.now.body }

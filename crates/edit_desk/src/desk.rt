@@ -54,12 +54,18 @@ impl Model for Desk {
     ghost view = { λ d. record {
       history = history_of d.rows.items;
       spare = record {
-        things = with_row (min (vec_capacity d.rows - vec_len d.rows) (min d.tickets.spare d.undone.spare)) (min d.touches.spare.things d.project.spare.things);
-        names = with_row d.sessions.spare (min (min d.touches.spare.names d.tally.spare) d.project.spare.names);
+        things = with_row
+            (min (vec_capacity d.rows - vec_len d.rows) (min d.tickets.spare d.undone.spare))
+            (min d.touches.spare.things d.project.spare.things);
+        names = with_row d.sessions.spare
+            (min (min d.touches.spare.names d.tally.spare) d.project.spare.names);
       };
     } };
 
-    ghost invariant = { λ d. IsKept d.rows.items d.project.contents d.total × (AreNotes (history_of d.rows.items) d.tickets.rows d.sessions.rows d.undone.rows d.touches.rows × IsTallied d.project.contents d.tally.rows) };
+    ghost invariant = { λ d. IsKept d.rows.items d.project.contents d.total
+        × (AreNotes (history_of d.rows.items) d.tickets.rows d.sessions.rows d.undone.rows
+        d.touches.rows
+        × IsTallied d.project.contents d.tally.rows) };
 }
 
 fn row_at(rows: &[Row], serial: u32) -> Option<&Row>
@@ -199,7 +205,8 @@ impl Desk {
     pub(crate) fn tell_distinct(&self, entry: &Entry)
         ensures { AreDistinct (changes self.now.history entry.now.edit) }
     {
-        // They are read so that the proof sees what the rows keep to, and that the entry is in range.
+        // They are read so that the proof sees what the rows keep to, and that the entry is in
+        // range.
         let _ = self.rows.len();
         let _ = &entry.edit;
     }

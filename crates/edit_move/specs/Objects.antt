@@ -1,5 +1,5 @@
--- What a motion makes of an object (own): each point of it, of its attached texts and of its embedded
--- symbol is taken along.
+-- What a motion makes of an object (own): each point of it, of its attached texts and of its
+-- embedded symbol is taken along.
 use Rattle.std.specs.Prelude.{ℤ, List, [], ◌∷◌, map, Option, None, Some, option_map, option_and_then}
 use Rattle.geda_geom.specs.declared.conductor.Point.{Point}
 use Rattle.geda_model.specs.declared.shape.Shape.{Shape}

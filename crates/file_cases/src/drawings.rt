@@ -126,8 +126,8 @@ fn wrong_in_next(alloc: Global, draws: &mut Draws) -> Result<Option<u32>, AllocE
     first_wrong(alloc, &mut index, &drawing, gone)
 }
 
-/// The first of so many drawings, from 0, in which the index finds others than those that touch, and
-/// the place there; or `none`.
+/// The first of so many drawings, from 0, in which the index finds others than those that touch,
+/// and the place there; or `none`.
 pub fn first_wrong_drawing(alloc: Global, cells: &[&str]) -> Result<String, CaseFault> {
     let mut draws = Draws { last: 1 };
     for number in 0..number_of(cell(cells, 0))? {

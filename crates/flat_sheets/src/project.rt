@@ -18,8 +18,8 @@ pub struct FlatProject {
     pub parts: Vec<Package>,
 }
 
-/// What joins in a project, by its objects in the instances of its sheets, and its listed components
-/// (docs/RULES.md, "Conductors", "Ports" and "Packages").
+/// What joins in a project, by its objects in the instances of its sheets, and its listed
+/// components (docs/RULES.md, "Conductors", "Ports" and "Packages").
 pub fn flatten(alloc: Global, objects: &InstanceObjects<'_>) -> Result<FlatProject, AllocError>
     ensures conductors { IfOk result (λ flat. flat.conductors.items ≡ conductors_of objects.now) }
     ensures parts { IfOk result (λ flat. flat.parts.items ≡ listed_parts objects.now) }

@@ -16,7 +16,8 @@ use std::alloc::{AllocError, Global};
 /// The change that brings an object onto the sheet, under the next id.
 fn coming(alloc: Global, project: &Project, object: Object) -> Result<Change, AllocError>
     ensures items { IfOk result (λ change. change.items ≡ coming project.now.contents object) }
-    ensures can_apply { HasRoom project.now.contents → IfOk result (λ change. CanApply change.items) }
+    ensures can_apply { HasRoom project.now.contents
+        → IfOk result (λ change. CanApply change.items) }
 {
     let placed = Placed {
         sheet: sheet_name(alloc)?,

@@ -1,7 +1,8 @@
 //! `gafd netlist FILE...` prints the net list of gEDA schematics in the folder that it runs in and
 //! of those below them, `gafd drc FILE...` what the check finds on them, and `gafd export FILE` the
-//! canonical text of a schematic or of a symbol. `gafd renumber FILE...` gives numbers to components
-//! without one, in the files, and `gafd serve ADDRESS STORE` serves a history of edits over HTTP.
+//! canonical text of a schematic or of a symbol. `gafd renumber FILE...` gives numbers to
+//! components without one, in the files, and `gafd serve ADDRESS STORE` serves a history of edits
+//! over HTTP.
 //!
 //! `gafd_run::run` is all of the program, over anything outside; `main` makes the real ones.
 #![tactic(auto)]

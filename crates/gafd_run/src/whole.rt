@@ -140,9 +140,9 @@ pub fn run<W: Threads + Wait + Sync, F: Folder, O: Sink, E: Sink, G: Gate + Sync
     keeper: K,
     places: &mut Places,
 ) -> u8
-    // The arguments come to an answer, whose files are written and whose text is out, or to a fault;
-    // or links were served; or the folder, the output, the gate, the keeper or a place failed; or
-    // memory ran out. The line and the status are those of what comes.
+    // The arguments come to an answer, whose files are written and whose text is out, or to a
+    // fault; or links were served; or the folder, the output, the gate, the keeper or a place
+    // failed; or memory ran out. The line and the status are those of what comes.
     ensures end { RunEnds (outside (K.never_fails keeper) (K.rows keeper)
         (counts (G.faults gate.old) (G.faults gate.new))
         (counts places.old.refused places.new.refused))

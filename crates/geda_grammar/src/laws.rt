@@ -25,6 +25,8 @@ pub fn object_law()
 /// The canonical text of what can be written spells it, and nothing else.
 pub fn writing_law()
     ensures sheets { (s : SheetData) → WritableSheet s → SpellsAlone sheet_file (sheet_text s) s }
-    ensures symbols { (s : SymbolData) → WritableSymbol s → SpellsAlone symbol_file (symbol_text s) s }
-    ensures objects { (o : ObjectData) → WritableObject o → SpellsAlone object_file (object_text o) o }
+    ensures symbols { (s : SymbolData) → WritableSymbol s
+        → SpellsAlone symbol_file (symbol_text s) s }
+    ensures objects { (o : ObjectData) → WritableObject o
+        → SpellsAlone object_file (object_text o) o }
 {}

@@ -1,4 +1,5 @@
--- Conductors of several sheets that leave and come one after the other, and what that may cost (own).
+-- Conductors of several sheets that leave and come one after the other, and what that may cost
+-- (own).
 use Rattle.std.specs.Prelude.{◌≡◌, ◌+◌, ◌-◌, ◌^◌, ⊤, ℕ, cond, None, List, [], ◌∷◌, length, IsSome, min}
 use Rattle.std.specs.FinMap.{get, insert, remove}
 use Rattle.std.specs.Str.{bytes_eq}
@@ -62,7 +63,8 @@ SizesSum at (l ∷ ls) sum = (keys : List Key) × (rest : ℕ) × IsGroup (at l.
 
 -- how many steps a change may take: one for each conductor that comes, and for each that leaves the
 -- size of its group just before; at most 2^64 - 1
-pub record IsRunBound (at : BySheet) (leaving : List Leaving) (coming : ℕ) (bound : ℕ) : Type 0 where
+pub record IsRunBound (at : BySheet) (leaving : List Leaving) (coming : ℕ) (bound : ℕ)
+    : Type 0 where
   pub sum : ℕ
   pub sizes : SizesSum at leaving sum
   pub total : bound ≡ min (sum + coming) (2 ^ 64 - 1)

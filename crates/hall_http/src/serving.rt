@@ -15,14 +15,14 @@ use std::sync::Wait;
 use web_http::{Link, LinkEnd, serve};
 
 /// Answers the requests of a link in order until it ends, at most 10,000, by a seat of a hall
-/// (docs/RULES.md, "Transcripts", "Ends of connections", "Seats"). It waits for the link, and for an
-/// edit for the hall's lock; a report takes no lock.
+/// (docs/RULES.md, "Transcripts", "Ends of connections", "Seats"). It waits for the link, and for
+/// an edit for the hall's lock; a report takes no lock.
 ///
 /// What the seat has seen in the end is a legal history, which begins with what it had seen. Each
 /// reply is what a prefix of it answers the request, byte for byte, and the prefixes never shrink;
 /// or it is 503, or 500, of which there are at most as many as the seat's refusals rose, or 507, by
-/// whose number its losses rose. After `NoMemory` nothing was read or written, and the seat has seen
-/// what it had.
+/// whose number its losses rose. After `NoMemory` nothing was read or written, and the seat has
+/// seen what it had.
 pub fn serve_link<
     W: Wait,
     K: Keeper,

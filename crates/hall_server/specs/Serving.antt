@@ -34,9 +34,9 @@ AreLegal rows = IfSome rows (λ all. Legal all)
 abbrev pub AreRefusedAt : Option (List EntryData) → ℕ → Type 0
 AreRefusedAt rows serial = IfSome rows (λ all. IsRefusedAt all serial)
 
--- why a serving ends so, and what is then out: it had its line out, over rows that are accepted, and
--- the gate gave no more links; or the gate, the keeper, a place or the output failed; or a row is
--- not accepted; or memory ran out, before the line was out or after it
+-- why a serving ends so, and what is then out: it had its line out, over rows that are accepted,
+-- and the gate gave no more links; or the gate, the keeper, a place or the output failed; or a row
+-- is not accepted; or memory ran out, before the line was out or after it
 abbrev pub ServesTo : Outside → Stream → Result (Unit {0}) ServeFault → Type 0
 ServesTo outside out (Ok _) = AreLegal outside.rows × WroteWhole out serving_line
 ServesTo outside out (Err faults.GateFault) = Failed outside.gate × IsQuiet out

@@ -65,8 +65,8 @@ impl<
 }
 
 /// Serves the links of a gate by one worker a seat of a hall (docs/RULES.md, "Serving"). Each takes
-/// a link from the gate and answers its requests (`serve_link`), one link after the other, until the
-/// gate gives none. It hands the seats back when all workers have ended.
+/// a link from the gate and answers its requests (`serve_link`), one link after the other, until
+/// the gate gives none. It hands the seats back when all workers have ended.
 ///
 /// It waits for the gate, for links, and for the hall's lock. Where no thread can be made, one
 /// worker begins when another has ended.

@@ -1,5 +1,5 @@
-//! Connections as lines: the requests of a connection and the rows of a store are lines of a table's
-//! file, and the replies that went out are lines of an answer.
+//! Connections as lines: the requests of a connection and the rows of a store are lines of a
+//! table's file, and the replies that went out are lines of an answer.
 //!
 //! How they are written stands in crates/cases/data/README.txt.
 #![tactic(auto)]

@@ -1,5 +1,5 @@
-//! The net list of a project as a value: packages, and nets of their pins; and the forms in which it
-//! is written.
+//! The net list of a project as a value: packages, and nets of their pins; and the forms in which
+//! it is written.
 //!
 //! It says nothing of how a project comes to its net list (net_names), and nothing of how a form
 //! prints (backends).

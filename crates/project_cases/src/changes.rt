@@ -109,7 +109,8 @@ fn changed_text(
     Ok(text?)
 }
 
-/// What a copy of a project has after a change, `s.sch after 2`, after that was undone, and before it.
+/// What a copy of a project has after a change, `s.sch after 2`, after that was undone, and before
+/// it.
 pub fn changed(alloc: Global, words: &str, files: &TableFiles) -> Result<String, CaseFault> {
     let (sheets, change) = words.split_once(" after ").ok_or(CaseFault::BadCase)?;
     let project = project_in(alloc, sheets, files)?;

@@ -188,8 +188,8 @@ impl Asked {
         Ok(())
     }
 
-    /// The values of `source` of a component, by the symbol of this name: none where it is graphical
-    /// or a no-connection directive.
+    /// The values of `source` of a component, by the symbol of this name: none where it is
+    /// graphical or a no-connection directive.
     fn source_values(
         &self,
         alloc: Global,

@@ -1,5 +1,5 @@
-//! Projects: sheets by name, their objects by id, and the symbols of a library; and the changes that
-//! make them.
+//! Projects: sheets by name, their objects by id, and the symbols of a library; and the changes
+//! that make them.
 //!
 //! Contracts see a project as finite maps (specs/Projects.antt) with the room that was reserved for
 //! changes, and a change as a list of things with their new values (Changes.antt). `Project::apply`

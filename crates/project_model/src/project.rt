@@ -31,7 +31,18 @@ impl Model for Project {
 
     ghost coded = { Prim.hlevel (codes, map.code) };
 
-    ghost view = { λ p. record { contents = record { sheets = p.sheets.rows; objects = p.objects.rows; symbols = p.symbols.rows; next_id = p.next_id }; spare = record { things = p.objects.spare; names = min p.sheets.spare p.symbols.spare } } };
+    ghost view = { λ p. record {
+      contents = record {
+        sheets = p.sheets.rows;
+        objects = p.objects.rows;
+        symbols = p.symbols.rows;
+        next_id = p.next_id;
+      };
+      spare = record {
+        things = p.objects.spare;
+        names = min p.sheets.spare p.symbols.spare;
+      };
+    } };
 }
 
 impl Project {
@@ -97,7 +108,8 @@ impl Project {
 
     /// All objects with their ids, by rising id.
     pub fn objects_by_id(&self, alloc: Global) -> Result<Vec<(u32, &Placed)>, AllocError>
-        ensures objects { IfOk result (λ v. map row_now v.items ≡ entries self.now.contents.objects) }
+        ensures objects { IfOk result (λ v.
+            map row_now v.items ≡ entries self.now.contents.objects) }
     {
         rows_in(alloc, self.objects.rows())
     }

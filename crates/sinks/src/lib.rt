@@ -1,7 +1,7 @@
 //! Where the bytes of a program go.
 //!
-//! The main trait is `Sink`. Contracts see what was written, where a sink tells it, and how often it
-//! failed (specs/Streams.antt, specs/MemorySinks.antt). Rule: docs/RULES.md, "Faults of the
+//! The main trait is `Sink`. Contracts see what was written, where a sink tells it, and how often
+//! it failed (specs/Streams.antt, specs/MemorySinks.antt). Rule: docs/RULES.md, "Faults of the
 //! outside".
 #![tactic(auto)]
 

@@ -11,8 +11,8 @@ use Rattle.sym_check.specs.Findings.{found_in}
 abbrev pub IsOffSlots : SymFinding → Type 0
 IsOffSlots f = (f.code < 11) ⊎ (14 < f.code)
 
--- where no finding on a symbol is one of these four, and its free `numslots` is 1 to 4 digits of the
--- value n, each number from 1 to n is that of a slot whose pin numbers its free attributes give
+-- where no finding on a symbol is one of these four, and its free `numslots` is 1 to 4 digits of
+-- the value n, each number from 1 to n is that of a slot whose pin numbers its free attributes give
 abbrev pub SlotsHold : SymbolData → Type 0
 SlotsHold symbol =
     ((f : SymFinding) → Contains (found_in symbol) f → IsOffSlots f)

@@ -1,5 +1,5 @@
--- When the slots of a symbol are good (gEDA master attribute document, `numslots` and `slotdef`; the
--- bounds are own).
+-- When the slots of a symbol are good (gEDA master attribute document, `numslots` and `slotdef`;
+-- the bounds are own).
 use Rattle.std.specs.Prelude.{ℕ, Bool, true, false, not, ◌==◌, ◌||◌, List, length, Option, None, Some, is_some}
 use Rattle.std.specs.List.{filter_map}
 use Rattle.attr_rules.specs.PinLists.{cut_of, pieces_of, pin_numbers}

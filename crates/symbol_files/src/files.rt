@@ -49,9 +49,9 @@ fn check_file<F: Folder>(
 /// What is found in the symbols of the files of these names, in their order (docs/RULES.md, "Symbol
 /// check").
 ///
-/// The first fault in that order is told: `Missing` where there is no such file, and `Refused` where
-/// the file is refused as a symbol. `FolderFault` only where the folder's count of faults rose. All
-/// files stay.
+/// The first fault in that order is told: `Missing` where there is no such file, and `Refused`
+/// where the file is refused as a symbol. `FolderFault` only where the folder's count of faults
+/// rose. All files stay.
 pub fn checked_files<F: Folder>(
     alloc: Global,
     names: &[Name],

@@ -34,7 +34,8 @@ fn others_touching(
     ensures sound { IfOk result (λ found. (q : Key)
         → Contains found.items q → IsOther conductors.now.entries own.now key q) }
     ensures full { IfOk result (λ found. (q : Key)
-        → Contains near.now q → IsOther conductors.now.entries own.now key q → Contains found.items q) }
+        → Contains near.now q → IsOther conductors.now.entries own.now key q
+        → Contains found.items q) }
 {
     let mut found = Vec::new(alloc);
     for other in near {

@@ -11,8 +11,8 @@ use std::alloc::Global;
 use std::marker::Model;
 use web_http::{Bytes, Service, Shown};
 
-/// A service with no entries, which refuses so many looks of reports before it grants one. It has no
-/// memory for edits.
+/// A service with no entries, which refuses so many looks of reports before it grants one. It has
+/// no memory for edits.
 #[derive(Drop)]
 pub struct EmptyService {
     board: Board,

@@ -2,8 +2,8 @@
 //! table how many cases there are, and each that came out otherwise.
 //!
 //! The tables are in data/, with what each rule wants; how they are written stands in
-//! crates/cases/data/README.txt. A row has the bytes that come in, and `=>` the end of the connection
-//! and what went out.
+//! crates/cases/data/README.txt. A row has the bytes that come in, and `=>` the end of the
+//! connection and what went out.
 #![tactic(auto)]
 
 mod answers;

@@ -1,5 +1,5 @@
--- The messages of an input, and where they end (own). A head is what `httparse` reads in its default
--- form; of a head only the first 8,192 bytes are judged.
+-- The messages of an input, and where they end (own). A head is what `httparse` reads in its
+-- default form; of a head only the first 8,192 bytes are judged.
 use Rattle.std.specs.Prelude.{◌≡◌, ◌≢◌, ℕ, zero, suc, ◌<◌, ◌≤◌, ◌⊎◌, Bool, true, false, List, [], ◌∷◌, ◌++◌, length, take, Ok, Err}
 use Rattle.httparse.specs.Grammar.{RequestHead, print_request, ReadsRequest, HasNoRequest, NeverHasRequest, MayBecomeRequest}
 use Rattle.httparse.specs.Spans.{RequestExceeds, RequestOverflows}

@@ -1,5 +1,5 @@
--- What a head says of its message (RFC 9112, sections 6 and 9.6): the length of its body, and whether
--- the connection closes after it.
+-- What a head says of its message (RFC 9112, sections 6 and 9.6): the length of its body, and
+-- whether the connection closes after it.
 use Rattle.std.specs.Prelude.{ℕ, Bool, ◌&&◌, ◌||◌, ◌==◌, nat_le, if◌then◌else◌, List, [], ◌∷◌, map, Result, Ok, Err, codes}
 use Rattle.std.specs.List.{list_all, list_any, filter}
 use Rattle.std.specs.Str.{bytes_eq, str_eq_ignore_ascii_case}

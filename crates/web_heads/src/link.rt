@@ -24,8 +24,8 @@ pub trait Link {
     /// How often a write failed, likewise.
     ghost write_faults: { Self → ℕ };
 
-    /// Takes bytes of the input into the room, and answers how many. It takes none into room that is
-    /// not empty only where the input is at its end.
+    /// Takes bytes of the input into the room, and answers how many. It takes none into room that
+    /// is not empty only where the input is at its end.
     ///
     /// `Failed` only where the count of failed reads rose; nothing is taken then.
     fn read(&mut self, room: &mut [u8]) -> Result<usize, LinkFault>
@@ -37,7 +37,8 @@ pub trait Link {
 
     /// Writes all bytes of a piece.
     ///
-    /// `Failed` only where the count of failed writes rose; a prefix of the piece has gone out then.
+    /// `Failed` only where the count of failed writes rose; a prefix of the piece has gone out
+    /// then.
     fn write(&mut self, piece: &[u8]) -> Result<(), LinkFault>
         ensures output { Writes (output self.old) (output self.new) piece.now result }
         ensures input { input self.new ≡ input self.old }

@@ -12,8 +12,8 @@ use std::marker::Model;
 /// A connection in memory: its input is a list of bytes, and its output goes into memory of a given
 /// size. The calls of given numbers fail; they count from 1 over all calls of the two kinds.
 ///
-/// A read takes as many bytes as there are and as fit. A failed write writes nothing, and a write of
-/// more bytes than there is memory left for fails too. Each count stays at the end of its type.
+/// A read takes as many bytes as there are and as fit. A failed write writes nothing, and a write
+/// of more bytes than there is memory left for fails too. Each count stays at the end of its type.
 #[derive(Drop)]
 pub struct MemoryLink {
     input: Vec<u8>,
@@ -32,7 +32,15 @@ impl Model for MemoryLink {
 
     ghost Value = { MemoryLinkData };
 
-    ghost view = { λ l. record { input = drop l.taken l.input.items; output = l.output.items; room = l.room; failing = l.failing.items; calls = l.calls; read_faults = l.read_faults; write_faults = l.write_faults } };
+    ghost view = { λ l. record {
+      input = drop l.taken l.input.items;
+      output = l.output.items;
+      room = l.room;
+      failing = l.failing.items;
+      calls = l.calls;
+      read_faults = l.read_faults;
+      write_faults = l.write_faults;
+    } };
 
     ghost invariant = { λ l. (l.taken ≤ vec_len l.input) × (vec_len l.output + l.room ≤ vec_capacity l.output) };
 }
@@ -49,7 +57,8 @@ fn copy_front(source: &[u8], room: &mut [u8]) -> usize
 }
 
 impl MemoryLink {
-    /// A connection with this input, so much memory for its output, and these calls that are to fail.
+    /// A connection with this input, so much memory for its output, and these calls that are to
+    /// fail.
     pub fn new(
         alloc: Global,
         input: Vec<u8>,

@@ -155,9 +155,9 @@ fn read_body<L: Link>(
 /// Reads on until the next message is whole (docs/RULES.md, "Messages"). It takes no memory, and
 /// waits for the link.
 ///
-/// The bytes behind the message stay in the buffer. `End` tells why no message follows; what follows
-/// such an end is not looked at. `Fault` only where the link's count of failed reads rose; no whole
-/// message has come then.
+/// The bytes behind the message stay in the buffer. `End` tells why no message follows; what
+/// follows such an end is not looked at. `Fault` only where the link's count of failed reads rose;
+/// no whole message has come then.
 pub fn next_message<L: Link>(link: &mut L, buffer: &mut Buffer, message: &mut Message) -> Next
     ensures next { Nexts (L.input link.old) (L.input link.new)
         buffer.old message.new buffer.new result }

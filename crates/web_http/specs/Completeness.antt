@@ -44,7 +44,8 @@ HasLost before now = one_more_loss before ≤ now
 abbrev pub Completes :
     Stand → Stand → ℕ → ℕ → ℕ → ℕ → Option (List ℕ) → Option (List ℕ) → Option (List ℕ)
     → LinkEnd → Type 0
-Completes first now reads_first reads_now writes_first writes_now in_first out_first out_now result =
+Completes first now reads_first reads_now writes_first writes_now in_first out_first out_now
+    result =
     (input : List ℕ) → in_first ≡ Some input
     → ¬ (HasRisen reads_first reads_now) → ¬ (HasRisen writes_first writes_now)
     → ¬ (HasLost first.losses now.losses) → ¬ (HasRisen first.refusals now.refusals)

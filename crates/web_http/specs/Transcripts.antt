@@ -1,4 +1,5 @@
--- What a connection wrote: a reply to each message in order, each for a prefix of one history (own).
+-- What a connection wrote: a reply to each message in order, each for a prefix of one history
+-- (own).
 use Rattle.std.specs.Prelude.{◌≡◌, ℕ, ◌+◌, ◌≤◌, ◌==◌, ◌||◌, Bool, true, List, [], ◌∷◌, ◌++◌, length, take, codes}
 use Rattle.edit_entries.specs.Entries.{EntryData}
 use Rattle.web_heads.specs.declared.cut_end.CutEnd.{CutEnd}
@@ -51,7 +52,8 @@ pub record Answered : Type 0 where
   pub front : ℕ
   pub kind : ReplyKind
 
--- the reply to the message of this place, from 0, says close: the message does, or it is the 10,000th
+-- the reply to the message of this place, from 0, says close: the message does, or it is the
+-- 10,000th
 abbrev pub closes : ℕ → MessageData → Bool
 closes place message = message.closing || place == 9999
 

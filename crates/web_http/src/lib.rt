@@ -1,8 +1,8 @@
 //! HTTP on a connection: each request is answered, in order, by what a service makes of it.
 //!
-//! The main call is `serve`, over a `Service` and a `Link`. Profile: docs/FORMATS.md, "HTTP". Rules:
-//! docs/RULES.md, "Transcripts", "Ends of connections". Definitions: specs/Serving.antt and those that
-//! it cites.
+//! The main call is `serve`, over a `Service` and a `Link`. Profile: docs/FORMATS.md, "HTTP".
+//! Rules: docs/RULES.md, "Transcripts", "Ends of connections". Definitions: specs/Serving.antt and
+//! those that it cites.
 #![tactic(auto)]
 
 mod link_end;

@@ -23,8 +23,8 @@ pub trait Service {
     /// of its type.
     ghost refusals: { Self → ℕ };
 
-    /// The reference that it holds, where it borrows what it serves. No call changes it, so that who
-    /// lends knows that all calls were on what was lent.
+    /// The reference that it holds, where it borrows what it serves. No call changes it, so that
+    /// who lends knows that all calls were on what was lent.
     ghost reference: { Self → Option GName };
 
     /// Brings an entry, and tells what came of it.

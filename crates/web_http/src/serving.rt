@@ -126,9 +126,9 @@ fn serve_messages<S: Service, L: Link>(
 /// Answers the messages of a link in order until it ends, at most 10,000 (docs/RULES.md,
 /// "Transcripts" and "Ends of connections"). It waits for the link.
 ///
-/// Each reply is what `service` makes of the request, byte for byte, for a prefix of what it has seen
-/// in the end; the prefixes never shrink. It is one write. After `NoMemory` nothing was read or
-/// written, and what was seen is as before.
+/// Each reply is what `service` makes of the request, byte for byte, for a prefix of what it has
+/// seen in the end; the prefixes never shrink. It is one write. After `NoMemory` nothing was read
+/// or written, and what was seen is as before.
 pub fn serve<S: Service, L: Link>(alloc: Global, service: &mut S, link: &mut L) -> LinkEnd
     // what was answered, and how it ended
     ensures serves { Serves

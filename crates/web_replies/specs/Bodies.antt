@@ -1,5 +1,5 @@
--- The bodies of replies, as JSON values (RFC 8259; the members are own). `put` keeps the keys in the
--- order of their bytes.
+-- The bodies of replies, as JSON values (RFC 8259; the members are own). `put` keeps the keys in
+-- the order of their bytes.
 use Rattle.std.specs.Prelude.{ℕ, List, codes}
 use Rattle.serde_json.specs.Data.{Data, string, number, unsigned, object, Members, no_members, put}
 use Rattle.edit_entries.specs.declared.fault.EditFault.{EditFault}

@@ -1,8 +1,8 @@
 //! The texts of HTTP replies, byte for byte: what each request is answered after a history.
 //!
 //! A reply is written into a `ReplyText`, which has memory for the one reply that may not fail.
-//! Profile: docs/FORMATS.md, "HTTP". Rule: docs/RULES.md, "Answers". Definitions: specs/Answers.antt
-//! and those that it cites.
+//! Profile: docs/FORMATS.md, "HTTP". Rule: docs/RULES.md, "Answers". Definitions:
+//! specs/Answers.antt and those that it cites.
 #![tactic(auto)]
 
 mod body;

@@ -1,4 +1,5 @@
--- What a query says of `min` (WHATWG URL Standard, application/x-www-form-urlencoded; `min` is own).
+-- What a query says of `min` (WHATWG URL Standard, application/x-www-form-urlencoded; `min` is
+-- own).
 use Rattle.std.specs.Prelude.{ℕ, Bool, if◌then◌else◌, List, [], ◌∷◌, map, filter, codes}
 use Rattle.std.specs.Str.{bytes_eq}
 use Rattle.std.specs.Str.Lossy.{utf8_lossy}

@@ -1,7 +1,8 @@
-//! The request that an HTTP message is: an edit, a report, or one that is answered by its fault alone.
+//! The request that an HTTP message is: an edit, a report, or one that is answered by its fault
+//! alone.
 //!
-//! The main call is `request_of`. Profile: docs/FORMATS.md, "HTTP". Rule: docs/RULES.md, "Requests".
-//! Definitions: specs/Requests.antt and those that it cites.
+//! The main call is `request_of`. Profile: docs/FORMATS.md, "HTTP". Rule: docs/RULES.md,
+//! "Requests". Definitions: specs/Requests.antt and those that it cites.
 #![tactic(auto)]
 
 mod laws;

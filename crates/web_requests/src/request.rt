@@ -26,7 +26,8 @@ pub enum Allowed {
 /// A request that asks neither for an edit nor for a report: what is wrong with it.
 #[derive(Debug, Drop)]
 pub enum FixedRequest {
-    /// The body is no entry: the JSON pointer of its first fault (docs/RULES.md, "Entries as JSON").
+    /// The body is no entry: the JSON pointer of its first fault (docs/RULES.md, "Entries as
+    /// JSON").
     BadEdit(Block),
     /// The query says `min` twice, or not by 1 to 10 digits.
     BadQuery,

@@ -45,7 +45,8 @@ impl Model for Routes {
     ghost invariant = { λ r. r.router ≡ route_rows };
 }
 
-/// Adds a route. No route that is there conflicts with it, so that nothing but memory can be wanting.
+/// Adds a route. No route that is there conflicts with it, so that nothing but memory can be
+/// wanting.
 fn add(router: &mut Router<Route>, text: &str, route: Route) -> Result<(), AllocError>
     requires { is_free text.now router.old ≡ true }
     ensures { OnOk result (router.new ≡ with_route text.now route router.old) }

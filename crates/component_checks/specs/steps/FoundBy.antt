@@ -22,7 +22,8 @@ is_duplicate_by repeats c = is_numbered c && clashes repeats (refdes_of c)
 
 -- so it is
 abbrev pub duplicate_by : Repeats → CheckedData → List Finding
-duplicate_by repeats c = found_if (is_duplicate_by repeats c) (an_error drc.DuplicateRefdes (word (refdes_of c)))
+duplicate_by repeats c =
+    found_if (is_duplicate_by repeats c) (an_error drc.DuplicateRefdes (word (refdes_of c)))
 
 -- two listed parts have the refdes and the slot of this one; the refdes does not end in `?`
 abbrev pub is_duplicate_slot_by : Repeats → CheckedData → Bool

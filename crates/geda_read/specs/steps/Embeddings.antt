@@ -46,7 +46,8 @@ embedding_step symbol row = of_parts symbol.parts row
     of_parts : Option (Level PartData Shape) → Row → Option code.OpenSymbol
     of_parts None OpenSymbol = Some (symbol_with symbol (record { kept = []; mode = Settled }))
     of_parts None row = None
-    of_parts (Some parts) row = option_map (symbol_with symbol) (part_step parts.kept parts.mode row)
+    of_parts (Some parts) row =
+        option_map (symbol_with symbol) (part_step parts.kept parts.mode row)
 
 -- the row that closes it
 abbrev pub close_step : Place → Option Place

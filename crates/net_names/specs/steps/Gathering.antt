@@ -15,8 +15,8 @@ abbrev pub ArePlaces : List ℕ → ℕ → Type 0
 ArePlaces labels count = (i : ℕ) → i < length labels → slice_index labels i < count
 
 -- a class while it grows: its pins as they come, whether it has no conductor yet, whether it is a
--- single drawn pin, whether it has a global name, whether it has a pin of a no-connection directive,
--- and the least of its names
+-- single drawn pin, whether it has a global name, whether it has a pin of a no-connection
+-- directive, and the least of its names
 pub record GrowingClassData : Type 0 where
   pub pins : List ClassPinData
   pub is_empty : Bool
