@@ -2,9 +2,6 @@
 ghost use Rattle.std.specs.Prelude.{◌≡◌, None};
 ghost use Rattle.geda_defs.specs.Causes.{HasCause};
 
-#[cfg(test)]
-mod tests;
-
 use crate::rows::{row_bytes, row_of};
 use crate::store::Store;
 use edit_entries::Entry;

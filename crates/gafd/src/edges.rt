@@ -1,8 +1,7 @@
 // The real edges: a folder of files, and a stream over a slice.
-use crate::std_sink::StdSink;
 use geda_model::Name;
 use project_files::{DirFolder, Folder, FolderFault};
-use sinks::{Sink, SinkFault};
+use sinks::{Sink, SinkFault, StdSink};
 use std::alloc::{AllocError, Global};
 use std::fs;
 use std::fs::Permissions;

@@ -9,17 +9,16 @@
 
 #[cfg(test)]
 mod edges;
-mod std_sink;
 
 use file_keeper::FileKeeper;
 use gafd_run::{report_want_of_memory, run};
 use gates::TcpGate;
 use hall_core::Places;
 use project_files::DirFolder;
+use sinks::StdSink;
 use std::process::ExitCode;
 use std::rt::Env;
 use std::{env, io};
-use std_sink::StdSink;
 
 /// The arguments after the program's name. Those that are not UTF-8 ask for no command, as none do.
 fn arguments<R: Env + AllocGlobal>(rt: &R) -> io::Result<Vec<String>> {

@@ -1,7 +1,4 @@
 // A TCP listener.
-#[cfg(test)]
-mod tests;
-
 use crate::gate::{Gate, GateFault};
 use crate::tcp_link::TcpLink;
 use std::net::{Net, TcpListener, TcpStream};

@@ -1,10 +1,7 @@
 use super::MemoryGate;
 use crate::gate::{Gate, GateFault};
 use std::alloc::{AllocError, Global};
-use std::sync::Wait;
 use std::test::Fail;
-use std::thread;
-use std::thread::Threads;
 use web_heads::{Link, MemoryLink};
 
 fn links(alloc: Global, inputs: &[u8]) -> Result<Vec<MemoryLink>, AllocError> {
@@ -26,30 +23,6 @@ fn next_byte<G: Gate>(gate: &G) -> Option<u8> {
     }
 }
 
-fn count<G: Gate>(gate: &G) -> u64 {
-    let mut count = 0u64;
-    for _ in 0..u64::MAX {
-        if gate.next().is_none() {
-            break;
-        }
-        count = count.saturating_add(1);
-    }
-    count
-}
-
-fn count_by_workers<R: Threads + Wait + Sync, G: Gate + Sync>(
-    rt: &R,
-    alloc: Global,
-    gate: &G,
-) -> Result<u64, AllocError> {
-    let counts = thread::map_indices(rt, alloc, 8, &|_worker| count(gate))?;
-    let mut sum = 0u64;
-    for count in &counts {
-        sum = sum.saturating_add(*count);
-    }
-    Ok(sum)
-}
-
 #[test]
 fn links_come_from_the_first_to_the_last(rt: HostRuntime) -> Result<(), Fail> {
     let alloc = rt.alloc();
@@ -62,13 +35,5 @@ fn links_come_from_the_first_to_the_last(rt: HostRuntime) -> Result<(), Fail> {
     for byte in [Some(b'a'), Some(b'b'), None, None] {
         assert_eq!(rt; next_byte(&gate), byte);
     }
-    Ok(())
-}
-
-#[test]
-fn each_link_goes_to_one_worker(rt: HostRuntime) -> Result<(), Fail> {
-    let alloc = rt.alloc();
-    let gate = MemoryGate::new(&rt, links(alloc, &[b'x'; 20])?, Vec::new(alloc));
-    assert_eq!(rt; count_by_workers(&rt, alloc, &gate)?, 20);
     Ok(())
 }

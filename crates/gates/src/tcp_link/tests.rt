@@ -1,27 +1,8 @@
 use super::TcpLink;
-use std::io::{Read, Write};
 use std::net::{Shutdown, TcpListener, TcpStream};
 use std::test::Fail;
 use std::time::Duration;
 use web_heads::{Link, LinkFault};
-
-#[test]
-fn bytes_go_both_ways(rt: HostRuntime) -> Result<(), Fail> {
-    let listener = TcpListener::bind(&rt, "127.0.0.1:0")?;
-    let mut client = TcpStream::connect(&rt, listener.local_addr()?)?;
-    let (stream, _) = listener.accept()?;
-    let mut link = TcpLink::new(stream)?;
-    let mut room = [0; 8];
-    client.write_all(b"ask")?;
-    assert_eq!(rt; link.read(&mut room), Ok(3));
-    assert_eq!(rt; &room[..3], b"ask".as_slice());
-    assert_eq!(rt; link.write(b"answer"), Ok(()));
-    assert_eq!(rt; client.read(&mut room)?, 6);
-    assert_eq!(rt; &room[..6], b"answer".as_slice());
-    client.shutdown(Shutdown::Write)?;
-    assert_eq!(rt; link.read(&mut room), Ok(0));
-    Ok(())
-}
 
 #[test]
 fn a_silent_client_is_given_up(rt: HostRuntime) -> Result<(), Fail> {

@@ -1,7 +1,7 @@
 // The streams of the process. They tell no contents.
 ghost use Rattle.std.specs.Prelude.{None};
 
-use sinks::{Sink, SinkFault};
+use crate::sink::{Sink, SinkFault};
 use std::io::Write;
 
 /// A stream of the process, or any writer.
