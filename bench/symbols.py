@@ -4,7 +4,7 @@
 Usage:
   symbols.py [--seed S] [--count N] [PROGRAM]    N random symbols (1, 3000), ten in a folder
   symbols.py --folder FOLDER [PROGRAM]           all .sym of a folder and below it, in one call
-  symbols.py --cases                             the tables of crates/symbol_cases alone
+  symbols.py --cases                             the table symbols.txt of crates/file_cases alone
 
 PROGRAM is out/gafd of the repository where none is named. Most random symbols are damaged: pins and
 attributes that are missing, bad or there twice, and lines that are refused. Status, what goes out
@@ -31,7 +31,7 @@ from projects import compare_folders, failed_of
 from random_files import damaged
 
 TOP = pathlib.Path(__file__).resolve().parent.parent
-TABLE = TOP / "crates" / "symbol_cases" / "data" / "symbols.txt"
+TABLE = TOP / "crates" / "file_cases" / "data" / "symbols.txt"
 TEXT = "T 0 0 5 10 0 1 0 0 1"
 NAMES = (
     "NoDevice NoRefdes NoPins MissingNumber MissingSeq DuplicateNumber DuplicateSeq MissingLabel"

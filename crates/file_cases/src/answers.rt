@@ -1,5 +1,5 @@
 // The kinds of cases.
-use crate::{attributes, drawings, geometry, grouping, pins, readers, texts};
+use crate::{attributes, drawings, geometry, grouping, pins, readers, symbols, texts};
 use case_tables::{Asked, Case, CaseFault};
 use std::alloc::Global;
 
@@ -46,6 +46,9 @@ pub fn answer(alloc: Global, case: &Case<'_>) -> Result<String, CaseFault> {
         "object again" => readers::object_again(alloc, cells, case.files),
         "head again" => readers::head_again(alloc, cells, case.files),
         "first lines" => readers::first_lines(alloc, cells, case.files),
+        "symbol report" => symbols::one_report(alloc, cells, case.files),
+        "symbol reports" => symbols::reports(alloc, cells, case.files),
+        "symbol errors" => symbols::errors(alloc, cells, case.files),
         "pins" => pins::pins(alloc, cells, case.files),
         "conductors" => pins::conductors(alloc, cells, case.files),
         _ => read_answer(alloc, case.kind, cells),

@@ -1,6 +1,6 @@
 //! Computes again the cases of the tables that its arguments name, by the public calls of the
-//! crates that read files, place pins and tell what touches. It prints for each table how many
-//! cases there are, and each that came out otherwise.
+//! crates that read files, check symbols, place pins and tell what touches. It prints for each
+//! table how many cases there are, and each that came out otherwise.
 //!
 //! The tables are in data/, with what each rule wants; how they are written stands in
 //! crates/cases/data/README.txt.
@@ -14,6 +14,7 @@ mod geometry;
 mod grouping;
 mod pins;
 mod readers;
+mod symbols;
 mod texts;
 
 use answers::answer;

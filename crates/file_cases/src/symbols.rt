@@ -1,23 +1,15 @@
 // Symbols, and the reports on them.
-use case_tables::{CaseFault, TableFiles, bytes_of, name_of};
-use geda_model::{Items, Symbol};
-use geda_read::{ReadFault, read_symbol};
+use crate::faults::read;
+use case_tables::{CaseFault, TableFiles, bytes_of, name_of, text_in};
+use geda_model::Items;
+use geda_read::read_symbol;
 use std::alloc::{AllocError, Global};
-use std::str;
 use sym_check::{CheckedFile, check_symbol, has_errors, report_text};
 
 const TEXT: &[u8] = b"T 0 0 5 10 0 1 0 0 1\n";
 
-fn symbol_of(alloc: Global, bytes: &[u8]) -> Result<Symbol, CaseFault> {
-    match read_symbol(alloc, bytes) {
-        Ok(symbol) => Ok(symbol),
-        Err(ReadFault::At { .. }) => Err(CaseFault::BadCase),
-        Err(ReadFault::NoMemory) => Err(CaseFault::NoMemory),
-    }
-}
-
 fn checked(alloc: Global, name: &str, bytes: &[u8]) -> Result<CheckedFile, CaseFault> {
-    let symbol = symbol_of(alloc, bytes)?;
+    let symbol = read(read_symbol(alloc, bytes))?;
     let findings = Items::from_vec(check_symbol(alloc, &symbol)?);
     let file = name_of(alloc, name)?;
     Ok(CheckedFile { file, findings })
@@ -67,12 +59,9 @@ fn symbol_with(
     checked(alloc, "s", bytes.as_slice())
 }
 
-fn text_of(alloc: Global, files: &[CheckedFile]) -> Result<String, CaseFault> {
+fn report_on(alloc: Global, files: &[CheckedFile]) -> Result<String, CaseFault> {
     let bytes = report_text(alloc, files)?;
-    match str::from_utf8(bytes.as_slice()) {
-        Ok(text) => Ok(String::from_str(alloc, text)?),
-        Err(_) => Err(CaseFault::BadCase),
-    }
+    text_in(alloc, bytes.as_slice())
 }
 
 fn list_of(alloc: Global, file: CheckedFile) -> Result<Vec<CheckedFile>, AllocError> {
@@ -86,7 +75,7 @@ fn list_of(alloc: Global, file: CheckedFile) -> Result<Vec<CheckedFile>, AllocEr
 pub fn one_report(alloc: Global, cells: &[&str], files: &TableFiles) -> Result<String, CaseFault> {
     let file = symbol_with(alloc, cells, files)?;
     let list = list_of(alloc, file)?;
-    text_of(alloc, &list)
+    report_on(alloc, &list)
 }
 
 /// Whether an error is found in it.
@@ -103,5 +92,5 @@ pub fn reports(alloc: Global, cells: &[&str], files: &TableFiles) -> Result<Stri
     for name in cells {
         list.push(checked(alloc, name, files.find(name)?)?)?;
     }
-    text_of(alloc, &list)
+    report_on(alloc, &list)
 }
