@@ -6,14 +6,14 @@ Usage:
   spice.py [--seed S] [--count N] [PROGRAM]    N random runs (1, 2000), ten in a folder
   spice.py --folder FOLDER [PROGRAM]           each .sch of a folder
   spice.py --cases                             the rules told here on folders with known answers
-  spice.py --table [--seed S] [--count N]      random sheets as a table of cases, for spice_cases
+  spice.py --table [--seed S] [--count N]      random sheets as a table of cases, for project_cases
 
 PROGRAM is out/gafd of the repository where none is named; the known answers come before the random
 runs. Status, what goes out and the error line must be those told here; how many runs had which
 answer is told at the end. At the first difference the folder is cut down to what matters, kept and
 printed, and the status is 1. With --cases and --table no program is run. In a table each sheet stands
-for itself, with its text or its fault: spice_cases, which reads sheets and knows no command, works it
-out again.
+for itself, with its text or its fault: project_cases, which reads sheets and knows no command, works
+it out again.
 """
 import argparse
 import collections

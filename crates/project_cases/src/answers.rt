@@ -1,5 +1,5 @@
 // The kinds of cases.
-use crate::{boards, changes, hierarchies};
+use crate::{boards, changes, hierarchies, spice_texts};
 use case_tables::{Asked, Case, CaseFault, TableFiles};
 use std::alloc::Global;
 
@@ -14,14 +14,16 @@ fn question(
         "groups" => boards::groups(alloc, words, files),
         "bound" => boards::bound(alloc, words, files),
         "changed" => changes::changed(alloc, words, files),
+        "spice text" => spice_texts::lines(alloc, words, files),
         _ => Err(CaseFault::BadCase),
     }
 }
 
 /// What a case comes to.
 pub fn answer(alloc: Global, case: &Case<'_>) -> Result<String, CaseFault> {
-    match case.asked {
-        Asked::Row(_) => Err(CaseFault::BadCase),
-        Asked::Question(words) => question(alloc, case.kind, words, case.files),
+    match (case.asked, case.kind) {
+        (Asked::Row(cells), "spice fault") => spice_texts::fault(alloc, cells, case.files),
+        (Asked::Row(_), _) => Err(CaseFault::BadCase),
+        (Asked::Question(words), kind) => question(alloc, kind, words, case.files),
     }
 }

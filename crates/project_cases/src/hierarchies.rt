@@ -1,8 +1,16 @@
 // Hierarchies of the sheets of a table.
 use case_projects::project_in;
 use case_tables::{CaseFault, TableFiles};
-use hierarchy::{Hierarchy, Lost, elaborate};
+use hierarchy::{ElabFault, Hierarchy, Lost, elaborate};
 use std::alloc::{AllocError, Global};
+
+/// Why a case whose sheets have no hierarchy comes to no answer.
+pub fn case_fault(fault: ElabFault) -> CaseFault {
+    match fault {
+        ElabFault::TooManyInstances => CaseFault::BadCase,
+        ElabFault::NoMemory => CaseFault::NoMemory,
+    }
+}
 
 fn put_lost(out: &mut String, lost: &Lost) -> Result<(), AllocError> {
     match lost {
@@ -33,10 +41,7 @@ fn instances_text(alloc: Global, hierarchy: &Hierarchy) -> Result<String, AllocE
 /// The instances of the sheets that words name, and what is left out.
 pub fn instances(alloc: Global, words: &str, files: &TableFiles) -> Result<String, CaseFault> {
     let project = project_in(alloc, words, files)?;
-    let found = elaborate(alloc, &project);
+    let hierarchy = elaborate(alloc, &project).map_err(case_fault);
     drop(project);
-    match found {
-        Ok(hierarchy) => Ok(instances_text(alloc, &hierarchy)?),
-        Err(_) => Err(CaseFault::BadCase),
-    }
+    Ok(instances_text(alloc, &hierarchy?)?)
 }

@@ -1,15 +1,16 @@
 // The net list of a sheet of a table.
+use crate::hierarchies::case_fault;
 use case_projects::project_in;
 use case_tables::{CaseFault, TableFiles};
-use hierarchy::{ElabFault, elaborate};
+use hierarchy::elaborate;
 use net_list::Nets;
 use net_names::join;
 use project_model::Project;
 use sheet_groups::local_groups;
 use std::alloc::Global;
 
-fn net_list(alloc: Global, project: &Project) -> Result<Nets, ElabFault> {
-    let hierarchy = elaborate(alloc, project)?;
+fn net_list(alloc: Global, project: &Project) -> Result<Nets, CaseFault> {
+    let hierarchy = elaborate(alloc, project).map_err(case_fault)?;
     let groups = local_groups(alloc, project)?;
     Ok(join(alloc, project, &hierarchy, &groups)?)
 }
@@ -17,9 +18,7 @@ fn net_list(alloc: Global, project: &Project) -> Result<Nets, ElabFault> {
 /// The net list of the project of a sheet.
 pub fn nets_in(alloc: Global, sheet: &str, files: &TableFiles) -> Result<Nets, CaseFault> {
     let project = project_in(alloc, sheet, files)?;
-    match net_list(alloc, &project) {
-        Ok(nets) => Ok(nets),
-        Err(ElabFault::TooManyInstances) => Err(CaseFault::BadCase),
-        Err(ElabFault::NoMemory) => Err(CaseFault::NoMemory),
-    }
+    let nets = net_list(alloc, &project);
+    drop(project);
+    nets
 }

@@ -1,5 +1,5 @@
 // SPICE texts, and why there is none.
-use crate::sheets::nets_in;
+use crate::net_lists::nets_in;
 use case_tables::{CaseFault, TableFiles, cell, text_in};
 use geda_model::Line;
 use net_list::Nets;
