@@ -1,7 +1,7 @@
 #!/usr/bin/env python3
 """Times histories of small entries on a project of 10,000 objects, and tells the peak of memory.
 
-Usage: desk_times.py [PROGRAM]. The program is that of the crate desk_cases, as `rt run` builds it; it
+Usage: desk_times.py [PROGRAM]. The program is that of the crate edit_cases, as `rt run` builds it; it
 reads each history as a case of a table, and what comes is compared. Each row is the best of five
 runs, the start of the program and the reading of the table and of the entries as JSON included, for
 10,000 entries and for 100,000: ten times the entries may take ten times as long. The last shape has
@@ -16,7 +16,7 @@ sys.dont_write_bytecode = True
 
 from reading import RUNS, measured
 
-PROGRAM = pathlib.Path(__file__).resolve().parent.parent / "crates/desk_cases/out/desk_cases"
+PROGRAM = pathlib.Path(__file__).resolve().parent.parent / "crates/edit_cases/out/edit_cases"
 OBJECTS = 10_000
 
 
@@ -83,7 +83,7 @@ def timed(program, lines):
 def main():
     program = str(pathlib.Path(sys.argv[1] if len(sys.argv) > 1 else PROGRAM).resolve())
     if not pathlib.Path(program).exists():
-        sys.exit(f"{program} is not built: use `rt run` in crates/desk_cases")
+        sys.exit(f"{program} is not built: use `rt run` in crates/edit_cases")
     for shape in (moves, additions, attributes, undos, gaps):
         for count in (10_000, 100_000):
             seconds, peak = timed(program, table(shape, count))

@@ -2,7 +2,7 @@
 """Compares the verdicts on random histories, and the sheets after them, with those of docs/RULES.md
 told again ("Changes of edits", "Verdicts").
 
-Usage: verdicts.py [--histories N] [--seed N] [PROGRAM]. The program is that of the crate desk_cases,
+Usage: verdicts.py [--histories N] [--seed N] [PROGRAM]. The program is that of the crate edit_cases,
 as `rt run` builds it; it reads the histories as cases of a table, some hundred at a time. How often
 each verdict came is told at the end.
 """
@@ -19,7 +19,7 @@ sys.dont_write_bytecode = True
 from edit_rules import Desk, told
 from random_entries import history
 
-PROGRAM = pathlib.Path(__file__).resolve().parent.parent / "crates/desk_cases/out/desk_cases"
+PROGRAM = pathlib.Path(__file__).resolve().parent.parent / "crates/edit_cases/out/edit_cases"
 AT_A_TIME = 250
 
 
@@ -61,7 +61,7 @@ def main():
     parser.add_argument("program", nargs="?", default=str(PROGRAM))
     asked = parser.parse_args()
     if not pathlib.Path(asked.program).exists():
-        sys.exit(f"{asked.program} is not built: use `rt run` in crates/desk_cases")
+        sys.exit(f"{asked.program} is not built: use `rt run` in crates/edit_cases")
     program = str(pathlib.Path(asked.program).resolve())
     rng = random.Random(asked.seed)
     counts, cases, left = collections.Counter(), 0, asked.histories

@@ -1,5 +1,5 @@
 // The kinds of cases.
-use crate::{attributes, entries, motions, numbers};
+use crate::{attributes, entries, histories, motions, numbers, project_reports};
 use case_tables::{Asked, Case, CaseFault, TableFiles};
 use std::alloc::Global;
 
@@ -18,11 +18,24 @@ fn row(alloc: Global, kind: &str, cells: &[&str], files: &TableFiles) -> Result<
     }
 }
 
+fn question(
+    alloc: Global,
+    kind: &str,
+    words: &str,
+    files: &TableFiles,
+) -> Result<String, CaseFault> {
+    match kind {
+        "number" => numbers::number(alloc, words, files),
+        "verdicts" => histories::verdicts(alloc, words, files),
+        "report after" => project_reports::report_after(alloc, words, files),
+        _ => Err(CaseFault::BadCase),
+    }
+}
+
 /// What a case comes to.
 pub fn answer(alloc: Global, case: &Case<'_>) -> Result<String, CaseFault> {
-    match (case.asked, case.kind) {
-        (Asked::Row(cells), kind) => row(alloc, kind, cells, case.files),
-        (Asked::Question(words), "number") => numbers::number(alloc, words, case.files),
-        _ => Err(CaseFault::BadCase),
+    match case.asked {
+        Asked::Row(cells) => row(alloc, case.kind, cells, case.files),
+        Asked::Question(words) => question(alloc, case.kind, words, case.files),
     }
 }

@@ -1,51 +1,63 @@
-// Entries as JSON, a line of a file each.
+// Entries as JSON, a line of a file each. Where the text of an edit is `@NAME`, it is that of the
+// file NAME.
+ghost use Rattle.std.specs.Prelude.{IfOk};
+ghost use Rattle.edit_entries.specs.Entries.{EditIsInRange};
+
 use case_tables::{CaseFault, TableFiles, text_in};
-use edit_entries::Entry;
+use edit_entries::{Edit, Entry};
 use edit_json::{EntryFault, read_entry};
-use std::alloc::{AllocError, Global};
+use geda_model::Block;
+use std::alloc::Global;
 
-/// Puts a letter as it stands in a text of JSON.
-fn put_letter(out: &mut String, letter: char) -> Result<(), AllocError> {
-    match letter {
-        '\n' => out.push_str("\\n"),
-        '"' => out.push_str("\\\""),
-        '\\' => out.push_str("\\\\"),
-        letter => out.push(letter),
-    }
-}
-
-fn put_quoted(out: &mut String, text: &str) -> Result<(), AllocError> {
-    out.push('"')?;
-    for letter in text.chars() {
-        put_letter(out, letter)?;
-    }
-    out.push('"')
-}
-
-/// An entry as JSON, in which the text of a file stands for its name behind `@`.
-pub fn entry_json(alloc: Global, line: &str, files: &TableFiles) -> Result<String, CaseFault> {
-    let Some((before, rest)) = line.split_once("\"@") else {
-        return Ok(String::from_str(alloc, line)?);
+/// A text, or that of the file which it names behind `@`.
+fn named_text(alloc: Global, text: Block, files: &TableFiles) -> Result<Block, CaseFault> {
+    let Some(name) = text.as_str().strip_prefix('@') else {
+        return Ok(text);
     };
-    let (name, after) = rest.split_once('"').ok_or(CaseFault::BadCase)?;
     let text = text_in(alloc, files.find(name)?)?;
-    let mut out = String::from_str(alloc, before)?;
-    put_quoted(&mut out, text.as_str())?;
-    out.push_str(after)?;
-    Ok(out)
+    Ok(Block::new(alloc, text.as_str())?)
+}
+
+fn edit_of(alloc: Global, edit: Edit, files: &TableFiles) -> Result<Edit, CaseFault>
+    requires { EditIsInRange edit }
+    ensures { IfOk result EditIsInRange }
+{
+    match edit {
+        Edit::AddSheet { name, text } => Ok(Edit::AddSheet {
+            name,
+            text: named_text(alloc, text, files)?,
+        }),
+        Edit::AddSymbol { name, text } => Ok(Edit::AddSymbol {
+            name,
+            text: named_text(alloc, text, files)?,
+        }),
+        Edit::AddObject { sheet, text } => Ok(Edit::AddObject {
+            sheet,
+            text: named_text(alloc, text, files)?,
+        }),
+        Edit::Replace { id, text } => Ok(Edit::Replace {
+            id,
+            text: named_text(alloc, text, files)?,
+        }),
+        edit => Ok(edit),
+    }
 }
 
 /// The entry of a line.
-fn entry_of(alloc: Global, line: &str, files: &TableFiles) -> Result<Entry, CaseFault> {
-    let text = entry_json(alloc, line, files)?;
-    match read_entry(alloc, text.as_bytes()) {
-        Ok(entry) => Ok(entry),
+pub fn entry_of(alloc: Global, line: &str, files: &TableFiles) -> Result<Entry, CaseFault> {
+    match read_entry(alloc, line.as_bytes()) {
+        Ok(entry) => Ok(Entry {
+            session: entry.session,
+            number: entry.number,
+            base: entry.base,
+            edit: edit_of(alloc, entry.edit, files)?,
+        }),
         Err(EntryFault::BadEdit { .. }) => Err(CaseFault::BadCase),
         Err(EntryFault::NoMemory) => Err(CaseFault::NoMemory),
     }
 }
 
-/// The entries of a file, as the rows of a store.
+/// The entries of a file.
 pub fn entries_of(alloc: Global, file: &str, files: &TableFiles) -> Result<Vec<Entry>, CaseFault> {
     let text = text_in(alloc, files.find(file)?)?;
     let mut entries = Vec::new(alloc);

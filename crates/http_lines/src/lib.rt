@@ -1,5 +1,6 @@
-//! Connections as lines: the requests of a connection and the rows of a store are lines of a
-//! table's file, and the replies that went out are lines of an answer.
+//! Connections and histories as lines: the requests of a connection, and the entries of a history
+//! or of a store, are lines of a table's file, and the replies that went out are lines of an
+//! answer.
 //!
 //! How they are written stands in crates/cases/data/README.txt.
 #![tactic(auto)]
@@ -8,6 +9,6 @@ mod entries;
 mod replies;
 mod requests;
 
-pub use entries::entries_of;
+pub use entries::{entries_of, entry_of};
 pub use replies::lines_of;
 pub use requests::{input_of, put_request};

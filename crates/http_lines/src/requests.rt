@@ -1,9 +1,39 @@
 // The requests of a connection, a line of a file each: a method and a target; an entry as JSON,
 // which is an edit; `blanks N`, an edit whose body is so many blanks; or all the bytes of a request
 // as a cell.
-use crate::entries::entry_json;
 use case_tables::{CaseFault, TableFiles, number_of, text_in, text_of};
 use std::alloc::{AllocError, Global};
+
+/// Puts a letter as it stands in a text of JSON.
+fn put_letter(out: &mut String, letter: char) -> Result<(), AllocError> {
+    match letter {
+        '\n' => out.push_str("\\n"),
+        '"' => out.push_str("\\\""),
+        '\\' => out.push_str("\\\\"),
+        letter => out.push(letter),
+    }
+}
+
+fn put_quoted(out: &mut String, text: &str) -> Result<(), AllocError> {
+    out.push('"')?;
+    for letter in text.chars() {
+        put_letter(out, letter)?;
+    }
+    out.push('"')
+}
+
+/// An entry as JSON, in which the text of a file stands for its name behind `@`.
+fn entry_json(alloc: Global, line: &str, files: &TableFiles) -> Result<String, CaseFault> {
+    let Some((before, rest)) = line.split_once("\"@") else {
+        return Ok(String::from_str(alloc, line)?);
+    };
+    let (name, after) = rest.split_once('"').ok_or(CaseFault::BadCase)?;
+    let text = text_in(alloc, files.find(name)?)?;
+    let mut out = String::from_str(alloc, before)?;
+    put_quoted(&mut out, text.as_str())?;
+    out.push_str(after)?;
+    Ok(out)
+}
 
 fn put_edit_head(out: &mut String, length: usize) -> Result<(), AllocError> {
     write!(

@@ -2,7 +2,7 @@ use Rattle.std.proofs.Common.{◌≡◌, List, sym, subst}
 use Rattle.edit_entries.specs.Entries.{EntryData}
 use Rattle.edit_rules.specs.Verdicts.{verdict}
 use Rattle.edit_rules.specs.declared.verdict.Verdict.TheVariants.{Accept}
-use Rattle.desk_cases.proofs.histories.accept.Goals as goal
+use Rattle.edit_cases.proofs.histories.accept.Goals as goal
 
 pub commit-serial-requires-clause-accepted : goal.commit-serial-requires-clause-accepted
 commit-serial-requires-clause-accepted c =

@@ -3,11 +3,11 @@ ghost use Rattle.std.specs.Prelude.{◌≡◌};
 ghost use Rattle.edit_rules.specs.Verdicts.{verdict};
 ghost use Rattle.edit_rules.specs.declared.verdict.Verdict.TheVariants.{Accept};
 
-use crate::entries::entry_of;
 use case_tables::{CaseFault, TableFiles, number_of, text_in};
 use edit_desk::Desk;
 use edit_entries::Entry;
 use edit_rules::Verdict;
+use http_lines::entry_of;
 use project_model::Change;
 use std::alloc::{AllocError, Global};
 
