@@ -1,14 +1,14 @@
 // The whole program on the files of a table.
-use crate::servings::{Outputs, status_in};
+use crate::servings::{outputs_of, status_in};
 use case_projects::folder_of;
 use case_tables::{CaseFault, TableFiles, arguments_of, cell, failing_calls, text_in, text_of};
-use gafd_run::MemorySink;
 use project_files::MemoryFolder;
 use std::alloc::{AllocError, Global};
 use std::sync::Wait;
 use std::thread::Threads;
 use std::time::Clock;
 
+/// How many bytes an output of a command takes.
 const ROOM: usize = 100_000;
 
 /// What a run comes to.
@@ -26,16 +26,6 @@ fn call_of(number: &str) -> Result<u64, CaseFault> {
     }
 }
 
-/// Outputs with room, of which the calls fail that a case names.
-fn outputs_of(alloc: Global, failing: &str) -> Result<Outputs, CaseFault> {
-    let out = failing_calls(alloc, failing, "out")?;
-    let err = failing_calls(alloc, failing, "err")?;
-    Ok(Outputs {
-        out: MemorySink::new(alloc, ROOM, out)?,
-        err: MemorySink::new(alloc, ROOM, err)?,
-    })
-}
-
 /// Runs the program in a folder. Of the calls that `failing` names, those of the sinks fail.
 pub fn run_in<W: Threads + Wait + Clock + Sync>(
     rt: &W,
@@ -44,7 +34,7 @@ pub fn run_in<W: Threads + Wait + Clock + Sync>(
     folder: &mut MemoryFolder,
     failing: &str,
 ) -> Result<Ran, CaseFault> {
-    let mut outputs = outputs_of(alloc, failing)?;
+    let mut outputs = outputs_of(alloc, ROOM, failing)?;
     let status = status_in(rt, alloc, arguments, folder, &mut outputs)?;
     let out = text_in(alloc, outputs.out.written())?;
     let err = text_in(alloc, outputs.err.written())?;

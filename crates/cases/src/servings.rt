@@ -50,13 +50,13 @@ struct Start {
     held: Option<HeldCall>,
 }
 
-/// Empty outputs, of which the calls fail that a case names.
-fn outputs_of(alloc: Global, case: &ServingCase<'_>) -> Result<Outputs, CaseFault> {
-    let out = failing_calls(alloc, case.failing, "out")?;
-    let err = failing_calls(alloc, case.failing, "err")?;
+/// Empty outputs that take so many bytes each, of which the calls fail that a case names.
+pub fn outputs_of(alloc: Global, room: usize, failing: &str) -> Result<Outputs, CaseFault> {
+    let out = failing_calls(alloc, failing, "out")?;
+    let err = failing_calls(alloc, failing, "err")?;
     Ok(Outputs {
-        out: MemorySink::new(alloc, ROOM, out)?,
-        err: MemorySink::new(alloc, ROOM, err)?,
+        out: MemorySink::new(alloc, room, out)?,
+        err: MemorySink::new(alloc, room, err)?,
     })
 }
 
@@ -214,7 +214,7 @@ pub fn run_case<W: Threads + Wait + Clock + Sync>(
     files: &TableFiles,
 ) -> Result<Ran, CaseFault> {
     let traces = traces_of(alloc, case.links)?;
-    let mut outputs = outputs_of(alloc, case)?;
+    let mut outputs = outputs_of(alloc, ROOM, case.failing)?;
     let status = status_of(rt, alloc, case, files, &mut outputs, &traces)?;
     Ok(Ran {
         status,
