@@ -1,27 +1,17 @@
 // A hall with two seats, which serve connections in turn.
 ghost use Rattle.std.specs.Prelude.{◌≡◌};
 
+use crate::connections::{Connection, link_of};
 use crate::hall_fault::HallFault;
 use hall_core::{
     Hall, HallName, NewLog, Places, Seat, ShowsBoard, ShowsKept, close_hall, open_hall,
 };
-use hall_http::{KeptReports, LinkEnd, MemoryLink, serve_link};
+use hall_http::{KeptReports, serve_link};
 use keeper_core::MemoryKeeper;
 use std::alloc::{AllocError, Global};
 use std::marker::Brand;
 use std::mem;
 use std::sync::Wait;
-
-const ROOM: usize = 2_000_000;
-
-/// A connection that was served.
-#[derive(Drop)]
-pub struct Connection {
-    /// How it ended.
-    pub end: LinkEnd,
-    /// What it read and wrote.
-    pub link: MemoryLink,
-}
 
 /// What came of a hall.
 #[derive(Drop)]
@@ -44,7 +34,7 @@ fn serve_input<W: Wait, B: HallName, S: ShowsKept<B, KeptReports<B>>, R: Wait + 
     seat: &mut Seat<B, S>,
     input: Vec<u8>,
 ) -> Result<Connection, AllocError> {
-    let mut link = MemoryLink::new(alloc, input, ROOM, Vec::new(alloc))?;
+    let mut link = link_of(alloc, input, Vec::new(alloc))?;
     let end = serve_link(rt, alloc, hall, seat, &mut link);
     Ok(Connection { end, link })
 }

@@ -3,33 +3,18 @@ use crate::hall_fault::{HallFault, fault_line};
 use crate::halls::{Served, serve_new};
 use crate::keepers::{keeper_failing_at, keeper_of};
 use case_tables::{CaseFault, TableFiles, number_of};
-use hall_http::LinkEnd;
 use http_lines::{input_of, lines_of};
 use keeper_core::MemoryKeeper;
 use std::alloc::Global;
 use std::sync::Wait;
 
-fn end_name(end: &LinkEnd) -> &'static str {
-    match end {
-        LinkEnd::Closed => "Closed",
-        LinkEnd::CutShort => "CutShort",
-        LinkEnd::BadHead => "BadHead",
-        LinkEnd::TooLarge => "TooLarge",
-        LinkEnd::Unsupported => "Unsupported",
-        LinkEnd::ReadFault => "ReadFault",
-        LinkEnd::WriteFault => "WriteFault",
-        LinkEnd::Spent => "Spent",
-        LinkEnd::NoMemory => "NoMemory",
-    }
-}
-
 /// The replies of all connections, each with all its bytes, and how each connection ended.
 fn whole_lines(alloc: Global, served: &Served) -> Result<String, CaseFault> {
     let mut out = String::new(alloc);
     for connection in served.connections.iter() {
-        let lines = lines_of(alloc, connection.link.written(), false)?;
+        let lines = lines_of(alloc, connection.written(), false)?;
         out.push_str(lines.as_str())?;
-        writeln!(out, "> {}", end_name(&connection.end))?;
+        writeln!(out, "> {}", connection.end_name())?;
     }
     Ok(out)
 }
@@ -37,7 +22,7 @@ fn whole_lines(alloc: Global, served: &Served) -> Result<String, CaseFault> {
 /// Puts the status and the body of each reply.
 fn put_brief(alloc: Global, out: &mut String, served: &Served) -> Result<(), CaseFault> {
     for connection in served.connections.iter() {
-        let lines = lines_of(alloc, connection.link.written(), true)?;
+        let lines = lines_of(alloc, connection.written(), true)?;
         out.push_str(lines.as_str())?;
     }
     Ok(())

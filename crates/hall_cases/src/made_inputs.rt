@@ -1,10 +1,11 @@
 // Connections whose input is made.
-use crate::connections::{Served, answered};
+use crate::connections::Connection;
+use crate::inputs::answered;
 use case_tables::{CaseFault, bytes_of, cell, number_of, text_in};
 use std::alloc::{AllocError, Global};
 
 /// The end, and the first line of what went out.
-fn first_line(alloc: Global, served: &Served) -> Result<String, CaseFault> {
+fn first_line(alloc: Global, served: &Connection) -> Result<String, CaseFault> {
     let text = text_in(alloc, served.written())?;
     let line = match text.as_str().lines().next() {
         Some(line) => line,

@@ -1,45 +1,14 @@
-// Connections in memory, served by a service with no entries.
+// Bytes that come in on a connection, which a service with no entries serves.
+use crate::connections::{Connection, link_of};
 use crate::empty_service::EmptyService;
 use case_tables::{CaseFault, bytes_of, cell, number_of, text_in};
 use std::alloc::Global;
-use web_http::{LinkEnd, MemoryLink, serve};
+use web_http::{LinkEnd, serve};
 
-const ROOM: usize = 2_000_000;
-
-/// What a connection came to.
-#[derive(Drop)]
-pub struct Served {
-    /// How it ended.
-    pub end: LinkEnd,
-    link: MemoryLink,
-}
-
-impl Served {
-    /// What went out.
-    pub fn written(&self) -> &[u8] {
-        self.link.written()
-    }
-
-    /// The name of the end.
-    pub fn end_name(&self) -> &'static str {
-        match self.end {
-            LinkEnd::Closed => "Closed",
-            LinkEnd::CutShort => "CutShort",
-            LinkEnd::BadHead => "BadHead",
-            LinkEnd::TooLarge => "TooLarge",
-            LinkEnd::Unsupported => "Unsupported",
-            LinkEnd::ReadFault => "ReadFault",
-            LinkEnd::WriteFault => "WriteFault",
-            LinkEnd::Spent => "Spent",
-            LinkEnd::NoMemory => "NoMemory",
-        }
-    }
-
-    /// The end, and all that went out.
-    fn told(&self, alloc: Global) -> Result<String, CaseFault> {
-        let text = text_in(alloc, self.written())?;
-        Ok(format!(in alloc; "{} {}", self.end_name(), text.as_str())?)
-    }
+/// How a connection ended, and all that went out.
+fn told(alloc: Global, connection: &Connection) -> Result<String, CaseFault> {
+    let text = text_in(alloc, connection.written())?;
+    Ok(format!(in alloc; "{} {}", connection.end_name(), text.as_str())?)
 }
 
 /// Serves an input. The calls of these numbers fail, and so many looks are refused.
@@ -48,29 +17,29 @@ fn connect(
     input: Vec<u8>,
     failing: Vec<u64>,
     refusing: u64,
-) -> Result<Served, CaseFault> {
+) -> Result<Connection, CaseFault> {
     let mut service = EmptyService::new(alloc, refusing);
-    let mut link = MemoryLink::new(alloc, input, ROOM, failing)?;
+    let mut link = link_of(alloc, input, failing)?;
     let end = serve(alloc, &mut service, &mut link);
-    Ok(Served { end, link })
+    Ok(Connection { end, link })
 }
 
 /// Serves an input where nothing fails.
-pub fn answered(alloc: Global, input: Vec<u8>) -> Result<Served, CaseFault> {
+pub fn answered(alloc: Global, input: Vec<u8>) -> Result<Connection, CaseFault> {
     connect(alloc, input, Vec::new(alloc), 0)
 }
 
 /// Bytes that come in: the end, and what goes out.
 pub fn whole(alloc: Global, cells: &[&str]) -> Result<String, CaseFault> {
     let input = bytes_of(alloc, cell(cells, 0))?;
-    answered(alloc, input)?.told(alloc)
+    told(alloc, &answered(alloc, input)?)
 }
 
 /// The same where so many looks are refused.
 pub fn refused(alloc: Global, cells: &[&str]) -> Result<String, CaseFault> {
     let input = bytes_of(alloc, cell(cells, 1))?;
     let refusing = u64::from(number_of(cell(cells, 0))?);
-    connect(alloc, input, Vec::new(alloc), refusing)?.told(alloc)
+    told(alloc, &connect(alloc, input, Vec::new(alloc), refusing)?)
 }
 
 /// How an input ends that is cut behind so many bytes, and how many bytes go out; a line where that
@@ -98,7 +67,7 @@ fn first_cut(alloc: Global) -> Result<String, CaseFault> {
     Ok(out)
 }
 
-fn put_cut(out: &mut String, count: usize, now: &Served) -> Result<(), CaseFault> {
+fn put_cut(out: &mut String, count: usize, now: &Connection) -> Result<(), CaseFault> {
     write!(out, "\n{count} {} {}", now.end_name(), now.written().len())?;
     Ok(())
 }
