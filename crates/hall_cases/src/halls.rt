@@ -6,7 +6,7 @@ use crate::hall_fault::HallFault;
 use hall_core::{
     Hall, HallName, NewLog, Places, Seat, ShowsBoard, ShowsKept, close_hall, open_hall,
 };
-use hall_http::{KeptReports, serve_link};
+use hall_server::{KeptReports, serve_link};
 use keeper_core::MemoryKeeper;
 use std::alloc::{AllocError, Global};
 use std::marker::Brand;

@@ -1,3 +1,4 @@
 pub mod Faults
 pub mod Serving
+pub mod Stands
 pub mod steps

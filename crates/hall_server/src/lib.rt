@@ -1,13 +1,18 @@
 //! Serving a hall: workers that answer the links of a gate, one worker a seat.
 //!
-//! The main call is `serve`. Rule: docs/RULES.md, "Serving". Definitions: specs/Serving.antt, and
-//! those that it cites.
+//! The main call is `serve`; `serve_link` answers the requests of one link. Profile: docs/FORMATS.md,
+//! "HTTP". Rules: docs/RULES.md, "Serving", "Transcripts", "Ends of connections", "Seats".
+//! Definitions: specs/Serving.antt, specs/Stands.antt, and those that they and the clauses cite.
 #![tactic(auto)]
 
+mod connection;
 mod fault;
+mod seat_service;
 mod serving;
 mod workers;
 
+pub use connection::serve_link;
 pub use fault::ServeFault;
+pub use kept_reports::KeptReports;
 pub use serving::serve;
 pub use workers::serve_all;

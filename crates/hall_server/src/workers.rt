@@ -1,10 +1,11 @@
 // One worker a seat.
 ghost use Rattle.std.specs.Prelude.{◌≡◌, IfOk, length};
 
+use crate::connection::serve_link;
 use gates::Gate;
 use hall_core::{BoardHall, BoardSeat, Hall, HallName, Seat, ShowsKept};
-use hall_http::{KeptReports, serve_link};
 use keeper_core::Keeper;
+use kept_reports::KeptReports;
 use std::alloc::{AllocError, Global};
 use std::sync::Wait;
 use std::thread;

@@ -1,5 +1,5 @@
-use Rattle.hall_http.proofs.Answering.{answered, grown}
-use Rattle.hall_http.proofs.seat_service.SeatServiceService.edit.Goals as goal
+use Rattle.hall_server.proofs.Answering.{answered, grown}
+use Rattle.hall_server.proofs.seat_service.SeatServiceService.edit.Goals as goal
 
 pub returns-clause-grown : goal.returns-clause-grown
 returns-clause-grown g c =

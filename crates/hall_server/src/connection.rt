@@ -4,7 +4,7 @@ ghost use Rattle.geda_defs.specs.Causes.{HasRisen};
 ghost use Rattle.edit_rules.specs.Verdicts.{Legal};
 ghost use Rattle.web_http.specs.Completeness.{Completes};
 ghost use Rattle.web_http.specs.Serving.{Serves};
-ghost use Rattle.hall_http.specs.Stands.{stand_of};
+ghost use Rattle.hall_server.specs.Stands.{stand_of};
 
 use crate::seat_service::SeatService;
 use hall_core::{Hall, HallName, Seat, ShowsKept};

@@ -1,6 +1,6 @@
 // A seat of a hall, as what answers the requests of a connection.
 ghost use Rattle.std.specs.Prelude.{◌≡◌};
-ghost use Rattle.hall_http.specs.steps.Looks.{IsWanted, shown_of};
+ghost use Rattle.hall_server.specs.steps.Looks.{IsWanted, shown_of};
 ghost use Rattle.edit_rules.specs.Histories.{project};
 ghost use Rattle.pin_matrix.specs.Matrices.{usual};
 ghost use Rattle.reports.specs.NetLists.{seen};
