@@ -40,6 +40,16 @@ fault_later before between now P Q faults.ProjectFull later f h = f h
 fault_later before between now P Q faults.FolderFault later f h = risen before between now later h
 fault_later before between now P Q faults.NoMemory later f h = tt
 
+-- a fault that was met where no folder is asked, as that of a whole
+pub fault_from : {A B : Type 0} (counts : Counts) (P : Result A FileFault → Type 0) (Q : Result B FileFault → Type 0)
+    (e : FileFault) → (P (Err e) → Q (Err e)) → IsAnswer P (Err e) → IsFolderAnswer counts Q (Err e)
+fault_from counts P Q (faults.Missing file) f h = f h
+fault_from counts P Q (faults.Refused file line kind) f h = f h
+fault_from counts P Q faults.TooManyObjects f h = f h
+fault_from counts P Q faults.ProjectFull f h = f h
+fault_from counts P Q faults.FolderFault f h = absurd h
+fault_from counts P Q faults.NoMemory f h = tt
+
 -- what a call answers that comes last, as what the whole answers
 pub answer_then : {X A B : Type 0} (before between now : ℕ) (P : Result A FileFault → Type 0) (Q : Result B FileFault → Type 0) (f : X → A) (g : X → B) (r : Result X FileFault) → before ≤ between → ((o : Result X FileFault) → P (with_view f o) → Q (with_view g o)) → IsFolderAnswer (counts between now) P (with_view f r) → IsFolderAnswer (counts before now) Q (with_view g r)
 answer_then before between now P Q f g (Ok x) later as_well h = as_well (Ok x) h

@@ -5,7 +5,7 @@ ghost use Rattle.geda_model.specs.Names.{is_name};
 ghost use Rattle.project_files.specs.Counts.{counts};
 ghost use Rattle.project_files.specs.Gathering.{sources_of};
 ghost use Rattle.project_files.specs.ProjectFiles.{IsFolderAnswer, with_view};
-ghost use Rattle.project_files.specs.steps.Progress.{Asks, is_in};
+ghost use Rattle.project_files.specs.steps.Progress.{Asks, TakesNext, is_in};
 ghost use Rattle.project_files.specs.steps.Asking.{AsksComponent, AsksObject, AsksObjects};
 ghost use Rattle.project_files.specs.steps.Asking.{AsksSymbol, AsksValues, symbol_of};
 
@@ -76,6 +76,14 @@ impl Asked {
             absent: IndexSet::new(alloc),
             symbols: IndexMap::new(alloc),
         }
+    }
+
+    /// Takes the file of the sheet whose turn comes, the first of those that wait. `None` exactly
+    /// where none waits, and then nothing changes.
+    pub fn next_waiting(&mut self) -> Option<SheetFile>
+        ensures { TakesNext self.old result self.new }
+    {
+        self.waiting.pop_front()
     }
 
     /// The symbol of a name, if one was found.

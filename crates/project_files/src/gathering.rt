@@ -102,7 +102,7 @@ pub fn gather<F: Folder>(
     ensures files { KeepsFiles (F.files folder.old) (F.files folder.new) }
 {
     let (mut asked, mut sheets) = read_words(alloc, names, folder)?;
-    while let Some(file) = asked.waiting.pop_front() {
+    while let Some(file) = asked.next_waiting() {
         let sheet = sheet_in(alloc, &file.name, &file.bytes)?;
         add_sheet(alloc, sheet, &mut asked, &mut sheets, folder)?;
     }

@@ -1,6 +1,6 @@
 -- Steps of the code; no public clause cites them.
 -- How far reading has come, and the files that are as those that were read (own).
-use Rattle.std.specs.Prelude.{◌≡◌, ◌⊎◌, ℕ, Bool, true, false, List, ◌++◌, Result, Ok, Err, Some, None, map, ⊤}
+use Rattle.std.specs.Prelude.{◌≡◌, ◌⊎◌, ℕ, Bool, true, false, List, [], ◌∷◌, ◌++◌, Result, Ok, Err, Some, None, map, ⊤}
 use Rattle.std.specs.declared.option.Option.{Option}
 use Rattle.std.specs.List.{list_any, All}
 use Rattle.std.specs.Str.{bytes_eq}
@@ -21,6 +21,20 @@ pub record AskedData : Type 0 where
   pub waiting : List SheetFileData
   pub absent : List (List ℕ)
   pub symbols : List AskedSymbol
+
+-- the same, with these files waiting
+abbrev pub with_waiting : AskedData → List SheetFileData → AskedData
+with_waiting asked files = record {
+  queue = asked.queue;
+  waiting = files;
+  absent = asked.absent;
+  symbols = asked.symbols;
+}
+
+-- the first of the files that wait is taken, and all else stays; where none waits, nothing changes
+abbrev pub TakesNext : AskedData → Option SheetFileData → AskedData → Type 0
+TakesNext before None now = (before.waiting ≡ []) × (now ≡ before)
+TakesNext before (Some file) now = before ≡ with_waiting now (file ∷ now.waiting)
 
 -- what is gathered, with the sheets that are read
 abbrev pub gathered : List SheetData → AskedData → Gathered

@@ -42,11 +42,11 @@ pub record Stands (told : Option Files) (names : List (List ℕ)) (sheets : List
   pub rest : (files : ProjectFiles) → Follows now (with_files now files) →
       Continues names (gathered sheets now.asked) files
 
--- the same, with files that are told
-abbrev pub StandsAt : Option Files → List (List ℕ) → List (List ℕ) → List (List ℕ) →
-    AskedData → List SheetData → Type 0
-StandsAt told names read words asked sheets =
-    (known : ProjectFiles) × Stands told names sheets (at asked read words known)
+-- the same, with some files that are as those that were read
+pub record StandsAt (told : Option Files) (names read words : List (List ℕ)) (asked : AskedData)
+    (sheets : List SheetData) : Type 0 where
+  pub files : ProjectFiles
+  pub stands : Stands told names sheets (at asked read words files)
 
 -- all words are read, or a fault is met
 abbrev pub ReadsWords : Option Files → List (List ℕ) →

@@ -1,13 +1,11 @@
-use Rattle.std.proofs.Common.{ℕ, List, None, Some, Result, Ok, Err, refl, subst, ap, ◌∙◌, arith}
+use Rattle.std.proofs.Common.{ℕ, List, None, Some, Ok, Err, refl, subst, ap, ◌∙◌}
 use Rattle.std.proofs.lemmas.Result.{err_from_is_err_and}
 use Rattle.geda_model.specs.Sheets.{SymbolData}
 use Rattle.geda_grammar.specs.Faults.{symbol_file}
-use Rattle.project_files.specs.declared.fault.FileFault.{FileFault}
 use Rattle.project_files.specs.declared.fault.FileFault.TheVariants as faults
-use Rattle.project_files.specs.Counts.{counts}
 use Rattle.project_files.specs.FileReads.{IsRead, ReadAs}
 use Rattle.project_files.specs.steps.Reading.{IsFound, SymbolFrom, SymbolOf}
-use Rattle.project_files.proofs.Passing.{answer_from, fault_later}
+use Rattle.project_files.proofs.Passing.{fault_from}
 use Rattle.project_files.proofs.Reading.{bytes_in, of_read, read_refused, read_then, symbol_whole}
 use Rattle.project_files.proofs.file_reads.read_symbol_file.Goals as goal
 
@@ -26,15 +24,12 @@ returns-in_err-symbol-in-Some-clause-read g c =
     let name = c.args.name.now in
     let files = g.F.Folder.files c.args.folder.now in
     let fault = c.in_err-symbol-in-Some.field-0.0 in
-    let before = g.F.Folder.faults c.args.folder.now in
-    let after = g.F.Folder.faults c.read.new.self in
-    let P : Result SymbolData FileFault → Type 0 = ReadAs symbol_file (faults.Refused name) IsRead c.deref.result.now in
-    rw (p.1, p.2) (fault_later before after after P (SymbolFrom files name) fault (omega arith)
+    rw (p.1, p.2) (fault_from _ (ReadAs symbol_file (faults.Refused name) IsRead c.deref.result.now) (SymbolFrom files name) fault
     (λ h.
     let was = subst (λ (bytes : List ℕ). ReadAs symbol_file (faults.Refused name) IsRead bytes (Err fault)) c.deref.ensures.value h in
     of_read bytes_in name c.as_str.result.now files (Some c.in-Some.bytes) c.read.result (λ file. SymbolOf name file (Err fault)) c.as_str.ensures.text (c.in_ok-bytes.was ∙ ap Ok c.in-Some.is) (symbol_whole name (Err fault)) c.read.ensures.file
     (read_refused symbol_file name c.in-Some.bytes.items (λ f. f) IsFound fault was))
-    (answer_from (counts after after) P P (Err fault) (λ r h. h) c.in_err-symbol-in-Some.ensures))
+    c.in_err-symbol-in-Some.ensures)
 
 pub returns-in-None-clause-read : goal.returns-in-None-clause-read
 returns-in-None-clause-read g c =

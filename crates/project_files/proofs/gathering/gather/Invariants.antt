@@ -5,7 +5,8 @@ use Rattle.project_files.proofs.gathering.gather.Given as goal
 
 abbrev pub invariant-loop-file : goal.invariant-loop-file
 invariant-loop-file g l = record {
-  stands : (read : List (List ℕ)) × StandsAt (g.F.Folder.files l.fn.folder) l.names read [] l.asked l.sheets.items;
+  read : List (List ℕ);
+  stands : StandsAt (g.F.Folder.files l.fn.folder) l.names read [] l.asked l.sheets.items;
   kept : KeepsFiles (g.F.Folder.files l.fn.folder) (g.F.Folder.files l.folder);
   later : g.F.Folder.faults l.fn.folder ≤ g.F.Folder.faults l.folder;
 }
