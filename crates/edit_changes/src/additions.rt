@@ -1,18 +1,18 @@
 // Changes by which something comes, is replaced, goes or comes back.
 ghost use Rattle.std.specs.Prelude.{◌≡◌, ◌+◌, ◌<◌, ◌^◌, ◌++◌, Ok, IfOk, OnOk, length, map, option_copied};
 ghost use Rattle.std.specs.FinMap.{get};
-ghost use Rattle.text_values.specs.Values.{object_value, sheet_value, symbol_value};
 ghost use Rattle.edit_rules.specs.EarlyLines.{text_fault};
 ghost use Rattle.edit_rules.specs.EditChanges.{object_change, objects_from, removed, replaced, sheet_change, symbol_change};
+ghost use Rattle.edit_rules.specs.Values.{object_value, sheet_value, symbol_value};
 ghost use Rattle.edit_changes.specs.Makings.{items_of};
 ghost use Rattle.edit_changes.specs.steps.Flaws.{PreparesPlain};
 
 use crate::altering::{Altered, flawless, push_object};
+use edit_rules::{object_of, sheet_of, symbol_of};
 use geda_model::{Block, Name, Object, Sheet, Symbol};
 use geda_read::ReadFault;
 use project_model::{Change, Project, Thing, Value};
 use std::alloc::{AllocError, Global};
-use text_values::{object_of, sheet_of, symbol_of};
 
 fn push_objects(
     alloc: Global,

@@ -19,18 +19,18 @@ use Rattle.edit_entries.specs.declared.edit.Edit.TheVariants as edits
 use Rattle.edit_rules.specs.declared.verdict.Flaw.{Flaw}
 use Rattle.edit_entries.specs.Ids.{is_rising}
 use Rattle.edit_entries.specs.Entries.{EditIsInRange, edit_size}
+use Rattle.edit_rules.proofs.FewObjects.{few_objects}
 use Rattle.edit_rules.specs.Altering.{alter, altered, altered_item, altered_one, object_item}
 use Rattle.edit_rules.specs.EarlyLines.{first_missing}
 use Rattle.edit_rules.specs.EditChanges.{Change, object_change, objects_from, removed, replaced, sheet_change, symbol_change}
 use Rattle.edit_rules.specs.Histories.{change_after, change_at, project_of}
 use Rattle.edit_rules.specs.Naming.{named_ids}
+use Rattle.edit_rules.specs.Values.{object_value, sheet_value, symbol_value}
 use Rattle.edit_rules.specs.steps.Sound.{IsBelow, IsSound, IsThingBelow}
 use Rattle.geda_grammar.specs.declared.kind.ReadKind.{ReadKind}
 use Rattle.refdes_renum.specs.Laws.{IsReplaced}
 use Rattle.refdes_renum.proofs.LawLemmas.{distinct as renumbered_distinct, replaced as renumbered_replaced}
 use Rattle.refdes_renum.specs.Renumbering.{renumbered}
-use Rattle.text_values.proofs.FewObjects.{few_objects}
-use Rattle.text_values.specs.Values.{object_value, sheet_value, symbol_value}
 
 -- ids that rise from n on
 abbrev pub Up : ℕ → List ℕ → Type 0

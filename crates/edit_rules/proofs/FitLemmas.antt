@@ -35,13 +35,13 @@ use Rattle.edit_rules.specs.EditChanges.{object_change, objects_from, removed, r
 use Rattle.edit_rules.specs.Fitting.{AreHomed, Fits, IsOfKind, IsPlacedIn, Puts}
 use Rattle.edit_rules.specs.Histories.{all_changes, change_at, changes, has_thing, is_same_thing, project, project_of, undoing}
 use Rattle.edit_rules.specs.LateLines.{is_homeless, is_left, left_behind, no_sheet, removes, removes_sheet, sheet_in_use}
+use Rattle.edit_rules.specs.Values.{object_value, sheet_value, symbol_value}
 use Rattle.edit_rules.specs.Verdicts.{Legal, lines, verdict}
 use Rattle.edit_rules.specs.steps.Sound.{IsBelow, IsSound, IsThingBelow}
 use Rattle.geda_grammar.specs.declared.kind.ReadKind.{ReadKind}
 use Rattle.refdes_renum.specs.Laws.{IsReplaced}
 use Rattle.refdes_renum.proofs.LawLemmas.{replaced as renumbered_replaced}
 use Rattle.refdes_renum.specs.Renumbering.{renumbered}
-use Rattle.text_values.specs.Values.{object_value, sheet_value, symbol_value}
 
 clash : {P : Type 0} → true ≡ false → P
 clash e = absurd (cc e)

@@ -1,3 +1,5 @@
+pub mod ValueLaws
+pub mod FewObjects
 pub mod LongerHistories
 pub mod Weighing
 pub mod EditedThings

@@ -8,13 +8,13 @@ use Rattle.geda_grammar.specs.declared.kind.ReadKind.TheVariants.{NotAttribute}
 use Rattle.geda_model.specs.Sheets.{ObjectData}
 use Rattle.project_model.specs.Projects.{ProjectData}
 use Rattle.project_model.specs.declared.change.Placed.{Placed}
-use Rattle.text_values.specs.Values.{object_value, sheet_value, symbol_value}
 use Rattle.edit_entries.specs.Entries.{EntryData, entry_size}
 use Rattle.edit_entries.specs.Equality.{is_same_entry}
 use Rattle.edit_entries.specs.declared.edit.Edit.{Edit}
 use Rattle.edit_entries.specs.declared.edit.Edit.TheVariants as edits
 use Rattle.edit_entries.specs.declared.fault.EditFault.{EditFault}
 use Rattle.edit_entries.specs.declared.fault.EditFault.TheVariants as faults
+use Rattle.edit_rules.specs.Values.{object_value, sheet_value, symbol_value}
 use Rattle.edit_rules.specs.Naming.{altered_ids, is_numbered, is_of_session, named_ids}
 use Rattle.edit_rules.specs.Altering.{alter, is_attr}
 use Rattle.edit_rules.specs.Histories.{last_place}

@@ -8,10 +8,10 @@ use Rattle.project_model.specs.Projects.{ProjectData}
 use Rattle.project_model.specs.declared.change.Placed.{Placed}
 use Rattle.project_model.specs.declared.change.Thing.TheVariants as things
 use Rattle.project_model.specs.declared.change.Value.TheVariants as values
-use Rattle.text_values.specs.Values.{object_value, sheet_value, symbol_value}
 use Rattle.edit_entries.specs.declared.edit.Edit.{Edit}
 use Rattle.edit_entries.specs.declared.edit.Edit.TheVariants as edits
 use Rattle.refdes_renum.specs.Renumbering.{renumbered}
+use Rattle.edit_rules.specs.Values.{object_value, sheet_value, symbol_value}
 use Rattle.edit_rules.specs.Naming.{altered_ids}
 use Rattle.edit_rules.specs.Altering.{altered, object_item}
 

@@ -1,3 +1,4 @@
+pub mod Values
 pub mod Naming
 pub mod Altering
 pub mod EditChanges
