@@ -1,6 +1,6 @@
 // A service with no entries.
 ghost use Rattle.std.specs.Prelude.{◌≡◌};
-ghost use Rattle.web_replies.specs.Answers.{is_behind};
+ghost use Rattle.web_requests.specs.Answers.{is_behind};
 
 use board_core::Board;
 use edit_entries::Entry;

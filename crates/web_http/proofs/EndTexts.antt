@@ -2,7 +2,7 @@
 use Rattle.std.proofs.Common.{◌≡◌, codes, refl}
 use Rattle.std.specs.Fmt.{digits}
 use Rattle.serde_json.proofs.OnLiterals.{serde_json_on_literals}
-use Rattle.web_replies.specs.Texts.{status_line, reply_text}
+use Rattle.web_requests.specs.Texts.{status_line, reply_text}
 use Rattle.web_heads.specs.declared.cut_end.CutEnd.TheVariants.{BadHead, LargeHead, LargeBody, Unsupported}
 use Rattle.web_http.specs.Transcripts.{end_reply}
 

@@ -10,8 +10,8 @@ use Rattle.web_http.specs.declared.reply_kind.ReplyKind.{ReplyKind}
 use Rattle.web_http.specs.declared.reply_kind.ReplyKind.TheVariants as kinds
 use Rattle.reports.specs.declared.what.What.{What}
 use Rattle.reports.specs.declared.fault.ReportFault.TheVariants as faults
-use Rattle.web_replies.specs.Answers.{IsAnswer, json_reply, no_memory_reply, report_reply}
-use Rattle.web_replies.specs.Bodies.{named, numbered}
+use Rattle.web_requests.specs.Answers.{IsAnswer, json_reply, no_memory_reply, report_reply}
+use Rattle.web_requests.specs.Bodies.{named, numbered}
 use Rattle.web_http.specs.declared.shown.Shown.{Shown}
 use Rattle.web_http.specs.declared.shown.Shown.TheVariants as shown
 use Rattle.web_http.specs.steps.Pieces.{IsShownPiece, IsWritten}

@@ -9,7 +9,7 @@ use Rattle.keeper_core.specs.declared.reply.Reply.TheVariants as replies
 use Rattle.reports.specs.declared.what.What.{What}
 use Rattle.reports.specs.declared.fault.ReportFault.TheVariants as faults
 use Rattle.web_heads.specs.Links.{IsPrefixOf}
-use Rattle.web_replies.specs.Answers.{ComesTo, first_id, is_behind}
+use Rattle.web_requests.specs.Answers.{ComesTo, first_id, is_behind}
 use Rattle.web_http.specs.declared.shown.Shown.{Shown}
 use Rattle.web_http.specs.declared.shown.Shown.TheVariants as shown
 

@@ -8,7 +8,7 @@ use Rattle.web_heads.specs.Cuts.{MessageData}
 use Rattle.web_requests.specs.declared.request.Request.{Request}
 use Rattle.web_requests.specs.declared.request.Request.TheVariants.{Edit}
 use Rattle.web_requests.specs.Requests.{IsRequest}
-use Rattle.web_replies.specs.Answers.{bare_reply, lost_reply, no_memory_reply, no_entry_reply, IsAnswer, IsForService}
+use Rattle.web_requests.specs.Answers.{bare_reply, lost_reply, no_memory_reply, no_entry_reply, IsAnswer, IsForService}
 use Rattle.web_http.specs.declared.link_end.LinkEnd.{LinkEnd}
 use Rattle.web_http.specs.declared.link_end.LinkEnd.TheVariants as ends
 use Rattle.web_http.specs.declared.reply_kind.ReplyKind.{ReplyKind}

@@ -13,11 +13,10 @@ use keeper_core::Reply;
 use reports::{ReportFault, What};
 use std::alloc::{AllocError, Global};
 use web_heads::Message;
-use web_replies::{
-    ReplyText, no_entry_text, no_memory_text, write_behind, write_done, write_fault, write_fixed,
-    write_named, write_report,
+use web_requests::{
+    FixedRequest, ReplyText, Request, Routes, no_entry_text, no_memory_text, request_of,
+    write_behind, write_done, write_fault, write_fixed, write_named, write_report,
 };
-use web_requests::{FixedRequest, Request, Routes, request_of};
 
 /// An answer, where there was memory for its text.
 fn answered(written: Result<(), AllocError>) -> ReplyKind

@@ -12,8 +12,7 @@ use crate::respond::{piece, respond};
 use crate::service::Service;
 use std::alloc::Global;
 use web_heads::{Buffer, CutEnd, Link, Message, Next, next_message};
-use web_replies::ReplyText;
-use web_requests::Routes;
+use web_requests::{ReplyText, Routes};
 
 /// What a connection answers at an end.
 fn as_link_end(end: CutEnd) -> LinkEnd

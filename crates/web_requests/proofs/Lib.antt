@@ -4,3 +4,6 @@ mod Walks
 mod Tables
 mod Adding
 pub mod OneRequest
+mod BodyTexts
+mod ReplyBytes
+pub mod Held

@@ -1,15 +1,24 @@
 //! The request that an HTTP message is: an edit, a report, or one that is answered by its fault
-//! alone.
+//! alone; and the text of its reply, byte for byte: what it is answered after a history.
 //!
-//! The main call is `request_of`. Profile: docs/FORMATS.md, "HTTP". Rule: docs/RULES.md,
-//! "Requests". Definitions: specs/Requests.antt and those that it cites.
+//! The main call is `request_of`. A reply is written into a `ReplyText`, which has memory for the
+//! one reply that may not fail. Profile: docs/FORMATS.md, "HTTP". Rules: docs/RULES.md, "Requests"
+//! and "Answers". Definitions: specs/Requests.antt, specs/Answers.antt, and those that they cite.
 #![tactic(auto)]
 
+mod body;
+mod fixed;
+mod head;
 mod laws;
 mod query;
+mod reply_text;
 mod request;
 mod route;
+mod writing;
 
-pub use laws::one_request_law;
+pub use fixed::{no_entry_text, no_memory_text};
+pub use laws::{acknowledged_law, held_law, one_request_law};
+pub use reply_text::ReplyText;
 pub use request::{Allowed, FixedRequest, Request, request_of};
 pub use route::Routes;
+pub use writing::{write_behind, write_done, write_fault, write_fixed, write_named, write_report};

@@ -2,7 +2,7 @@
 use Rattle.std.specs.Prelude.{◌≡◌, ℕ, nat_lt, List, Option, Result, Ok, Err}
 use Rattle.reports.specs.declared.fault.ReportFault.{ReportFault}
 use Rattle.reports.specs.declared.fault.ReportFault.TheVariants as faults
-use Rattle.web_replies.specs.Answers.{is_behind}
+use Rattle.web_requests.specs.Answers.{is_behind}
 use Rattle.web_http.specs.declared.shown.Shown.{Shown}
 use Rattle.web_http.specs.declared.shown.Shown.TheVariants as shown
 

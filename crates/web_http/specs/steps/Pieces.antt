@@ -3,8 +3,8 @@ use Rattle.std.specs.Prelude.{◌≡◌, ℕ, Bool, List, Result, Ok, Err, codes
 use Rattle.keeper_core.specs.declared.reply.Reply.{Reply}
 use Rattle.keeper_core.specs.declared.reply.Reply.TheVariants as replies
 use Rattle.reports.specs.declared.fault.ReportFault.TheVariants as faults
-use Rattle.web_replies.specs.Answers.{json_reply, report_reply, lost_reply, no_memory_reply, no_entry_reply}
-use Rattle.web_replies.specs.Bodies.{named, numbered, done, fault_data, fault_status}
+use Rattle.web_requests.specs.Answers.{json_reply, report_reply, lost_reply, no_memory_reply, no_entry_reply}
+use Rattle.web_requests.specs.Bodies.{named, numbered, done, fault_data, fault_status}
 use Rattle.web_http.specs.declared.shown.Shown.{Shown}
 use Rattle.web_http.specs.declared.shown.Shown.TheVariants as shown
 use Rattle.web_http.specs.declared.reply_kind.ReplyKind.{ReplyKind}

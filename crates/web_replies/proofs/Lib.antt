@@ -1,3 +1,0 @@
-mod BodyTexts
-mod ReplyBytes
-pub mod Held

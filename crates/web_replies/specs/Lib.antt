@@ -1,4 +1,0 @@
-pub mod Texts
-pub mod Bodies
-pub mod Answers
-pub mod steps
