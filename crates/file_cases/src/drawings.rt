@@ -17,6 +17,7 @@ struct Draws {
 impl Draws {
     fn below(&mut self, count: u32) -> u32
         requires { 0 < count }
+        ensures { result < count }
     {
         self.last = self.last.wrapping_mul(48271) % 2147483647;
         (self.last % u64::from(count)) as u32
