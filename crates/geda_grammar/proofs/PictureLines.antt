@@ -1,6 +1,6 @@
 -- The lines of a picture's data.
 use Rattle.std.proofs.Common.{◌≡◌, ℕ, suc, ◌-◌, Bool, true, false, List, [], ◌∷◌, ◌++◌, length, refl, sym, ap, subst, ◌∙◌, arith, codes, inl, inr, ◌⊎◌}
-use Rattle.std.specs.Prelude.{◌≢◌, ◌&&◌, ◌||◌, ◌==◌, slice_index}
+use Rattle.std.specs.Prelude.{◌≢◌, ◌&&◌, ◌==◌, slice_index}
 use Rattle.std.specs.List.{slice_split, onto_first, flat_map, AllByRecursion}
 use Rattle.std.proofs.lemmas.Bool.{eqb-true, or_parts}
 use Rattle.geda_defs.specs.Lines.{ended, is_line_feed}

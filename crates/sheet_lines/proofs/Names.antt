@@ -1,5 +1,5 @@
 -- Words, and those that begin with `EMBEDDED`.
-use Rattle.std.proofs.Common.{◌≡◌, ◌≤◌, ◌<◌, ℕ, Bool, true, false, cond, Result, List, [], ◌∷◌, ◌++◌, length, Ok, Err, take, drop, refl, ap, sym, subst, codes, arith, ◌∙◌, nat_le, rules}
+use Rattle.std.proofs.Common.{◌≡◌, ◌≤◌, ◌<◌, ℕ, Bool, true, false, cond, Result, List, [], ◌∷◌, ◌++◌, length, Ok, Err, take, drop, refl, ap, sym, subst, codes, arith, ◌∙◌, nat_le}
 use Rattle.std.specs.Str.{is_utf8, IsAscii}
 use Rattle.std.proofs.lemmas.Str.{IsUtf8-drop, IsUtf8-append, IsUtf8-from_ascii, IsUtf8-from_is_utf8, is_utf8-from_IsUtf8, IsCharBoundary-after_ascii}
 use Rattle.std.proofs.lemmas.Str.Ascii.{IsAscii-cons}
