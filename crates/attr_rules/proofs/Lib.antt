@@ -1,5 +1,6 @@
 pub mod Prefixes
 pub mod Picks
+pub mod SlotLists
 pub mod Cutting
 pub mod Trims
 pub mod WordLemmas

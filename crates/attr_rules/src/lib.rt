@@ -23,5 +23,5 @@ pub use libraries::library_of;
 pub use lookups::{all_attrs_of, attr_of, attrs_of, begins_with, first_value, parts_of};
 pub use nets::{NetEntry, NetFault, net_entries};
 pub use overriding::net_entries_of;
-pub use slots::{SlotFault, short_number, slot_pins};
+pub use slots::{SlotFault, short_number, slot_pins, slot_pins_of};
 pub use splits::split_attr;

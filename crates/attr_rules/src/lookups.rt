@@ -40,7 +40,7 @@ fn value_if_named<'a>(content: &'a str, name: &str) -> Option<&'a str>
 
 /// The value of an item's text that is an attribute of a name. Most texts have no `=` behind so many
 /// bytes and are passed over, with no call.
-fn value_named<'a>(text: &'a Text, name: &str) -> Option<&'a str>
+pub(crate) fn value_named<'a>(text: &'a Text, name: &str) -> Option<&'a str>
     ensures { option_copied result ≡ value_named name.now text.now }
 {
     let content = text.content.as_str();
@@ -64,7 +64,7 @@ pub fn first_value<'a>(texts: &'a [Text], name: &str) -> Option<&'a str>
     None
 }
 
-fn value_in_part<'a>(part: &'a Part, name: &str) -> Option<&'a str>
+pub(crate) fn value_in_part<'a>(part: &'a Part, name: &str) -> Option<&'a str>
     ensures { option_copied result ≡ value_in_part name.now part.now }
 {
     match &part.shape {

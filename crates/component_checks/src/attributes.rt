@@ -9,8 +9,7 @@ ghost use Rattle.instance_objects.specs.Texts.{under};
 ghost use Rattle.component_checks.specs.CheckedComponents.{is_bad_net, slot_fault};
 
 use attr_rules::{
-    NetFault, SlotFault, all_attrs_of, attr_of, attrs_of, net_entries, refdes_of, short_number,
-    slot_pins,
+    NetFault, SlotFault, all_attrs_of, attr_of, net_entries, refdes_of, short_number, slot_pins_of,
 };
 use geda_model::{Block, Line, Object, Symbol};
 use hierarchy::Instance;
@@ -91,9 +90,7 @@ pub fn slot_fault(
     let Some(slot) = slot else {
         return Ok(None);
     };
-    let numslots = attr_of(object, library, "numslots");
-    let slotdefs = attrs_of(alloc, object, library, "slotdef")?;
-    match slot_pins(alloc, slot, numslots, slotdefs.as_slice()) {
+    match slot_pins_of(alloc, object, library, slot) {
         Ok(_) => Ok(None),
         Err(SlotFault::NoMemory) => Err(AllocError),
         Err(fault) => Ok(Some(fault)),
