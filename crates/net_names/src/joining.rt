@@ -1,9 +1,15 @@
 // The net list of a project.
 ghost use Rattle.std.specs.Prelude.{◌≡◌, IfOk};
+ghost use Rattle.std.specs.BTreeMap.{get};
+ghost use Rattle.geda_geom.specs.Keys.{by_key};
 ghost use Rattle.hierarchy.specs.Instances.{instances_of};
 ghost use Rattle.sheet_groups.specs.Conductors.{sheet_conductors};
 ghost use Rattle.sheet_groups.specs.Groups.{AreGroups};
-ghost use Rattle.net_names.specs.NetLists.{IsNetListOf};
+ghost use Rattle.link_classes.specs.InstanceGroups.{AreInstanceGroups};
+ghost use Rattle.flat_sheets.specs.Conductors.{conductors_of};
+ghost use Rattle.flat_sheets.specs.ListedParts.{listed_parts};
+ghost use Rattle.net_names.specs.NetLists.{AreCountable, AreNetsOf, IsNetListOf};
+ghost use Rattle.net_names.specs.Packages.{packages_by};
 
 use crate::listing::nets_by;
 use crate::packages::packages_of;
@@ -17,6 +23,20 @@ use project_model::Project;
 use std::alloc::{AllocError, Global};
 use std::collections::BTreeMap;
 
+/// The net list of what joins in a project, with these groups of touching conductors.
+fn joined(alloc: Global, flat: FlatProject, groups: &BTreeMap<Key, Key>) -> Result<Nets, AllocError>
+    requires { AreInstanceGroups flat.conductors.items (get by_key groups.now) }
+    ensures packages { IfOk result (λ list. list.packages ≡ packages_by flat.parts.items) }
+    ensures nets { IfOk result (λ list. AreNetsOf flat.conductors.items list.nets) }
+    ensures countable { IfOk result (λ _. AreCountable flat.conductors.items) }
+{
+    let FlatProject { conductors, parts } = flat;
+    let packages = packages_of(alloc, parts)?;
+    let labels = class_labels(alloc, conductors.as_slice(), groups)?;
+    let nets = nets_by(alloc, conductors, labels.as_slice())?;
+    Ok(Nets { packages, nets })
+}
+
 /// The net list of a project by its objects in the instances of its sheets, with these groups of
 /// touching conductors (docs/RULES.md, "Nets", "Packages", "Names of nets").
 pub fn join_objects(
@@ -27,11 +47,24 @@ pub fn join_objects(
     requires groups { AreGroups (sheet_conductors objects.now) groups.now.entries }
     ensures { IfOk result (IsNetListOf objects.now) }
 {
-    let FlatProject { conductors, parts } = flatten(alloc, objects)?;
-    let packages = packages_of(alloc, parts)?;
-    let labels = class_labels(alloc, conductors.as_slice(), groups)?;
-    let nets = nets_by(alloc, conductors, labels.as_slice())?;
-    Ok(Nets { packages, nets })
+    let flat = flatten(alloc, objects)?;
+    joined(alloc, flat, groups)
+}
+
+/// What joins in a project with this hierarchy. The list of its objects in the instances of its
+/// sheets is gone when it ends.
+fn flat_project(
+    alloc: Global,
+    project: &Project,
+    hierarchy: &Hierarchy,
+) -> Result<FlatProject, AllocError>
+    requires hierarchy { hierarchy.now.instances ≡ instances_of project.now.contents }
+    ensures conductors { IfOk result
+        (λ flat. flat.conductors.items ≡ conductors_of project.now.contents) }
+    ensures parts { IfOk result (λ flat. flat.parts.items ≡ listed_parts project.now.contents) }
+{
+    let objects = InstanceObjects::of(alloc, project, hierarchy.instances.as_slice())?;
+    flatten(alloc, &objects)
 }
 
 /// The net list of a project with this hierarchy and these groups of touching conductors
@@ -46,6 +79,6 @@ pub fn join(
     requires groups { AreGroups (sheet_conductors project.now.contents) groups.now.entries }
     ensures { IfOk result (IsNetListOf project.now.contents) }
 {
-    let objects = InstanceObjects::of(alloc, project, hierarchy.instances.as_slice())?;
-    join_objects(alloc, &objects, groups)
+    let flat = flat_project(alloc, project, hierarchy)?;
+    joined(alloc, flat, groups)
 }
