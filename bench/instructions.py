@@ -25,12 +25,13 @@ import time
 sys.dont_write_bytecode = True
 
 import netlist
+import numbering
 import part_shapes
 import project_limits
 import reading
 import sheet_shapes
 import symbols
-from drawing import LIBRARY, component, part, wire
+from drawing import LIBRARY, part, wire
 from part_shapes import sheet
 from parts import words_of
 from projects import put
@@ -73,7 +74,7 @@ def rows():
         files = {"x.sch": reading.filled(shape())}
         yield f"4 MiB of {shape.__name__}", ["export", "netlist"], files, ["x.sch"]
     for count, sheets in ((10_000, 1), (10_000, 100), (100_000, 2)):
-        files = unnumbered(count, sheets)
+        files = numbering.open_sheets(count, sheets)
         yield f"components R? {count:,}, sheets {sheets:,}", ["renumber"], files, [*files]
     yield from symbol_rows()
     for count in (1_000, 4_000, 16_000):
@@ -94,12 +95,6 @@ def resistors(count):
         objects.append(part(x, y, f"R{number + 1}", "value=1k"))
         objects.append(wire(x + 300, y, x + 400 - 50 * (number % 100 == 99), y))
     return {"two.sym": LIBRARY["two.sym"], "x.sch": sheet(objects)}
-
-
-def unnumbered(count, sheets):
-    """Components without numbers, as numbering.py times them."""
-    one = component("r.sym", 0, 0, "refdes=R?")
-    return {f"s{number}.sch": sheet([one] * (count // sheets)) for number in range(sheets)}
 
 
 def symbol_rows():

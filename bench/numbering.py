@@ -225,11 +225,16 @@ def best_of(program, files, words):
     return min(runs)
 
 
-def times(program):
+def open_sheets(count, sheets):
+    """So many components without numbers, on so many sheets."""
     one = "C 0 0 1 0 0 r.sym\n{\nT 0 0 5 10 1 1 0 0 1\nrefdes=R?\n}\n"
+    text = "v 20130925 2\n" + one * (count // sheets)
+    return {f"s{k}.sch": text.encode() for k in range(sheets)}
+
+
+def times(program):
     for count, sheets in ((10_000, 1), (10_000, 100), (100_000, 2), (100_000, 1000)):
-        text = "v 20130925 2\n" + one * (count // sheets)
-        files = {f"s{k}.sch": text.encode() for k in range(sheets)}
+        files = open_sheets(count, sheets)
         said = []
         for word in ("renumber", "netlist"):
             whole, own = best_of(program, files, [word, *files])

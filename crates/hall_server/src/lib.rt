@@ -1,8 +1,8 @@
 //! Serving a hall: workers that answer the links of a gate, one worker a seat.
 //!
-//! The main call is `serve`; `serve_link` answers the requests of one link. Profile: docs/FORMATS.md,
-//! "HTTP". Rules: docs/RULES.md, "Serving", "Transcripts", "Ends of connections", "Seats".
-//! Definitions: specs/Serving.antt, specs/Stands.antt, and those that they and the clauses cite.
+//! The main call is `serve`; `serve_link` answers the requests of one link. Profile:
+//! docs/FORMATS.md, "HTTP". Rules: docs/RULES.md, "Serving", "Transcripts", "Ends of connections",
+//! "Seats". Definitions: specs/Serving.antt, specs/Stands.antt, and those that are cited there.
 #![tactic(auto)]
 
 mod connection;

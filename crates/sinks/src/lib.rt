@@ -1,7 +1,7 @@
 //! Where the bytes of a program go.
 //!
 //! The main trait is `Sink`. Contracts see what was written, where a sink tells it, and how often
-//! it failed (specs/Streams.antt, specs/MemorySinks.antt). `StdSink` is over the streams of a process.
+//! it failed (specs/Streams.antt, specs/MemorySinks.antt). `StdSink` is over a stream of a process.
 //! Rule: docs/RULES.md, "Faults of the outside".
 #![tactic(auto)]
 
