@@ -1,14 +1,20 @@
 -- What a row file holds (own).
 use Rattle.std.specs.Prelude.{◌≡◌, ⊤, ℕ, List, Option, Some, None, Result, Ok, Err}
 use Rattle.geda_defs.specs.Lines.{ended}
-use Rattle.edit_entries.specs.Entries.{EntryData, EntryIsInRange}
-use Rattle.edit_json.specs.Documents.{IsEntryText}
+use Rattle.edit_entries.specs.Entries.{EntryData}
+use Rattle.edit_json.specs.Rows.{IsRowText, RowIsInRange}
 use Rattle.keeper_core.specs.declared.keeper.KeepFault.{KeepFault}
 use Rattle.keeper_core.specs.declared.keeper.KeepFault.TheVariants as fault
 
--- the bytes are the row of this entry: a text that is the entry, and LF
+-- the text is a row of this entry, of either version
+pub record IsRowOf (text : List ℕ) (entry : EntryData) : Type 0 where
+  pub version : ℕ
+  pub range : RowIsInRange (record { version = version; entry = entry })
+  pub is : IsRowText text (record { version = version; entry = entry })
+
+-- the bytes are the row of this entry: a text that is one of it, and LF
 abbrev pub IsRow : List ℕ → EntryData → Type 0
-IsRow bytes entry = (text : List ℕ) × (bytes ≡ ended text) × IsEntryText text entry
+IsRow bytes entry = (text : List ℕ) × (bytes ≡ ended text) × IsRowOf text entry
 
 -- the bytes do not end in LF
 abbrev pub IsCut : List ℕ → Type 0
@@ -18,7 +24,7 @@ IsCut bytes = (text : List ℕ) → ¬ (bytes ≡ ended text)
 pub record HoldsNoEntry (bytes : List ℕ) : Type 0 where
   pub text : List ℕ
   pub whole : bytes ≡ ended text
-  pub no_entry : (entry : EntryData) → EntryIsInRange entry → ¬ (IsEntryText text entry)
+  pub no_entry : (entry : EntryData) → ¬ (IsRowOf text entry)
 
 -- what a reader of a row file answers: there is no row where it is cut
 abbrev pub ReadsRow : List ℕ → Result (Option EntryData) KeepFault → Type 0

@@ -1,23 +1,23 @@
 // What a row file holds.
 ghost use Rattle.std.specs.Prelude.{◌≡◌, IfOk, MatchOption};
 ghost use Rattle.geda_defs.specs.Lines.{ended};
-ghost use Rattle.edit_entries.specs.Entries.{EntryData, EntryIsInRange};
-ghost use Rattle.edit_json.specs.Documents.{IsEntryText, entry_text};
-ghost use Rattle.file_keeper.specs.RowFiles.{IsCut, IsLoaded, IsRow, ReadsRow};
+ghost use Rattle.edit_entries.specs.Entries.{EntryData};
+ghost use Rattle.edit_json.specs.Rows.{row_text};
+ghost use Rattle.file_keeper.specs.RowFiles.{IsCut, IsLoaded, IsRow, IsRowOf, ReadsRow};
 ghost use Rattle.file_keeper.specs.steps.RowTexts.{ReadsText};
 
 use edit_entries::Entry;
-use edit_json::{EntryFault, entry_text, read_entry};
+use edit_json::{RowFault, read_row, row_text};
 use keeper_core::KeepFault;
 use std::alloc::{AllocError, Global};
 
-/// The bytes of the row file of an entry: its one spelling as JSON, and LF (docs/FORMATS.md,
+/// The bytes of the row file of an entry: its one spelling as a row, and LF (docs/FORMATS.md,
 /// "Stores"). `row_of` reads the entry back from them.
 pub fn row_bytes(alloc: Global, entry: &Entry) -> Result<Vec<u8>, AllocError>
-    ensures text { IfOk result (λ v. v.items ≡ ended (entry_text entry.now)) }
+    ensures text { IfOk result (λ v. v.items ≡ ended (row_text entry.now)) }
     ensures row { IfOk result (λ v. IsRow v.items entry.now) }
 {
-    let mut bytes = entry_text(alloc, entry)?;
+    let mut bytes = row_text(alloc, entry)?;
     bytes.push(b'\n')?;
     Ok(bytes)
 }
@@ -35,23 +35,22 @@ fn whole_text(bytes: &[u8]) -> Option<&[u8]>
 /// The entry of a text.
 fn entry_of(alloc: Global, text: &[u8]) -> Result<Entry, KeepFault>
     ensures read { ReadsText text.now result }
-    ensures every { (entry : EntryData) → EntryIsInRange entry → IsEntryText text.now entry →
-        IsLoaded entry result }
+    ensures every { (entry : EntryData) → IsRowOf text.now entry → IsLoaded entry result }
 {
-    match read_entry(alloc, text) {
-        Ok(entry) => Ok(entry),
-        Err(EntryFault::BadEdit { pointer: _ }) => Err(KeepFault::Failed),
-        Err(EntryFault::NoMemory) => Err(KeepFault::NoMemory),
+    match read_row(alloc, text) {
+        Ok(row) => Ok(row.entry),
+        Err(RowFault::BadRow) => Err(KeepFault::Failed),
+        Err(RowFault::NoMemory) => Err(KeepFault::NoMemory),
     }
 }
 
 /// The entry of a row file with these bytes. `None` exactly where they do not end in LF: such a row
 /// was not written to its end, and counts as not there.
 ///
-/// `Failed` exactly where they end in LF, and what stands before it is no entry.
+/// `Failed` exactly where they end in LF, and what stands before it is no row of either version.
 pub fn row_of(alloc: Global, bytes: &[u8]) -> Result<Option<Entry>, KeepFault>
     ensures row { ReadsRow bytes.now result }
-    ensures every { (entry : EntryData) → EntryIsInRange entry → IsRow bytes.now entry →
+    ensures every { (entry : EntryData) → IsRow bytes.now entry →
         IsLoaded (Some entry) result }
 {
     match whole_text(bytes) {

@@ -31,6 +31,10 @@ fn edit_of(alloc: Global, edit: Edit, files: &TableFiles) -> Result<Edit, CaseFa
             name,
             text: named_text(alloc, text, files)?,
         }),
+        Edit::ReplaceSymbol { name, text } => Ok(Edit::ReplaceSymbol {
+            name,
+            text: named_text(alloc, text, files)?,
+        }),
         Edit::AddObject { sheet, text } => Ok(Edit::AddObject {
             sheet,
             text: named_text(alloc, text, files)?,

@@ -60,6 +60,7 @@ is_refusal (faults.NumberReused n) = inl refl
 is_refusal (faults.UndoBlocked n) = inl refl
 is_refusal faults.NoSheet = inr refl
 is_refusal faults.SheetExists = inr refl
+is_refusal faults.NoSymbol = inr refl
 is_refusal faults.SymbolExists = inr refl
 is_refusal (faults.NoObject n) = inr refl
 is_refusal (faults.NotOnKind n) = inr refl

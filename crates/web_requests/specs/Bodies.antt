@@ -56,6 +56,7 @@ kind_name kinds.TooLarge = codes "TooLarge"
 abbrev pub fault_data : EditFault → Data
 fault_data faults.NoSheet = named (codes "NoSheet")
 fault_data faults.SheetExists = named (codes "SheetExists")
+fault_data faults.NoSymbol = named (codes "NoSymbol")
 fault_data faults.SymbolExists = named (codes "SymbolExists")
 fault_data (faults.NoObject id) = numbered (codes "NoObject") (codes "id") id
 fault_data (faults.NotOnKind id) = numbered (codes "NotOnKind") (codes "id") id

@@ -120,6 +120,7 @@ pub fn fault_body(alloc: Global, fault: EditFault) -> Result<String, AllocError>
     match fault {
         EditFault::NoSheet => named_body(alloc, "NoSheet"),
         EditFault::SheetExists => named_body(alloc, "SheetExists"),
+        EditFault::NoSymbol => named_body(alloc, "NoSymbol"),
         EditFault::SymbolExists => named_body(alloc, "SymbolExists"),
         EditFault::NoObject { id } => numbered_body(alloc, "NoObject", "id", id),
         EditFault::NotOnKind { id } => numbered_body(alloc, "NotOnKind", "id", id),

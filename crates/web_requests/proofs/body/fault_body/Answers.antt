@@ -3,6 +3,9 @@ use Rattle.web_requests.proofs.body.fault_body.Goals as goal
 pub returns-in-SheetExists : goal.returns-in-SheetExists
 returns-in-SheetExists c = rw c.in-SheetExists.is c.named_body-in-SheetExists.ensures
 
+pub returns-in-NoSymbol : goal.returns-in-NoSymbol
+returns-in-NoSymbol c = rw c.in-NoSymbol.is c.named_body-in-NoSymbol.ensures
+
 pub returns-in-SymbolExists : goal.returns-in-SymbolExists
 returns-in-SymbolExists c = rw c.in-SymbolExists.is c.named_body-in-SymbolExists.ensures
 
