@@ -4,10 +4,10 @@ ghost use Rattle.geda_defs.specs.Lines.{ended};
 ghost use Rattle.edit_entries.specs.Entries.{EntryData};
 ghost use Rattle.edit_json.specs.Rows.{row_text};
 ghost use Rattle.file_keeper.specs.RowFiles.{IsCut, IsLoaded, IsRow, IsRowOf, ReadsRow};
-ghost use Rattle.file_keeper.specs.steps.RowTexts.{ReadsText};
+ghost use Rattle.file_keeper.specs.steps.RowTexts.{ReadsText, TakesEntry};
 
 use edit_entries::Entry;
-use edit_json::{RowFault, read_row, row_text};
+use edit_json::{Row, RowFault, read_row, row_text};
 use keeper_core::KeepFault;
 use std::alloc::{AllocError, Global};
 
@@ -17,6 +17,8 @@ pub fn row_bytes(alloc: Global, entry: &Entry) -> Result<Vec<u8>, AllocError>
     ensures text { IfOk result (λ v. v.items ≡ ended (row_text entry.now)) }
     ensures row { IfOk result (λ v. IsRow v.items entry.now) }
 {
+    // This brings the ranges of the entry into reach.
+    let _ = &entry.edit;
     let mut bytes = row_text(alloc, entry)?;
     bytes.push(b'\n')?;
     Ok(bytes)
@@ -32,22 +34,29 @@ fn whole_text(bytes: &[u8]) -> Option<&[u8]>
     }
 }
 
-/// The entry of a text.
-fn entry_of(alloc: Global, text: &[u8]) -> Result<Entry, KeepFault>
-    ensures read { ReadsText text.now result }
-    ensures every { (entry : EntryData) → IsRowOf text.now entry → IsLoaded entry result }
+/// The entry of what was read as a row.
+fn entry_in(read: Result<Row, RowFault>) -> Result<Entry, KeepFault>
+    ensures { TakesEntry read result }
 {
-    match read_row(alloc, text) {
+    match read {
         Ok(row) => Ok(row.entry),
         Err(RowFault::BadRow) => Err(KeepFault::Failed),
         Err(RowFault::NoMemory) => Err(KeepFault::NoMemory),
     }
 }
 
+/// The entry of a text.
+fn entry_of(alloc: Global, text: &[u8]) -> Result<Entry, KeepFault>
+    ensures read { ReadsText text.now result }
+    ensures every { (entry : EntryData) → IsRowOf text.now entry → IsLoaded entry result }
+{
+    entry_in(read_row(alloc, text))
+}
+
 /// The entry of a row file with these bytes. `None` exactly where they do not end in LF: such a row
 /// was not written to its end, and counts as not there.
 ///
-/// `Failed` exactly where they end in LF, and what stands before it is no row of either version.
+/// `Failed` exactly where they end in LF, and what stands before it is a row of neither version.
 pub fn row_of(alloc: Global, bytes: &[u8]) -> Result<Option<Entry>, KeepFault>
     ensures row { ReadsRow bytes.now result }
     ensures every { (entry : EntryData) → IsRow bytes.now entry →
