@@ -2,6 +2,8 @@
 ghost use Rattle.std.specs.Prelude.{◌≡◌, None};
 ghost use Rattle.geda_defs.specs.Causes.{HasCause};
 
+use crate::faults::add_fault;
+use crate::files::own_fault;
 use crate::rows::{row_bytes, row_of};
 use crate::store::Store;
 use edit_entries::Entry;
@@ -16,6 +18,8 @@ pub struct FileKeeper<'a, R: Files<File = File> + AllocGlobal> {
     rt: &'a R,
     store: Option<Store>,
     faults: u64,
+    /// The last call failed.
+    has_failed: bool,
 }
 
 /// A call of the system that failed.
@@ -35,46 +39,67 @@ impl<'a, R: Files<File = File> + AllocGlobal> FileKeeper<'a, R> {
             rt,
             store: None,
             faults: 0,
+            has_failed: false,
         }
     }
 
     /// Counts what failed, and hands the answer on.
-    fn count<T: Drop>(&mut self, answer: Result<T, KeepFault>) -> Result<T, KeepFault>
-        ensures same { result ≡ answer }
+    fn count<T: Drop>(&mut self, answer: io::Result<T>) -> Result<T, KeepFault>
         ensures cause { HasCause self.old.faults self.new.faults result KeepFault.Failed }
     {
+        self.has_failed = answer.is_err();
+        let answer = answer.map_err(keep_fault);
         if let Err(KeepFault::Failed) = &answer {
             self.faults = self.faults.saturating_add(1);
         }
         answer
     }
 
-    fn taken(&self) -> Result<&Store, KeepFault> {
-        self.store.as_ref().ok_or(KeepFault::Failed)
+    /// Tells the first fault, and each first one after a success, in the store where it can.
+    fn note<T>(&self, store: &str, serial: Option<u32>, answer: &io::Result<T>) {
+        if let Err(fault) = answer {
+            if !self.has_failed {
+                let _ = add_fault(self.rt, self.rt.alloc(), store, serial, fault);
+            }
+        }
     }
 
-    fn take_store(&mut self, path: &str) -> Result<(), KeepFault>
+    fn note_row<T>(&self, serial: u32, answer: &io::Result<T>) {
+        if let Some(store) = &self.store {
+            self.note(store.path(), Some(serial), answer);
+        }
+    }
+
+    fn taken(&self) -> io::Result<&Store> {
+        self.store
+            .as_ref()
+            .ok_or_else(|| own_fault("no store is taken"))
+    }
+
+    fn take_store(&mut self, path: &str) -> io::Result<()>
         ensures faults { self.new.faults ≡ self.old.faults }
     {
-        let store = Store::open(self.rt, self.rt.alloc(), path).map_err(keep_fault)?;
-        self.store = Some(store);
+        self.store = Some(Store::open(self.rt, path)?);
         Ok(())
     }
 
-    fn put_row(&self, serial: u32, entry: &Entry) -> Result<(), KeepFault> {
+    fn put_row(&self, serial: u32, entry: &Entry) -> io::Result<()> {
         let alloc = self.rt.alloc();
         let bytes = row_bytes(alloc, entry)?;
-        self.taken()?
-            .put(self.rt, alloc, serial, &bytes)
-            .map_err(keep_fault)
+        self.taken()?.put(self.rt, alloc, serial, &bytes)
     }
 
-    fn load_row(&self, serial: u32) -> Result<Option<Entry>, KeepFault> {
+    fn load_row(&self, serial: u32) -> io::Result<Option<Entry>> {
         let alloc = self.rt.alloc();
-        match self.taken()?.read(self.rt, alloc, serial) {
-            Ok(Some(bytes)) => row_of(alloc, &bytes),
-            Ok(None) => Ok(None),
-            Err(fault) => Err(keep_fault(fault)),
+        let store = self.taken()?;
+        let Some(bytes) = store.read(self.rt, alloc, serial)? else {
+            return Ok(None);
+        };
+        match row_of(alloc, &bytes) {
+            Ok(None) if store.has_later(serial) => Err(own_fault("cut, and later rows are there")),
+            Ok(row) => Ok(row),
+            Err(KeepFault::Failed) => Err(own_fault("no row of version 1 or 2")),
+            Err(KeepFault::NoMemory) => Err(io::Error::from(io::ErrorKind::OutOfMemory)),
         }
     }
 }
@@ -91,22 +116,28 @@ impl<R: Files<File = File> + AllocGlobal> Keeper for FileKeeper<'_, R> {
     /// `Failed` only where the count of faults rose, as where another keeper has the folder.
     fn attach(&mut self, store: &str) -> Result<(), KeepFault> {
         let taken = self.take_store(store);
+        self.note(store, None, &taken);
         self.count(taken)
     }
 
     /// Keeps a row, which is then on the disk. A file of its serial is replaced.
     ///
-    /// `Failed` only where the count of faults rose.
+    /// `Failed` only where the count of faults rose, as where another folder stands in the place of
+    /// the one that was taken.
     fn put(&mut self, serial: u32, entry: &Entry) -> Result<(), KeepFault> {
         let put = self.put_row(serial, entry);
+        self.note_row(serial, &put);
         self.count(put)
     }
 
-    /// The row of a serial. `None` where it has no file, or one that does not end in LF.
+    /// The row of a serial. `None` where it has no file, or one that does not end in LF, and no
+    /// later row was there when the folder was taken.
     ///
-    /// `Failed` only where the count of faults rose, as where the file is no entry.
+    /// `Failed` only where the count of faults rose, as where a later row was there, or the file is
+    /// no row.
     fn load(&mut self, serial: u32) -> Result<Option<Entry>, KeepFault> {
         let row = self.load_row(serial);
+        self.note_row(serial, &row);
         self.count(row)
     }
 }

@@ -5,6 +5,9 @@
 //! Rule: docs/RULES.md, "Rows in files".
 #![tactic(auto)]
 
+mod faults;
+mod files;
+mod folder;
 mod keeper;
 mod rows;
 mod store;
