@@ -8,7 +8,6 @@ lepton-netlist that takes more than S seconds (300) is stopped. Peaks of memory 
 10 MiB. Nothing claims that the two print the same.
 """
 import argparse
-import pathlib
 import shutil
 import subprocess
 import sys
@@ -16,10 +15,11 @@ import tempfile
 
 sys.dont_write_bytecode = True
 
-from built import PROGRAM
+import paths
+from built import built
+from comparing import put
+from measure import measured
 from part_shapes import board
-from projects import put
-from reading import measured
 from sheet_shapes import instances
 
 LIBRARY = b'(component-library ".")\n(source-library ".")\n'
@@ -37,12 +37,12 @@ def told(program, folder, words):
 def main():
     parser = argparse.ArgumentParser(description=__doc__.split("\n")[0])
     parser.add_argument("--seconds", default="300")
-    parser.add_argument("program", nargs="?", default=PROGRAM)
+    parser.add_argument("program", nargs="?")
     asked = parser.parse_args()
-    program = pathlib.Path(asked.program).resolve()
+    program = built(asked.program)
     lepton, timeout = shutil.which("lepton-netlist"), shutil.which("timeout")
-    if not program.exists() or not lepton:
-        sys.exit("the program is not built, or there is no lepton-netlist")
+    if not lepton:
+        sys.exit("there is no lepton-netlist")
     version = subprocess.run([lepton, "--version"], capture_output=True, text=True).stdout
     print(version.split("\n")[0])
     for shape, count in SHAPES:

@@ -1,22 +1,21 @@
 #!/usr/bin/env python3
 """Times histories of small entries on a project of 10,000 objects, and tells the peak of memory.
 
-Usage: desk_times.py [PROGRAM]. The program is that of the crate edit_cases, as `rt run` builds it; it
-reads each history as a case of a table, and what comes is compared. Each row is the best of five
+Usage: desk_times.py [PROGRAM]. The program is that of the crate edit_cases, as `rt run` builds it;
+it reads each history as a case of a table, and what comes is compared. Each row is the best of five
 runs, the start of the program and the reading of the table and of the entries as JSON included, for
 10,000 entries and for 100,000: ten times the entries may take ten times as long. The last shape has
 entries that are refused before anything is made, so it tells what the reading takes.
 """
 import json
-import pathlib
 import sys
-import tempfile
 
 sys.dont_write_bytecode = True
 
-from reading import RUNS, measured
+import paths
+from built import case_program
+from measure import best_of_table
 
-PROGRAM = pathlib.Path(__file__).resolve().parent.parent / "crates/edit_cases/out/edit_cases"
 OBJECTS = 10_000
 
 
@@ -27,7 +26,8 @@ def entry(number, base, **edit):
 def moves(count):
     """Objects that move, one after the other."""
     for k in range(count):
-        yield entry(k + 2, k + 1, kind="move", ids=[k % OBJECTS], dx=1 - 2 * (k // OBJECTS % 2), dy=0)
+        dx = 1 - 2 * (k // OBJECTS % 2)
+        yield entry(k + 2, k + 1, kind="move", ids=[k % OBJECTS], dx=dx, dy=0)
 
 
 def additions(count):
@@ -72,21 +72,11 @@ def table(shape, count):
     return lines + ["$ h last 1", "> " + ("NumberGap { last: 1 }" if shape is gaps else last)]
 
 
-def timed(program, lines):
-    with tempfile.TemporaryDirectory() as folder:
-        path = pathlib.Path(folder) / "times.txt"
-        path.write_text("\n".join(lines) + "\n", encoding="utf-8")
-        found = [measured(program, folder, [path.name]) for _ in range(RUNS)]
-        return min(run[1] for run in found), max(run[2] for run in found)
-
-
 def main():
-    program = str(pathlib.Path(sys.argv[1] if len(sys.argv) > 1 else PROGRAM).resolve())
-    if not pathlib.Path(program).exists():
-        sys.exit(f"{program} is not built: use `rt run` in crates/edit_cases")
+    program = case_program("edit_cases", *sys.argv[1:])
     for shape in (moves, additions, attributes, undos, gaps):
         for count in (10_000, 100_000):
-            seconds, peak = timed(program, table(shape, count))
+            seconds, peak = best_of_table(program, table(shape, count))
             print(f"{shape.__name__:12} {count:7}: {seconds:6.2f} s, {peak / 2**20:6.1f} MiB")
 
 

@@ -1,11 +1,11 @@
 #!/usr/bin/env python3
-"""Times the reading of bodies of 1, 2 and 4 MiB that are large in one way each, and tells the peak of
-memory.
+"""Times the reading of bodies of 1, 2 and 4 MiB that are large in one way each, and tells the peak
+of memory.
 
-Usage: entry_bodies.py [PROGRAM]. The program is that of the crate edit_cases, as `rt run` builds it;
-it reads each body as a case of a table, and what the body comes to is compared. Each row is the best
-of five runs, the start of the program and the reading of the table included. Nothing may grow faster
-than its body, but for keys, which are sorted.
+Usage: entry_bodies.py [PROGRAM]. The program is that of the crate edit_cases, as `rt run` builds
+it; it reads each body as a case of a table, and what the body comes to is compared. Each row is the
+best of five runs, the start of the program and the reading of the table included. Nothing may grow
+faster than its body, but for keys, which are sorted.
 """
 import pathlib
 import subprocess
@@ -14,9 +14,10 @@ import tempfile
 
 sys.dont_write_bytecode = True
 
-from reading import RUNS, measured
+import paths
+from built import case_program
+from measure import best
 
-PROGRAM = pathlib.Path(__file__).resolve().parent.parent / "crates/edit_cases/out/edit_cases"
 MIB = 1_048_576
 ENTRY = '"session":"ann","number":1,"base":0,"edit":'
 RENUMBER = ENTRY + '{"kind":"renumber"}'
@@ -84,7 +85,9 @@ def blanks(size):
     return repeated(" ", size), ""
 
 
-SHAPES = [one_string, escapes, one_key, rising_keys, mixed_keys, ids, nests, brackets, digits, blanks]
+SHAPES = [
+    one_string, escapes, one_key, rising_keys, mixed_keys, ids, nests, brackets, digits, blanks,
+]
 
 
 def table(body, pointer):
@@ -99,18 +102,16 @@ def row(program, shape, size):
         run = subprocess.run([program, "large.txt"], cwd=folder, capture_output=True, text=True)
         if run.stdout != "large.txt: 1 cases, 0 wrong\n":
             sys.exit(f"{shape.__name__}: {run.stdout[:200]} {run.stderr[:200]}")
-        runs = [measured(program, folder, ["large.txt"]) for _ in range(RUNS)]
-    seconds, peak = min(run[1] for run in runs), max(run[2] for run in runs)
-    print(f"{shape.__name__:12} {size // MIB} MiB {1000 * seconds:8.1f} ms {peak / MIB:7.1f} MiB", flush=True)
+        seconds, peak = best(program, folder, ["large.txt"])
+    said = f"{1000 * seconds:8.1f} ms {peak / MIB:7.1f} MiB"
+    print(f"{shape.__name__:12} {size // MIB} MiB {said}", flush=True)
 
 
 def main():
-    program = pathlib.Path(sys.argv[1] if len(sys.argv) > 1 else PROGRAM).resolve()
-    if not program.exists():
-        sys.exit("the program is not built")
+    program = case_program("edit_cases", *sys.argv[1:])
     for shape in SHAPES:
         for size in (MIB, 2 * MIB, 4 * MIB):
-            row(str(program), shape, size)
+            row(program, shape, size)
 
 
 if __name__ == "__main__":

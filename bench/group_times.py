@@ -18,9 +18,11 @@ import time
 
 sys.dont_write_bytecode = True
 
+import paths
+from built import built
 from netlist import VERSION, comb, overlapping, single, small, star, wire
+from served import Served
 from writers import SHEET, Writer
-from served import Served, program
 
 EDITS = 200
 MEMORY = pathlib.Path("/dev/shm")
@@ -110,8 +112,7 @@ def told(seconds):
 
 
 def main():
-    if not program():
-        sys.exit("no program is built: GAFD names one")
+    built()
     edits = int(sys.argv[1]) if len(sys.argv) > 1 else EDITS
     for what, shape, count, place in ROWS:
         comes, report, moves = timed(shape, count, place, edits)

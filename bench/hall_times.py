@@ -2,21 +2,20 @@
 """Times edits and reports on connections of a hall over a keeper in memory.
 
 Usage: hall_times.py [PROGRAM]. The program is that of the crate hall_cases, as `rt run` builds it;
-it reads each connection as a case of a table, and what comes is compared. Each row is the best of five
-runs, the start of the program and the reading of the table included: moves on a sheet of 10,000
-wires that touch nothing, as `POST /edits`, 10,000 on each connection; and `GET /sheets` of an empty
-project, 10,000 times on one connection. Ten times the edits may take ten times as long.
+it reads each connection as a case of a table, and what comes is compared. Each row is the best of
+five runs, the start of the program and the reading of the table included: moves on a sheet of
+10,000 wires that touch nothing, as `POST /edits`, 10,000 on each connection; and `GET /sheets` of
+an empty project, 10,000 times on one connection. Ten times the edits may take ten times as long.
 """
 import json
-import pathlib
 import sys
-import tempfile
 
 sys.dont_write_bytecode = True
 
-from reading import RUNS, measured
+import paths
+from built import case_program
+from measure import best_of_table
 
-PROGRAM = pathlib.Path(__file__).resolve().parent.parent / "crates/hall_cases/out/hall_cases"
 OBJECTS = 10_000
 OF_ONE = 9_999
 
@@ -66,20 +65,10 @@ def looks(count):
     return [*lines, f"> {count} times {reply}", "> Closed"]
 
 
-def timed(program, lines):
-    with tempfile.TemporaryDirectory() as folder:
-        path = pathlib.Path(folder) / "times.txt"
-        path.write_text("\n".join(lines) + "\n", encoding="utf-8")
-        found = [measured(program, folder, [path.name]) for _ in range(RUNS)]
-        return min(run[1] for run in found), max(run[2] for run in found)
-
-
 def main():
-    program = str(pathlib.Path(sys.argv[1] if len(sys.argv) > 1 else PROGRAM).resolve())
-    if not pathlib.Path(program).exists():
-        sys.exit(f"{program} is not built: use `rt run` in crates/hall_cases")
+    program = case_program("hall_cases", *sys.argv[1:])
     for shape, count in ((edits, 10_000), (edits, 100_000), (looks, OF_ONE)):
-        seconds, peak = timed(program, shape(count))
+        seconds, peak = best_of_table(program, shape(count))
         print(f"{shape.__name__} {count:7}: {seconds:6.2f} s, {peak / 2**20:6.1f} MiB")
 
 

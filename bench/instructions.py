@@ -24,17 +24,18 @@ import time
 
 sys.dont_write_bytecode = True
 
+import paths
 import netlist
-import numbering
+import numbering_times
 import part_shapes
 import project_limits
 import reading
 import sheet_shapes
 import symbols
+from comparing import put
 from drawing import LIBRARY, part, wire
 from part_shapes import sheet
 from parts import words_of
-from projects import put
 
 HEAD = "| shape | command | instructions before | after | peak before | after |"
 MEMORY = pathlib.Path("/dev/shm")
@@ -74,7 +75,7 @@ def rows():
         files = {"x.sch": reading.filled(shape())}
         yield f"4 MiB of {shape.__name__}", ["export", "netlist"], files, ["x.sch"]
     for count, sheets in ((10_000, 1), (10_000, 100), (100_000, 2)):
-        files = numbering.open_sheets(count, sheets)
+        files = numbering_times.open_sheets(count, sheets)
         yield f"components R? {count:,}, sheets {sheets:,}", ["renumber"], files, [*files]
     yield from symbol_rows()
     for count in (1_000, 4_000, 16_000):

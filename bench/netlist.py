@@ -3,7 +3,7 @@
 
 Usage: netlist.py [PROGRAM]. For each shape and 1,000, 10,000 and 100,000 conductors: the best of as
 many runs as fit into some seconds, the program's start included, and how much longer a sheet takes
-than one of a tenth of its size. Run it after the program was built (`./gafd` builds it).
+than one of a tenth of its size.
 """
 import pathlib
 import random
@@ -14,7 +14,8 @@ import time
 
 sys.dont_write_bytecode = True
 
-from built import PROGRAM
+import paths
+from built import built
 
 VERSION = "v 20130925 2\n"
 PINS = 100
@@ -105,7 +106,7 @@ def best(program, folder, text):
 
 
 def main():
-    program = pathlib.Path(sys.argv[1] if len(sys.argv) > 1 else PROGRAM).resolve()
+    program = built(*sys.argv[1:])
     with tempfile.TemporaryDirectory() as folder:
         for shape in (single, comb, overlapping, crossing, small, star):
             last = None

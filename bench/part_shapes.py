@@ -3,6 +3,7 @@ each a function from a count to the files of a folder, with the counts.
 """
 import random
 
+import paths
 from drawing import VERSION, component, numbered, symbol, wire
 
 # Five symbols of 20 pins in all. Each has one at (0,0) and one at (1000,0), for the wires.

@@ -10,11 +10,9 @@ and how much longer it takes than the row above; the peak is that of these runs,
 some 10 MiB, which is what the process that starts the program has itself. With --drc each shape has
 a second row, for `drc` of the same files and how much longer it takes than `netlist`; where no WORD
 is given the shapes are then the boards, and as many parts in sheets below. With --check what goes
-out is compared with the rules told in project_rules.py and check_rules.py. Run it after the program
-was built (`./gafd` builds it).
+out is compared with the rules told in project_rules.py and check_rules.py.
 """
 import argparse
-import pathlib
 import subprocess
 import sys
 import tempfile
@@ -22,15 +20,15 @@ import time
 
 sys.dont_write_bytecode = True
 
+import paths
 import check_rules
 import part_shapes
 import project_rules
 import sheet_shapes
-from built import PROGRAM
-from projects import put
-from reading import measured
+from built import built
+from comparing import put
+from measure import RUNS, measured
 
-RUNS = 5
 SECONDS = 15
 LONGEST = 60
 AIMS = {1_000: 30, 10_000: 200}
@@ -96,11 +94,9 @@ def main():
     parser.add_argument("--check", action="store_true")
     parser.add_argument("--drc", action="store_true")
     parser.add_argument("--only", default="")
-    parser.add_argument("program", nargs="?", default=PROGRAM)
+    parser.add_argument("program", nargs="?")
     asked = parser.parse_args()
-    program = str(pathlib.Path(asked.program).resolve())
-    if not pathlib.Path(program).exists():
-        sys.exit(f"{program} is not built: run ./gafd once")
+    program = str(built(asked.program))
     for shape, count in shapes_of(asked.only, asked.drc):
         files = shape(count)
         found = timed(program, "netlist", files, asked.check)

@@ -6,40 +6,18 @@ five runs, the program's start included; the peak is that of all runs, and has a
 10 MiB, which is what the process that starts the program has itself. Then files about the greatest
 size are read: one byte below it, just of it, and one above.
 """
-import json
 import pathlib
-import subprocess
 import sys
 import tempfile
 
 sys.dont_write_bytecode = True
 
-from built import PROGRAM
+import paths
+from built import built
+from measure import RUNS, measured
 
 MOST_BYTES = 4_194_304
 VERSION = "v 20130925 2\n"
-RUNS = 5
-
-# A process of its own starts the program, since a child counts the memory of its parent.
-STARTER = """
-import json, os, sys, time
-null = os.open(os.devnull, os.O_WRONLY)
-start = time.perf_counter()
-quiet = [(os.POSIX_SPAWN_DUP2, null, 1)]
-pid = os.posix_spawn(sys.argv[1], sys.argv[1:], os.environ, file_actions=quiet)
-_, status, used = os.wait4(pid, 0)
-seconds = time.perf_counter() - start
-print(json.dumps([os.waitstatus_to_exitcode(status), seconds, used.ru_maxrss * 1024]))
-"""
-
-
-def measured(program, folder, words):
-    """Status, seconds, the peak of memory in bytes, and what stands on standard error."""
-    start = [sys.executable, "-S", "-E", "-c", STARTER, program, *words]
-    run = subprocess.run(start, cwd=folder, capture_output=True, check=True)
-    return (*json.loads(run.stdout), run.stderr.decode().strip())
-
-
 def filled(parts):
     """A sheet of so many of these objects as 4 MiB have room for."""
     lines, size = [VERSION], len(VERSION)
@@ -93,7 +71,7 @@ def of_size(size):
 
 
 def main():
-    program = pathlib.Path(sys.argv[1] if len(sys.argv) > 1 else PROGRAM).resolve()
+    program = str(built(*sys.argv[1:]))
     with tempfile.TemporaryDirectory() as folder:
         file = pathlib.Path(folder, "bench.sch")
         for shape in (texts, nets, symbols):

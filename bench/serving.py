@@ -34,9 +34,11 @@ import time
 
 sys.dont_write_bytecode = True
 
+import paths
 import part_shapes
+from built import built
+from served import Served, free_port
 from writers import Writer
-from served import Served, free_port, program
 
 WRITERS = 8
 NGINX = """
@@ -237,8 +239,7 @@ def starts(counts):
 
 
 def main():
-    if not program():
-        sys.exit("no program is built: GAFD names one")
+    built()
     command, numbers = (sys.argv[1:2] or [""])[0], [int(word) for word in sys.argv[2:]]
     if command == "edits":
         edits(*numbers or [5])

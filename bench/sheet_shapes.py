@@ -1,6 +1,7 @@
 """Many sheets and many instances of parts, in shapes that are hard in different ways: `SHAPES`,
 each a function from a count to the files of a folder, with the counts.
 """
+import paths
 from drawing import component, pin, symbol, wire
 from part_shapes import ONE, SYMBOLS, sheet, spots
 

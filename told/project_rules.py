@@ -7,8 +7,8 @@ all orders are those of code points, which is that of the bytes of UTF-8.
 import collections
 import itertools
 
-from compare import flat, word
 from hierarchy_rules import NAME, Ends, gathered, groups_of, instances_of
+from printed import flat, word
 
 VALUES = ("device", "value", "footprint")
 

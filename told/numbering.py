@@ -1,16 +1,11 @@
 #!/usr/bin/env python3
-"""Compares `renumber` of the built program with docs/RULES.md, "Numbering", told again here, and
-times it.
+"""Compares `renumber` of the program with docs/RULES.md, "Numbering", told again here.
 
-Usage:
-  numbering.py [--seed S] [--count N] [PROGRAM]    N random runs (1, 2000), and files that cannot be
-                                                   written
-  numbering.py --times [PROGRAM]                   10,000 and 100,000 components without numbers,
-                                                   beside `netlist` of the same sheets
-
-PROGRAM is out/gafd of the repository where none is named. Of each run the status, what goes out, the
-error line, and the bytes and permissions of all files afterwards must be those told here; a second
-run must change nothing. At the first difference the folder is kept, and the status is 1.
+Usage: numbering.py [--seed S] [--count N] [PROGRAM]. N random runs (1, 2000) come after files that
+cannot be written. Of each run the status, what goes out, the error line, and the bytes and
+permissions of all files afterwards must be those told here; a second run must change nothing. At
+the first difference the folder is kept, and the status is 1. README.md has what PROGRAM is where
+none is named.
 """
 import argparse
 import itertools
@@ -25,11 +20,11 @@ import time
 
 sys.dont_write_bytecode = True
 
-from built import PROGRAM
+from built import built
+from comparing import put
 from geda_files import Item, canonical, read_sheet
 from hierarchy_rules import Ends, gathered
 from project_rules import asked_of
-from projects import put
 from random_projects import random_folder
 
 OPEN = [b"R?", b"R?", b"R?", b"U?", b"?", b"R??", b"R1?", b"U?a", b"U1/R?", b"? ?", b"\xc3\xa9?"]
@@ -53,7 +48,7 @@ def set_refdes(item, refdes):
 
 
 def number(project):
-    """Numbers the components of a project; the sheets that change, and how many numbers there are."""
+    """Numbers the components of a project: the sheets that change, and how many numbers came."""
     used = {component.refdes for sheet in project.sheets.values() for component in sheet.components}
     last, changed, count = {}, [], 0
     for name, sheet in sorted(project.sheets.items()):
@@ -213,48 +208,13 @@ def edges(program):
     return 0
 
 
-def best_of(program, files, words):
-    """The best time of five runs, each in a folder of its own, and that in the program itself."""
-    runs = []
-    for _ in range(5):
-        with tempfile.TemporaryDirectory() as folder:
-            put(folder, files)
-            started, used = time.perf_counter(), os.times().children_user
-            subprocess.run([program, *words], cwd=folder, check=True, capture_output=True)
-            runs.append((time.perf_counter() - started, os.times().children_user - used))
-    return min(runs)
-
-
-def open_sheets(count, sheets):
-    """So many components without numbers, on so many sheets."""
-    one = "C 0 0 1 0 0 r.sym\n{\nT 0 0 5 10 1 1 0 0 1\nrefdes=R?\n}\n"
-    text = "v 20130925 2\n" + one * (count // sheets)
-    return {f"s{k}.sch": text.encode() for k in range(sheets)}
-
-
-def times(program):
-    for count, sheets in ((10_000, 1), (10_000, 100), (100_000, 2), (100_000, 1000)):
-        files = open_sheets(count, sheets)
-        said = []
-        for word in ("renumber", "netlist"):
-            whole, own = best_of(program, files, [word, *files])
-            said.append(f"{word} {whole:.3f} s, {own:.2f} s of it in the program")
-        print(f"{count:,} on {sheets:,} sheets: {'; '.join(said)}")
-    return 0
-
-
 def main():
     parser = argparse.ArgumentParser(description=__doc__.split("\n")[0])
     parser.add_argument("--seed", default="1")
     parser.add_argument("--count", type=int, default=2000)
-    parser.add_argument("--times", action="store_true")
-    parser.add_argument("program", nargs="?", default=PROGRAM)
+    parser.add_argument("program", nargs="?")
     asked = parser.parse_args()
-    program = pathlib.Path(asked.program).resolve()
-    if not program.exists():
-        sys.exit(f"{program} is not built: run ./gafd once")
-    if asked.times:
-        return times(program)
+    program = built(asked.program)
     return edges(program) or compare(program, asked.seed, asked.count)
 
 

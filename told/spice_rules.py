@@ -4,8 +4,8 @@ Net list and packages are those of project_rules.py. It shares no code with the 
 """
 import re
 
-from compare import flat, word
 from hierarchy_rules import Ends, gathered, groups_of, instances_of
+from printed import flat, word
 from project_rules import asked_of, listed_nets, packages_of
 
 PINS = {**dict.fromkeys("RCLVID", 2), "Q": 3, "M": 4}

@@ -20,12 +20,13 @@ import tempfile
 
 sys.dont_write_bytecode = True
 
+from built import built
 from drawing import VERSION, component, embedded, numbered, symbol, wire
 from edit_rules import Desk, attached, objects, project_of, told
 from geda_files import canonical
 from project_rules import answer_of
+from served import Served
 from writers import Writer
-from served import Served, program
 
 SHEETS = ("a.sch", "b.sch")
 LIBRARY = "lib.sym"
@@ -218,8 +219,7 @@ def main():
     parser.add_argument("--edits", type=int, default=60)
     parser.add_argument("--seed", default="1")
     asked = parser.parse_args()
-    if not program():
-        sys.exit("no program is built: GAFD names one")
+    built()
     counts = Counts()
     for number in range(asked.lists):
         run_list(asked.seed, number, asked.edits, counts)

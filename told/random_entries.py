@@ -11,11 +11,15 @@ COORDINATES = (0, 0, 100, 500, -300, 199_900, -200_000, 200_000)
 OFFSETS = (0, 100, -100, 1_000, 400_000, -399_999)
 NAMES = ("refdes", "value", "net", "x", "", "a b", "a=b")
 VALUES = ("R?", "R1", "C?", "10k", "", " x", "x ", "a=b", "1\r")
-BAD_TEXTS = ("", "x\n", "N 0 0 1 4\n", "N 0 0 1 x 4\n", "N 200001 0 0 0 4\n", "N 0 0 0 0 4\n{\n", "}\n")
+BAD_TEXTS = (
+    "", "x\n", "N 0 0 1 4\n", "N 0 0 1 x 4\n", "N 200001 0 0 0 4\n", "N 0 0 0 0 4\n{\n", "}\n",
+)
+
+PAIRS = (("refdes", "R?"), ("refdes", "R2"), ("value", "1"), ("graphical", "1"))
 
 
 def label(rng):
-    name, value = rng.choice((("refdes", "R?"), ("refdes", "R2"), ("value", "1"), ("graphical", "1")))
+    name, value = rng.choice(PAIRS)
     is_text = rng.random() < 0.15
     return LABEL.format(rng.choice(COORDINATES), 100, "text" if is_text else f"{name}={value}")
 
@@ -82,8 +86,8 @@ def kind_of(rng, desk, known):
     kinds["undo"] = min(5, 2 * len(desk.entries)) + 0.05
     kinds["add_object"] = 3 if desk.sheets() else 0.1
     kinds["delete"] = 2 if known else 0.05
-    for kind, often in (("replace", 2), ("move", 3), ("turn", 2), ("set_attr", 3), ("drop_attr", 1)):
-        kinds[kind] = often if known else 0.05
+    often = {"replace": 2, "move": 3, "turn": 2, "set_attr": 3, "drop_attr": 1}
+    kinds.update(often if known else dict.fromkeys(often, 0.05))
     return rng.choices(list(kinds), kinds.values())[0]
 
 

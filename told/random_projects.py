@@ -5,7 +5,7 @@ over sheets of lower ones; labels of pins, refdes, and names are drawn from the 
 """
 import random
 
-import compare
+import plain_sheets
 from random_files import VERSION, damaged
 
 REFDES = ["R1", "R1", "R2", "R10", "U1", "U1", "U?", "R 3", "r\n1", "R/1", "é", "?", "R1\t"]
@@ -42,7 +42,7 @@ RARE_NAMES = ["bad.sym", "s0.sch", "box.sym"]
 NO_NAMES = [".hid.sym", "é.sym", "y" * 101, "none.sym", "A.sym", "sub/a.sym", "..", "EMBEDDE"]
 
 
-class File(compare.Drawing):
+class File(plain_sheets.Drawing):
     """A file that is drawn: how often it has which attributes is drawn once."""
 
     def __init__(self, rng, labels=LABELS, below=()):

@@ -1,5 +1,5 @@
-"""The rules on edits of docs/RULES.md, told again: what an edit changes, and the verdict on an entry
-after a history. Each verdict looks at the whole history anew.
+"""The rules on edits of docs/RULES.md, told again: what an edit changes, and the verdict on an
+entry after a history. Each verdict looks at the whole history anew.
 """
 import copy
 import json

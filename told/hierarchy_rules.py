@@ -2,15 +2,15 @@
 make, and what joins in each.
 
 It shares no code with the program: files are read by geda_files.py, and which conductors touch is
-told in compare.py. A folder is a dictionary from names of files to bytes; a file below a name with
+told in touching.py. A folder is a dictionary from names of files to bytes; a file below a name with
 `/` makes that name a folder, which can't be read.
 """
 import collections
 import re
 
-from compare import classes, classes_by_ends
 from component_rules import Component, attributes, values_of
 from geda_files import Fault, canonical, read_sheet, read_symbol, written
+from touching import classes, classes_by_ends
 
 MOST_OBJECTS = 100_000
 MOST_SHEETS = 1_024

@@ -23,8 +23,9 @@ import time
 
 sys.dont_write_bytecode = True
 
-from writers import SHEET, Writer
+from built import built
 from served import Served
+from writers import SHEET, Writer
 
 MOST = 300
 
@@ -72,6 +73,7 @@ def main():
     parser.add_argument("--writers", type=int, default=4)
     parser.add_argument("--seed", default="1")
     asked = parser.parse_args()
+    built()
     draw = random.Random(asked.seed)
     with tempfile.TemporaryDirectory() as room, Served(pathlib.Path(room, "store")) as server:
         Writer(server.port, "first").opens()

@@ -1,11 +1,10 @@
 #!/usr/bin/env python3
 """Simulates the filter of examples/ with ngspice, and compares its corner with that of its parts.
 
-Usage: spice_corner.py [PROGRAM]. The circuit is what PROGRAM (out/gafd of the repository) prints by
-`netlist --form spice filter.sch`, and that must be filter.cir, byte for byte; where there is no
-program, filter.cir is taken. Where ngspice is installed, corner.cir is run over the circuit, and
-the corner that it measures must be 1 / (2 pi R1 C1) within one in a thousand. Status 1 where
-something differs.
+Usage: spice_corner.py [PROGRAM]. The circuit is what PROGRAM prints by `netlist --form spice
+filter.sch`, and that must be filter.cir, byte for byte; where there is no program, filter.cir is
+taken. Where ngspice is installed, corner.cir is run over the circuit, and the corner that it
+measures must be 1 / (2 pi R1 C1) within one in a thousand. The status is 1 where something differs.
 """
 import math
 import pathlib
@@ -17,9 +16,9 @@ import tempfile
 
 sys.dont_write_bytecode = True
 
-from built import PROGRAM
+from built import PROGRAM, TOP
 
-EXAMPLES = pathlib.Path(__file__).resolve().parent.parent / "examples"
+EXAMPLES = TOP / "examples"
 UNITS = {"": 1.0, "k": 1e3, "n": 1e-9}
 CLOSE = 1e-3
 

@@ -1,5 +1,5 @@
 """Folders with known answers for the rules of spice_rules.py: `case_table`."""
-from drawing import LIBRARY, VERSION, component, embedded, part, pin, wire
+from drawing import LIBRARY, VERSION, embedded, part, pin, wire
 
 
 def alone(refdes, count, *contents):

@@ -1,44 +1,35 @@
 #!/usr/bin/env python3
-"""Compares `work` of the built program with its rules, told again here from docs/RULES.md ("Work",
+"""Compares `work` of the program with its rules, told again here from docs/RULES.md ("Work",
 "Groups", "Touching") and docs/FORMATS.md ("Work text"): what is drawn, what touches, and what the
 changes may cost.
 
 Usage:
   work.py [--seed S] [--count N] [PROGRAM]    N random pairs of START and N (seed 1, 400 pairs)
   work.py --cases [PROGRAM]                   known answers alone
-  work.py --time [--long] [PROGRAM]           times N of 1000, 4000, 16000, with --long 100000 too
 
-PROGRAM is out/gafd of the repository where none is named; the known answers come before the random
-runs. Status, lines and standard error must be those told here, but for the line `calls C`, whose C
-is at most the bound. Each difference is printed with its command, and the status is then 1. With
---cases the known answers are compared with the rules told here and, only where a PROGRAM is named,
-with what it answers. A time is the best of three runs, the program's start included; the peak of
-memory has a floor of some 10 MiB, which is what the process that starts the program has itself.
+The known answers come before the random runs. Status, lines and standard error must be those told
+here, but for the line `calls C`, whose C is at most the bound. Each difference is printed with its
+command, and the status is then 1. README.md has what PROGRAM is where none is named.
 """
-import argparse
 import collections
 import itertools
-import pathlib
 import random
 import re
 import shlex
 import subprocess
 import sys
-import tempfile
 import time
 
 sys.dont_write_bytecode = True
 
-from built import PROGRAM
-from projects import failed_of
-from reading import measured
+from built import built
+from comparing import arguments, status_of
 
 PRIME, FACTOR = 2_147_483_647, 48_271
 MOST_START = 4_294_967_295
 GRID = 100
 PIN_PLACES = (0, 300)
 NAMES = ("live", "conductors", "groups", "nets", "bound")
-RUNS = 3
 LONGEST = 60
 
 
@@ -205,9 +196,7 @@ def self_test():
         cases.append((f"work {start} {count}", work_of(int(start), int(count)), wanted))
     for what, objects, leaving, wanted in MANY:
         cases.append((what, sheet_of(objects, leaving), wanted))
-    failed = failed_of(cases)
-    print(f"{len(cases)} known answers:", f"{failed} failed" if failed else "all passed")
-    return 1 if failed else 0
+    return status_of("known answers of work", cases)
 
 
 # The program.
@@ -303,43 +292,13 @@ def compare_runs(program, runs):
     return 1 if differ else 0
 
 
-def time_runs(program, counts):
-    """Prints a row for each count, and how much longer it takes than the row above."""
-    last = None
-    for count in counts:
-        words = ["work", "7", str(count)]
-        with tempfile.TemporaryDirectory() as folder:
-            runs = [measured(program, folder, words) for _ in range(RUNS)]
-        for status, _, _, said in runs:
-            if status != 0:
-                sys.exit(f"work 7 {count}: status {status} {said}")
-        best, peak = min(run[1] for run in runs), max(run[2] for run in runs)
-        row = f"work 7 {count:6}: {1000 * best:9.1f} ms, {peak / 2**20:6.1f} MiB"
-        print(row if last is None else f"{row}, {best / last:5.1f} times", flush=True)
-        last = best
-    return 0
-
-
 def main():
-    parser = argparse.ArgumentParser(description=__doc__.split("\n")[0])
-    parser.add_argument("--seed", default="1")
-    parser.add_argument("--count", type=int, default=400)
-    parser.add_argument("--cases", action="store_true")
-    parser.add_argument("--time", action="store_true")
-    parser.add_argument("--long", action="store_true")
-    parser.add_argument("program", nargs="?")
-    asked = parser.parse_args()
-    failed = self_test() if asked.cases else 0
+    asked = arguments(__doc__, 400).parse_args()
+    failed = asked.cases and self_test()
     if failed or (asked.cases and not asked.program):
         return failed
-    program = pathlib.Path(asked.program or PROGRAM).resolve()
-    if not program.exists():
-        sys.exit(f"{program} is not built: run ./gafd once")
-    if asked.cases:
-        return compare_runs(str(program), known_runs())
-    if asked.time:
-        return time_runs(str(program), (1000, 4000, 16000) + (100_000,) * asked.long)
-    return compare_runs(str(program), random_runs(asked.seed, asked.count))
+    runs = random_runs(asked.seed, 0 if asked.cases else asked.count)
+    return compare_runs(str(built(asked.program)), runs)
 
 
 if __name__ == "__main__":

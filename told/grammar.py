@@ -1,22 +1,21 @@
 #!/usr/bin/env python3
-"""Compares the built program with the grammar of docs/FORMATS.md, told again in geda_files.py.
+"""Compares the program with the grammar of docs/FORMATS.md, told again in geda_files.py.
 
 It draws random files, damages most of them, and asks the program for `export` of each, as a sheet
 and as a symbol, and for `netlist`: bytes, status and error line must be those told here, without a
-line of the program's code. No symbols lie beside the files; bench/projects.py has those.
+line of the program's code. No symbols lie beside the files; projects.py has those.
 
 Usage:
-  grammar.py [--seed S] [--files N] [--jobs J]    random files (1, 4000, 4)
-  grammar.py --folder FOLDER [--alone]            each .sch and .sym below a folder
-  grammar.py --edges                              files at the limits, of up to 4 MiB
-  grammar.py --self-test                          the Python reader on cases with known answers
+  grammar.py [--seed S] [--count N] [--jobs J] [PROGRAM]    random files (1, 4000, 4)
+  grammar.py --folder FOLDER [--alone] [PROGRAM]            each .sch and .sym below a folder
+  grammar.py --edges [PROGRAM]                              files at the limits, of up to 4 MiB
+  grammar.py --cases                                        files with known answers
 
-With --alone the program is not run: it tells what the Python reader finds. --program names another
-program than out/gafd. A difference is printed when it is found, and each hundredth file
-says how far it is. The status is 1 where something differs; the first twenty files that differ are
-kept, cut down to the lines that matter, in a folder that is printed.
+With --alone and with --cases no program is run: it tells what the Python reader finds. A difference
+is printed when it is found, and each hundredth file says how far it is. The status is 1 where
+something differs; the first twenty files that differ are kept, cut down to the lines that matter,
+in a folder that is printed. README.md has what PROGRAM is where none is named.
 """
-import argparse
 import collections
 import multiprocessing
 import pathlib
@@ -27,7 +26,8 @@ import time
 
 sys.dont_write_bytecode = True
 
-from built import PROGRAM
+from built import built
+from comparing import apart, arguments, status_of
 from geda_files import Fault, canonical, read_object, read_sheet, read_symbol, written
 from grammar_cases import case_table
 from project_rules import answer_of
@@ -59,14 +59,8 @@ def differs(program, folder, command, name, data):
         run = subprocess.run([program, command, name], cwd=folder, capture_output=True, timeout=120)
     except subprocess.TimeoutExpired:
         return f"{command} {name}: no end within 120 seconds"
-    got = (run.returncode, run.stdout, run.stderr)
-    if got == wanted:
-        return None
-    if got[:1] + got[2:] != wanted[:1] + wanted[2:]:
-        return f"{command} {name}: got {got[0]} {got[2]!r}, wanted {wanted[0]} {wanted[2]!r}"
-    pairs = zip(got[1].split(b"\n") + [None], wanted[1].split(b"\n") + [None])
-    line, (was, should) = next((n, p) for n, p in enumerate(pairs, 1) if p[0] != p[1])
-    return f"{command} {name}: line {line} is {was!r}, wanted {should!r}"
+    said = apart((run.returncode, run.stdout, run.stderr), wanted)
+    return said and f"{command} {name}: {said}"
 
 
 CALLS = [("export", "x.sch"), ("export", "x.sym"), ("netlist", "x.sch")]
@@ -198,55 +192,55 @@ def compare_folder(program, top, alone):
     return report.status()
 
 
-def self_test():
-    failed = 0
-    for data, read, wanted in case_table():
-        try:
-            got = read(data)
-            got = b"\n".join(written(got) + [b""]) if read is read_object else canonical(got)
-            wanted = data if wanted is None else wanted
-        except Fault as fault:
-            got = (fault.kind, fault.line)
-        if got != wanted:
-            failed += 1
-            print(f"{read.__name__} {data[:80]!r}: {str(got)[:200]}, wanted {str(wanted)[:200]}")
+def outcome_of(read, data):
+    """The canonical text of what is read, or the kind and the line of a fault."""
+    try:
+        got = read(data)
+        return b"\n".join([*written(got), b""]) if read is read_object else canonical(got)
+    except Fault as fault:
+        return fault.kind, fault.line
+
+
+def known_cases():
+    for number, (data, read, wanted) in enumerate(case_table()):
+        what = f"file {number}, {read.__name__} {data[:80]!r}"
+        yield what, outcome_of(read, data), data if wanted is None else wanted
+
+
+def again_cases():
+    """Of each random file that can be read, whether its canonical text is read as the same."""
     for number in range(2_000):
         data = random_file("self", number)
         for read in (read_sheet, read_symbol):
             try:
-                file = read(data)
+                version, items = read(data)
             except Fault:
                 continue
-            again = read(canonical(file))
-            told = lambda it: (it[0], [item.told() for item in it[1]])
-            if told(again) != told(file) or canonical(again) != canonical(file):
-                failed += 1
-                print(f"{data!r} is not read again")
-    print("self-test:", f"{failed} cases failed" if failed else "all cases passed")
-    return 1 if failed else 0
+            text = canonical((version, items))
+            again_version, again = read(text)
+            got = again_version, [item.told() for item in again], canonical((again_version, again))
+            yield f"random file {number}", got, (version, [item.told() for item in items], text)
+
+
+def self_test():
+    failed = status_of("files with known answers", list(known_cases()))
+    return status_of("canonical texts of random files", list(again_cases())) or failed
 
 
 def main():
-    parser = argparse.ArgumentParser(description=__doc__.split("\n")[0])
-    parser.add_argument("--seed", default="1")
-    parser.add_argument("--files", type=int, default=4000)
+    parser = arguments(__doc__, 4000)
     parser.add_argument("--jobs", type=int, default=4)
-    parser.add_argument("--program", default=PROGRAM)
-    parser.add_argument("--folder")
     parser.add_argument("--alone", action="store_true")
     parser.add_argument("--edges", action="store_true")
-    parser.add_argument("--self-test", action="store_true")
     asked = parser.parse_args()
-    if asked.self_test:
+    if asked.cases:
         return self_test()
-    program = pathlib.Path(asked.program).resolve()
-    if not asked.alone and not program.exists():
-        sys.exit(f"{program} is not built: run ./gafd once")
+    program = None if asked.alone else built(asked.program)
     if asked.folder:
         return compare_folder(program, asked.folder, asked.alone)
     if asked.edges:
         return compare_edges(program)
-    return compare_random(program, asked.seed, asked.files, asked.jobs)
+    return compare_random(program, asked.seed, asked.count, asked.jobs)
 
 
 if __name__ == "__main__":

@@ -1,14 +1,11 @@
 #!/usr/bin/env python3
-"""Draws random plain sheets and compares what the built program prints with the rules of
-docs/RULES.md, told again in Python.
+"""Draws random plain sheets and compares what the program prints with the rules of docs/RULES.md.
 
-Usage: compare.py [SEED [SHEETS]]. It stops at the first sheet that differs, and prints it.
+Usage: plain_sheets.py [SEED [SHEETS]]. It stops at the first sheet that differs, and prints it.
 The sheets have all letters, bus pins, and spellings that are not canonical. They are plain: their
-symbols are embedded, and nothing has a name, a slot or a sheet below; bench/projects.py has the
-others, and compares what it tells of plain ones with what is told here.
+symbols are embedded, and nothing has a name, a slot or a sheet below; projects.py has the others,
+and compares what it tells of plain ones with what is told here.
 """
-import bisect
-import collections
 import pathlib
 import random
 import subprocess
@@ -17,79 +14,14 @@ import tempfile
 
 sys.dont_write_bytecode = True
 
-from built import PROGRAM
+from built import built
+from printed import flat, word
+from touching import classes, classes_by_ends
 
 UNREAD = ("slot", "net", "source", "graphical")
 
 
-# The rules.
-
-def is_inside(point, ends):
-    """Strictly inside a horizontal or vertical segment."""
-    if len(ends) == 1:
-        return False
-    (ax, ay), (bx, by) = ends
-    upright = point[0] == ax == bx and min(ay, by) < point[1] < max(ay, by)
-    return upright or (point[1] == ay == by and min(ax, bx) < point[0] < max(ax, bx))
-
-
-def touch(a, b):
-    return (
-        any(end in b or is_inside(end, b) for end in a)
-        or any(is_inside(end, a) for end in b)
-    )
-
-
-def classes(conductors):
-    """The classes of touching, as lists of places: all pairs are looked at."""
-    found = []
-    for place, (ends, _) in enumerate(conductors):
-        near = [c for c in found if any(touch(ends, conductors[k][0]) for k in c)]
-        found = [c for c in found if c not in near] + [sum(near, []) + [place]]
-    return found
-
-
-def classes_by_ends(conductors):
-    """The same for many conductors: by the ends at each point and along each line."""
-    above = list(range(len(conductors)))
-
-    def root(place):
-        while above[place] != place:
-            above[place] = above[above[place]]
-            place = above[place]
-        return place
-
-    at, rows, columns = {}, collections.defaultdict(set), collections.defaultdict(set)
-    for place, (ends, _) in enumerate(conductors):
-        for x, y in ends:
-            above[root(at.setdefault((x, y), place))] = root(place)
-            rows[y].add(x)
-            columns[x].add(y)
-    rows = {y: sorted(xs) for y, xs in rows.items()}
-    columns = {x: sorted(ys) for x, ys in columns.items()}
-    for place, (ends, _) in enumerate(conductors):
-        (ax, ay), (bx, by) = ends[0], ends[-1]
-        if ay == by:
-            line, low, high, point = rows[ay], min(ax, bx), max(ax, bx), lambda x: (x, ay)
-        elif ax == bx:
-            line, low, high, point = columns[ax], min(ay, by), max(ay, by), lambda y: (ax, y)
-        else:
-            continue
-        for end in line[bisect.bisect_right(line, low) : bisect.bisect_left(line, high)]:
-            above[root(at[point(end)])] = root(place)
-    found = collections.defaultdict(list)
-    for place in range(len(conductors)):
-        found[root(place)].append(place)
-    return list(found.values())
-
-
-def word(text):
-    return "".join("_" if c in " \t\r\n" else c for c in text)
-
-
-def flat(text):
-    return "".join(" " if c in "\t\r\n" else c for c in text)
-
+# The rules on what was drawn.
 
 def list_text(conductors, packages):
     """The list text: conductors in order of keys, each with its ends and its member, if it is a pin
@@ -296,13 +228,13 @@ class Drawing:
 
 def main():
     seed, sheets = (int(w) for w in (sys.argv[1:] + ["1", "1000"][len(sys.argv) - 1 :]))
-    rng = random.Random(seed)
+    rng, program = random.Random(seed), built()
     with tempfile.TemporaryDirectory() as folder:
         for _ in range(sheets):
             drawing = Drawing(rng)
             wanted = list_text(drawing.conductors, drawing.packages)
             pathlib.Path(folder, "random.sch").write_bytes(drawing.text.encode())
-            words = [PROGRAM, "netlist", "random.sch"]
+            words = [program, "netlist", "random.sch"]
             run = subprocess.run(words, cwd=folder, capture_output=True)
             if run.returncode != 0 or run.stdout != wanted.encode():
                 printed = (run.stdout + run.stderr).decode(errors="replace")

@@ -9,9 +9,9 @@ import functools
 import itertools
 
 import component_rules
-from compare import word
 from component_rules import net_entry, small_number
 from hierarchy_rules import NAME, Ends, gathered, groups_of, instances_of, read
+from printed import word
 from project_rules import asked_of, listed_nets, listed_parts
 
 MOST_BYTES = 4_194_304

@@ -1,10 +1,7 @@
 """Files with known answers, for the reader and the writer of geda_files.py."""
-import pathlib
-
+from built import TOP
 from geda_files import MOST_BYTES, MOST_OBJECTS, read_object, read_sheet, read_symbol
 from random_files import EMBEDDED, NET, VERSION, texts_of_size
-
-TOP = pathlib.Path(__file__).resolve().parent.parent
 
 
 def case_table():

@@ -6,13 +6,12 @@ Usage:
   symbols.py --folder FOLDER [PROGRAM]           all .sym of a folder and below it, in one call
   symbols.py --cases                             the table symbols.txt of crates/file_cases alone
 
-PROGRAM is out/gafd of the repository where none is named. Most random symbols are damaged: pins and
-attributes that are missing, bad or there twice, and lines that are refused. Status, what goes out
-and the error line must be those told here; how often which finding was met is told at the end. At
-the first difference the folder is cut down to what matters, kept and printed, and the status is 1.
-With --cases no program is run: the rows of the tables are compared with the rule told here.
+Most random symbols are damaged: pins and attributes that are missing, bad or there twice, and lines
+that are refused. Status, what goes out and the error line must be those told here; how often which
+finding was met is told at the end. README.md has what PROGRAM is where none is named, and what
+becomes of a difference. With --cases no program is run: the rows of the tables are compared with
+the rule told here.
 """
-import argparse
 import collections
 import pathlib
 import random
@@ -21,16 +20,15 @@ import sys
 
 sys.dont_write_bytecode = True
 
-from built import PROGRAM
+from built import TOP
+from comparing import Command, arguments, compare_asked, status_of
 from component_rules import (
     KINDS, attributes, first_of, net_entry, number_list, small_number, values_of,
 )
 from drawing import pin, symbol
 from geda_files import Fault, read_symbol
-from projects import compare_folders, failed_of
 from random_files import damaged
 
-TOP = pathlib.Path(__file__).resolve().parent.parent
 TABLE = TOP / "crates" / "file_cases" / "data" / "symbols.txt"
 TEXT = "T 0 0 5 10 0 1 0 0 1"
 NAMES = (
@@ -137,23 +135,16 @@ def answer_of(files, words):
     return 7 if errors else 0, text.encode(), b""
 
 
-class Symcheck:
-    """The command: what the rule tells of it, how often which answers came, and which findings."""
+class Symcheck(Command):
+    """Reports are counted by their status, faults by their last word, and each finding."""
 
-    name, answer_of = "symcheck", staticmethod(answer_of)
-
-    def __init__(self):
-        self.sorts, self.names = collections.Counter(), collections.Counter()
+    name, answer_of, findings = "symcheck", staticmethod(answer_of), NAMES
 
     def count(self, answer):
         status, out, err = answer
         self.sorts[err.decode().split()[-1] if err else f"status {status}"] += 1
         lines = (line.split(" ") for line in out.decode().split("\n")[:-2])
         self.names.update(words[1] for words in lines if words[0] in ("error", "warning"))
-
-    def summary(self):
-        sorts = ", ".join(f"{number} {sort}" for sort, number in self.sorts.most_common())
-        return f"{sorts}; of the findings " + ", ".join(f"{self.names[it]} {it}" for it in NAMES)
 
 
 VALUES = {
@@ -260,29 +251,10 @@ def table_rows():
             yield f"line {number}", row_answer(kind, cells, read), lines_of(right.strip())
 
 
-def self_test():
-    cases = list(table_rows())
-    failed = failed_of(cases)
-    print(f"{len(cases)} rows of the tables:", f"{failed} failed" if failed else "all passed")
-    return 1 if failed else 0
-
-
 def main():
-    parser = argparse.ArgumentParser(description=__doc__.split("\n")[0])
-    parser.add_argument("--seed", default="1")
-    parser.add_argument("--count", type=int, default=3000)
-    parser.add_argument("--folder")
-    parser.add_argument("--cases", action="store_true")
-    parser.add_argument("program", nargs="?", default=PROGRAM)
-    asked = parser.parse_args()
-    if asked.cases:
-        return self_test()
-    program = pathlib.Path(asked.program).resolve()
-    if not program.exists():
-        sys.exit(f"{program} is not built: run ./gafd once")
-    if asked.folder:
-        return compare_folders(program, Symcheck(), [folder_of(asked.folder)])
-    return compare_folders(program, Symcheck(), random_folders(asked.seed, asked.count))
+    asked = arguments(__doc__, 3000).parse_args()
+    failed = asked.cases and status_of("rows of the tables of symbols", list(table_rows()))
+    return failed or compare_asked(asked, Symcheck(), (), random_folders, folder_of)
 
 
 if __name__ == "__main__":

@@ -30,8 +30,9 @@ import time
 
 sys.dont_write_bytecode = True
 
+from built import TOP, built
+from served import Served
 from writers import Writer
-from served import TOP, Served, program
 
 SYMBOLS = ("res.sym", "cap.sym", "gnd.sym")
 COMMON = "common.sch"
@@ -267,8 +268,7 @@ def main():
     parser.add_argument("--parts", type=int, default=40)
     parser.add_argument("--seed", default="1")
     asked = parser.parse_args()
-    if not program():
-        sys.exit("no program is built: GAFD names one")
+    built()
     faults = []
     with tempfile.TemporaryDirectory() as room:
         with Served(room + "/store") as server:

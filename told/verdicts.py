@@ -2,9 +2,9 @@
 """Compares the verdicts on random histories, and the sheets after them, with those of docs/RULES.md
 told again ("Changes of edits", "Verdicts").
 
-Usage: verdicts.py [--histories N] [--seed N] [PROGRAM]. The program is that of the crate edit_cases,
-as `rt run` builds it; it reads the histories as cases of a table, some hundred at a time. How often
-each verdict came is told at the end.
+Usage: verdicts.py [--histories N] [--seed N] [PROGRAM]. The program is that of the crate
+edit_cases, as `rt run` builds it; it reads the histories as cases of a table, some hundred at a
+time. How often each verdict came is told at the end.
 """
 import argparse
 import collections
@@ -16,10 +16,10 @@ import tempfile
 
 sys.dont_write_bytecode = True
 
+from built import case_program
 from edit_rules import Desk, told
 from random_entries import history
 
-PROGRAM = pathlib.Path(__file__).resolve().parent.parent / "crates/edit_cases/out/edit_cases"
 AT_A_TIME = 250
 
 
@@ -58,11 +58,9 @@ def main():
     parser = argparse.ArgumentParser(description=__doc__.split("\n")[0])
     parser.add_argument("--histories", type=int, default=10_000)
     parser.add_argument("--seed", type=int, default=1)
-    parser.add_argument("program", nargs="?", default=str(PROGRAM))
+    parser.add_argument("program", nargs="?")
     asked = parser.parse_args()
-    if not pathlib.Path(asked.program).exists():
-        sys.exit(f"{asked.program} is not built: use `rt run` in crates/edit_cases")
-    program = str(pathlib.Path(asked.program).resolve())
+    program = case_program("edit_cases", asked.program)
     rng = random.Random(asked.seed)
     counts, cases, left = collections.Counter(), 0, asked.histories
     while left:

@@ -4,15 +4,13 @@ one sheet; hierarchy_cases.py has those of several.
 In what is wanted `|` stands for a tab, and the lines `parts N` and `nets N` are left out: the
 packages stand before the empty text, the nets behind it.
 """
-import pathlib
-
 import hierarchy_cases
+from built import TOP
 from drawing import (
     DIRECTIVE, LIBRARY, VERSION, alone, answer, block, component, embedded, gate, numbered, one,
     part, pin, text, wire,
 )
 
-TOP = pathlib.Path(__file__).resolve().parent.parent
 STAGE = (
     component("title-B.sym", 40000, 40000)
     + part(44000, 44000, "R1", "value=10k")

@@ -1,10 +1,6 @@
 """Who edits a server as fast as it answers: `Writer`, over one plain connection."""
 import json
-import pathlib
 import socket
-import sys
-
-sys.path.insert(0, str(pathlib.Path(__file__).resolve().parent.parent / "clients"))
 
 SHEET = "w.sch"
 OPENING = {"kind": "add_sheet", "name": SHEET, "text": "v 20130925 2\n"}

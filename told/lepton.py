@@ -15,7 +15,7 @@ import tempfile
 
 sys.dont_write_bytecode = True
 
-from built import PROGRAM
+from built import built
 
 NET = re.compile(r"^\(\n.*\n((?:[^)].*\n)*)\)$", re.M)
 
@@ -72,9 +72,10 @@ def run(words, folder):
 
 
 def main():
-    seed, sheets, program = (sys.argv[1:] + ["1", "20", PROGRAM][len(sys.argv) - 1 :])
+    seed, sheets, program = (sys.argv[1:] + ["1", "20", None][len(sys.argv) - 1 :])
     if not shutil.which("lepton-netlist"):
         sys.exit("there is no lepton-netlist on the PATH")
+    program = built(program)
     rng, differ = random.Random(seed), 0
     with tempfile.TemporaryDirectory() as folder:
         for _ in range(int(sheets)):
@@ -82,7 +83,7 @@ def main():
             pathlib.Path(folder, "random.sch").write_text(drawn)
             run(["lepton-netlist", "-q", "-g", "tango", "-o", "random.net", "random.sch"], folder)
             theirs = nets_of_tango(pathlib.Path(folder, "random.net").read_text())
-            words = [pathlib.Path(program).resolve(), "netlist", "random.sch"]
+            words = [program, "netlist", "random.sch"]
             ours = nets_of_list(run(words, folder))
             if ours != theirs:
                 differ += 1

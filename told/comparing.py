@@ -1,60 +1,36 @@
-#!/usr/bin/env python3
-"""Compares `netlist` of the built program with the rules of docs/RULES.md, told again in
-project_rules.py: sheets with those below them, and the symbols that lie beside them.
+"""Compares a command of the program with the rules told again, folder by folder: what projects.py,
+checks.py, spice.py and symbols.py share.
 
-Usage:
-  projects.py [--seed S] [--count N] [PROGRAM]    N random runs (1, 4000), ten in a folder
-  projects.py --limits [PROGRAM]                  folders at the limits, of up to 64 MiB
-  projects.py --folder FOLDER [PROGRAM]           each .sch of a folder
-  projects.py --cases                             the rules told here on folders with known answers
-
-PROGRAM is out/gafd of the repository where none is named; the known answers come before the random
-runs. Status, what goes out and the error line must be those told here. At the first difference
-the folder is cut down to what matters, kept and printed, and the status is 1. With --cases no
-program is run.
+A folder is a dictionary from names of files to bytes. What differs is cut down to the files and
+lines that matter, kept in a folder, and printed.
 """
 import argparse
 import collections
+import itertools
 import pathlib
-import random
 import subprocess
-import sys
 import tempfile
 import time
 
-sys.dont_write_bytecode = True
-
-import compare
-from built import PROGRAM
-from geda_files import Fault, read_sheet
-from project_cases import case_table
-from project_limits import limits
-from project_rules import answer_of
-from random_files import random_file
-from random_projects import random_folder, with_form
+from built import built
 
 LONGEST = 60
 MOST_SHRUNK = 1_000_000
 
 
-class Netlist:
-    """A command of the program: what the rules tell of it, and how often which answers came."""
+class Command:
+    """A command of the program: what the rules tell of it, and how often which answers came. Each
+    has a `name`, an `answer_of` files and words, and counts its answers."""
 
-    name, answer_of = "netlist", staticmethod(answer_of)
+    findings = ()
 
     def __init__(self):
-        self.sorts = collections.Counter()
-
-    def count(self, answer):
-        """Net lists by whether they have parts of sheets below, faults by their last word."""
-        status, out, err = answer
-        parts = out.split(b"\nnets ")[0].split(b"\n")[1:]
-        are_below = any(b"/" in part.split(b"\t")[0] for part in parts)
-        lists = "net lists of several levels" if are_below else "net lists"
-        self.sorts[err.decode().split()[-1] if status != 0 else lists] += 1
+        self.sorts, self.names = collections.Counter(), collections.Counter()
 
     def summary(self):
-        return ", ".join(f"{number} {sort}" for sort, number in self.sorts.most_common())
+        sorts = ", ".join(f"{number} {sort}" for sort, number in self.sorts.most_common())
+        found = ", ".join(f"{self.names[it]} {it}" for it in self.findings)
+        return f"{sorts}; of the findings {found}" if found else sorts
 
 
 def put(folder, files):
@@ -65,14 +41,8 @@ def put(folder, files):
         path.write_bytes(data)
 
 
-def difference(program, command, folder, words, wanted):
-    """What differs from the wanted answer, for words in a folder that has been made."""
-    try:
-        words = [program, command.name, *words]
-        run = subprocess.run(words, cwd=folder, capture_output=True, timeout=LONGEST)
-    except subprocess.TimeoutExpired:
-        return f"no end within {LONGEST} seconds"
-    got = run.returncode, run.stdout, run.stderr
+def apart(got, wanted):
+    """What differs between two answers, each the status, what goes out and the error line."""
     if got == wanted:
         return None
     if (got[0], got[2]) != (wanted[0], wanted[2]):
@@ -80,6 +50,16 @@ def difference(program, command, folder, words, wanted):
     pairs = zip(got[1].split(b"\n") + [None], wanted[1].split(b"\n") + [None])
     line, (was, should) = next((n, p) for n, p in enumerate(pairs, 1) if p[0] != p[1])
     return f"line {line} is {was!r}, wanted {should!r}"
+
+
+def difference(program, command, folder, words, wanted):
+    """What differs from the wanted answer, for words in a folder that has been made."""
+    try:
+        words = [program, command.name, *words]
+        run = subprocess.run(words, cwd=folder, capture_output=True, timeout=LONGEST)
+    except subprocess.TimeoutExpired:
+        return f"no end within {LONGEST} seconds"
+    return apart((run.returncode, run.stdout, run.stderr), wanted)
 
 
 def differs(program, command, files, words):
@@ -159,22 +139,6 @@ def compare_folders(program, command, folders):
     return 0
 
 
-def random_folders(seed, count):
-    for what, files, words, _ in case_table():
-        yield what, files, [words]
-    for number in range(0, count, 10):
-        files, runs = random_folder(seed, number)
-        rng = random.Random(f"forms {seed} {number}")
-        yield f"folder {number} of seed {seed}", files, [
-            with_form(rng, words) for words in runs[: count - number]]
-
-
-def limit_folders():
-    for what, files, words in limits():
-        print(what, flush=True)
-        yield what, files, [words]
-
-
 def folder_of(top):
     files = {path.name: path.read_bytes() for path in pathlib.Path(top).iterdir() if path.is_file()}
     return str(top), files, [[name] for name in sorted(files) if name.endswith(".sch")]
@@ -190,49 +154,44 @@ def failed_of(cases):
     return failed
 
 
-def self_test():
-    """The rules told here, on folders with known answers, and on plain sheets as compare.py has
-    them: what it has drawn, and what it tells of random files."""
-    cases = [(what, answer_of(files, words), wanted) for what, files, words, wanted in case_table()]
-    known = len(cases)
-    for number in range(500):
-        drawing = compare.Drawing(random.Random(f"plain {number}"))
-        wanted = compare.list_text(drawing.conductors, drawing.packages).encode()
-        got = answer_of({"x.sch": drawing.text.encode()}, "x.sch")
-        cases.append((f"plain sheet {number}", got, (0, wanted, b"")))
-        data = random_file("plain", number)
-        try:
-            wanted = compare.text_of_sheet(read_sheet(data)[1])
-        except Fault:
-            continue
-        if wanted is not None:
-            cases.append((f"file {number}", answer_of({"x.sch": data}, "x.sch"), (0, wanted, b"")))
+def status_of(what, cases):
+    """Prints how many of these cases failed, and answers the status."""
     failed = failed_of(cases)
-    said = f"{known} folders with known answers, {len(cases) - known} plain sheets"
-    print(f"{said}:", f"{failed} failed" if failed else "all passed")
+    print(f"{len(cases)} {what}:", f"{failed} failed" if failed else "all passed")
     return 1 if failed else 0
 
 
-def main():
-    parser = argparse.ArgumentParser(description=__doc__.split("\n")[0])
+def known_status(what, table, answer_of):
+    """The same for a table of folders with known answers: each what it shows, its files, the words
+    of a run, and what is wanted."""
+    cases = [(shows, answer_of(files, words), wanted) for shows, files, words, wanted in table]
+    return status_of(what, cases)
+
+
+def known_folders(table):
+    """The folders of such a table, as compare_folders takes them."""
+    return ((shows, files, [words]) for shows, files, words, _ in table)
+
+
+def arguments(doc, count):
+    """What each of these scripts takes; `count` is how many random runs it has by itself."""
+    parser = argparse.ArgumentParser(description=doc.split("\n")[0])
     parser.add_argument("--seed", default="1")
-    parser.add_argument("--count", type=int, default=4000)
-    parser.add_argument("--limits", action="store_true")
+    parser.add_argument("--count", type=int, default=count)
     parser.add_argument("--folder")
     parser.add_argument("--cases", action="store_true")
-    parser.add_argument("program", nargs="?", default=PROGRAM)
-    asked = parser.parse_args()
+    parser.add_argument("program", nargs="?")
+    return parser
+
+
+def compare_asked(asked, command, known, random_folders, folder_of=folder_of):
+    """Compares the folders that are asked for: those with known answers, which come before the
+    random ones, or those of a folder. With --cases the program has to be named."""
+    if asked.cases and not asked.program:
+        return 0
+    folders = itertools.chain(known, random_folders(asked.seed, asked.count))
     if asked.cases:
-        return self_test()
-    program = pathlib.Path(asked.program).resolve()
-    if not program.exists():
-        sys.exit(f"{program} is not built: run ./gafd once")
-    if asked.limits:
-        return compare_folders(program, Netlist(), limit_folders())
+        folders = known
     if asked.folder:
-        return compare_folders(program, Netlist(), [folder_of(asked.folder)])
-    return compare_folders(program, Netlist(), random_folders(asked.seed, asked.count))
-
-
-if __name__ == "__main__":
-    sys.exit(main())
+        folders = [folder_of(asked.folder)]
+    return compare_folders(built(asked.program), command, folders)

@@ -1,0 +1,28 @@
+"""Which program is tried: `PROGRAM`, what GAFD names, else what is built. It puts clients/ on the
+path, where `served` stands."""
+import pathlib
+import sys
+
+TOP = pathlib.Path(__file__).resolve().parent.parent
+sys.path.append(str(TOP / "clients"))
+
+from served import program
+
+PROGRAM = program() or str(TOP / "out" / "gafd")
+
+
+def built(named=None):
+    """The path of the program that is named, else of PROGRAM. Where none is there, all ends."""
+    path = pathlib.Path(named or PROGRAM).resolve()
+    if not path.exists():
+        sys.exit(f"{path} is not built: run ./gafd once, or let GAFD name a program")
+    return path
+
+
+def case_program(crate, named=None):
+    """The path of the program of a crate of cases, as `rt run` builds it there, or of the one that
+    is named. Where it is not there, all ends."""
+    path = pathlib.Path(named or TOP / "crates" / crate / "out" / crate).resolve()
+    if not path.exists():
+        sys.exit(f"{path} is not built: use `rt run` in crates/{crate}")
+    return str(path)
