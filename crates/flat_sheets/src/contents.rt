@@ -1,6 +1,7 @@
 // What each object of a project adds to the conductors and the listed components.
 ghost use Rattle.std.specs.Prelude.{◌≡◌, ◌++◌, IfOk, OnOk};
 ghost use Rattle.std.specs.Option.{option_to_list};
+ghost use Rattle.geda_model.specs.declared.object.Body.TheVariants as bodies;
 ghost use Rattle.instance_objects.specs.Occurrences.{object_at, occurrences};
 ghost use Rattle.flat_sheets.specs.ListedParts.{listed_part};
 ghost use Rattle.flat_sheets.specs.Conductors.{drawn_of, hidden_of};
@@ -9,13 +10,13 @@ ghost use Rattle.flat_sheets.specs.steps.ObjectContents.{hidden_if, hidden_in, h
 ghost use Rattle.flat_sheets.specs.steps.ObjectContents.{part_if, part_of_component, parts_in};
 
 use crate::conductors::FlatConductors;
-use crate::package::package_under;
+use crate::package::add_package;
 use crate::roles::{Role, role_of};
-use geda_model::Body;
+use geda_model::{Body, Component};
 use instance_objects::{InstanceObject, InstanceObjects, Occurrence};
 use net_list::Package;
-use pin_place::pins_of;
 use std::alloc::{AllocError, Global};
+use symbol_tables::SymbolTables;
 
 /// What a project has, as far as its objects are taken in.
 #[derive(Drop)]
@@ -27,11 +28,15 @@ pub struct ProjectContents {
 }
 
 impl ProjectContents {
-    fn take_component(
+    fn take_component<'a>(
         &mut self,
         alloc: Global,
-        found: &InstanceObject<'_>,
+        tables: &mut SymbolTables<'a>,
+        found: &InstanceObject<'a>,
+        component: &Component,
     ) -> Result<(), AllocError>
+        requires body { found.now.flat.object.body ≡ bodies.Component component.now }
+        requires same { tables.old ≡ found.now.project }
         ensures drawn { OnOk result (self.new.conductors.drawn.items ≡
             self.old.conductors.drawn.items
             ++ drawn_of_component found.now.project found.now.flat) }
@@ -40,40 +45,47 @@ impl ProjectContents {
             ++ hidden_of_component found.now.project found.now.flat) }
         ensures parts { OnOk result (self.new.parts.items ≡ self.old.parts.items
             ++ option_to_list (part_of_component found.now.project found.now.flat)) }
+        ensures kept { tables.new ≡ tables.old }
     {
-        let library = found.library(alloc)?;
-        let role = role_of(alloc, found, library)?;
-        let pins = pins_of(alloc, found.object(), library)?;
+        let values = tables.values_of(alloc, found.object())?;
+        let role = role_of(alloc, found, component, &values)?;
+        let pins = tables.pins_of(alloc, found.object())?;
         self.conductors
             .push_pins(alloc, found.place(), found.id(), &role, pins)?;
         let Role { refdes, .. } = role;
-        if let Some(refdes) = refdes {
-            self.parts
-                .push(package_under(alloc, found.object(), library, refdes)?)?;
-        }
+        add_package(alloc, &mut self.parts, &values, refdes)?;
         Ok(())
     }
 
-    fn take_object(&mut self, alloc: Global, found: &InstanceObject<'_>) -> Result<(), AllocError>
+    fn take_object<'a>(
+        &mut self,
+        alloc: Global,
+        tables: &mut SymbolTables<'a>,
+        found: &InstanceObject<'a>,
+    ) -> Result<(), AllocError>
+        requires same { tables.old ≡ found.now.project }
         ensures drawn { OnOk result (self.new.conductors.drawn.items ≡
             self.old.conductors.drawn.items ++ drawn_of found.now.project found.now.flat) }
         ensures hidden { OnOk result (self.new.conductors.hidden.items ≡
             self.old.conductors.hidden.items ++ hidden_of found.now.project found.now.flat) }
         ensures parts { OnOk result (self.new.parts.items ≡ self.old.parts.items
             ++ option_to_list (listed_part found.now.project found.now.flat)) }
+        ensures kept { tables.new ≡ tables.old }
     {
         match found.body() {
             Body::Shape(shape) => self.conductors.push_shape(alloc, found, shape),
-            Body::Component(_) => self.take_component(alloc, found),
+            Body::Component(component) => self.take_component(alloc, tables, found, component),
         }
     }
 
-    fn take_at(
+    fn take_at<'a>(
         &mut self,
         alloc: Global,
-        objects: &InstanceObjects<'_>,
+        tables: &mut SymbolTables<'a>,
+        objects: &'a InstanceObjects<'_>,
         occurrence: &Occurrence<'_>,
     ) -> Result<(), AllocError>
+        requires same { tables.old ≡ objects.now }
         ensures drawn { OnOk result (self.new.conductors.drawn.items ≡
             self.old.conductors.drawn.items
             ++ drawn_if objects.now (object_at objects.now occurrence.now)) }
@@ -82,11 +94,12 @@ impl ProjectContents {
             ++ hidden_if objects.now (object_at objects.now occurrence.now)) }
         ensures parts { OnOk result (self.new.parts.items ≡ self.old.parts.items
             ++ part_if objects.now (object_at objects.now occurrence.now)) }
+        ensures kept { tables.new ≡ tables.old }
     {
         let Some(found) = objects.object(occurrence) else {
             return Ok(());
         };
-        self.take_object(alloc, &found)
+        self.take_object(alloc, tables, &found)
     }
 }
 
@@ -110,8 +123,9 @@ pub fn contents_of(
         },
         parts: Vec::new(alloc),
     };
+    let mut tables = SymbolTables::new(alloc, objects.project());
     for occurrence in occurrences {
-        contents.take_at(alloc, objects, occurrence)?;
+        contents.take_at(alloc, &mut tables, objects, occurrence)?;
     }
     Ok(contents)
 }

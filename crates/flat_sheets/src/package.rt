@@ -1,42 +1,46 @@
 // What a component says of its package.
-ghost use Rattle.std.specs.Prelude.{◌≡◌, IfOk, Some, option_copied};
-ghost use Rattle.attr_rules.specs.Attributes.{attr};
-ghost use Rattle.flat_sheets.specs.ListedParts.{package_under};
+ghost use Rattle.std.specs.Prelude.{◌≡◌, ◌++◌, IfOk, OnOk, Some, option_copied};
+ghost use Rattle.std.specs.Option.{option_to_list};
+ghost use Rattle.flat_sheets.specs.steps.RoleValues.{package_by};
 
-use attr_rules::attr_of;
-use geda_model::{Block, Line, Object, Symbol};
+use attr_rules::FirstValues;
+use geda_model::{Block, Line};
 use net_list::Package;
 use std::alloc::{AllocError, Global};
 
-fn attr_block(
-    alloc: Global,
-    object: &Object,
-    library: Option<&Symbol>,
-    name: &str,
-) -> Result<Option<Block>, AllocError>
-    ensures { IfOk result (λ value. value ≡
-        attr object.now (option_copied library.entry) name.now) }
+fn copy_of(alloc: Global, value: Option<&str>) -> Result<Option<Block>, AllocError>
+    ensures { IfOk result (λ copy. copy ≡ option_copied value.entry) }
 {
-    match attr_of(object, library, name) {
+    match value {
         Some(value) => Ok(Some(Block::new(alloc, value)?)),
         None => Ok(None),
     }
 }
 
-/// What a component under a printed refdes says of its package (docs/RULES.md, "Packages").
-pub fn package_under(
-    alloc: Global,
-    object: &Object,
-    library: Option<&Symbol>,
-    refdes: Line,
-) -> Result<Package, AllocError>
-    ensures { IfOk result (λ made. Some made ≡
-        package_under object.now (option_copied library.entry) (Some refdes)) }
+fn package_of(alloc: Global, values: &FirstValues<'_>, refdes: Line) -> Result<Package, AllocError>
+    ensures { IfOk result (λ made. Some made ≡ package_by values.now (Some refdes)) }
 {
     Ok(Package {
         refdes,
-        device: attr_block(alloc, object, library, "device")?,
-        value: attr_block(alloc, object, library, "value")?,
-        footprint: attr_block(alloc, object, library, "footprint")?,
+        device: copy_of(alloc, values.device)?,
+        value: copy_of(alloc, values.value)?,
+        footprint: copy_of(alloc, values.footprint)?,
     })
+}
+
+/// Adds what a component with these first values says of its package, if it is listed under a
+/// printed refdes (docs/RULES.md, "Packages").
+pub fn add_package(
+    alloc: Global,
+    parts: &mut Vec<Package>,
+    values: &FirstValues<'_>,
+    refdes: Option<Line>,
+) -> Result<(), AllocError>
+    ensures { OnOk result (parts.new.items
+        ≡ parts.old.items ++ option_to_list (package_by values.now refdes)) }
+{
+    if let Some(refdes) = refdes {
+        parts.push(package_of(alloc, values, refdes)?)?;
+    }
+    Ok(())
 }

@@ -1,15 +1,17 @@
 // What a component is in an instance of its sheet.
-ghost use Rattle.std.specs.Prelude.{◌≡◌, ◌||◌, if◌then◌else◌, All, IfOk};
-ghost use Rattle.std.specs.Prelude.{None, Some, option_copied};
+ghost use Rattle.std.specs.Prelude.{List, ℕ, ◌≡◌, if◌then◌else◌, All, IfOk, None, Some};
+ghost use Rattle.geda_model.specs.declared.object.Body.TheVariants as bodies;
 ghost use Rattle.geda_model.specs.Names.{IsLineByte};
-ghost use Rattle.attr_rules.specs.Components.{has_sources, is_directive};
+ghost use Rattle.attr_rules.specs.Components.{if_line};
+ghost use Rattle.attr_rules.specs.FirstValues.{values_of};
+ghost use Rattle.attr_rules.specs.Libraries.{library_of};
 ghost use Rattle.instance_objects.specs.Texts.{under};
-ghost use Rattle.flat_sheets.specs.ListedParts.{is_no_part};
-ghost use Rattle.flat_sheets.specs.Conductors.{role_of};
+ghost use Rattle.flat_sheets.specs.steps.ObjectContents.{role_at};
+ghost use Rattle.flat_sheets.specs.steps.RoleValues.{role_by};
 
 use crate::ports::pins_above;
-use attr_rules::{has_sources, is_directive, is_graphical, refdes_of};
-use geda_model::{Line, Object, Symbol};
+use attr_rules::FirstValues;
+use geda_model::{Component, Line};
 use hierarchy::Instance;
 use instance_objects::{InstanceObject, line_under};
 use link_classes::PortPins;
@@ -42,20 +44,6 @@ impl Model for Role {
     } };
 }
 
-fn is_unlisted(
-    object: &Object,
-    library: Option<&Symbol>,
-    directive: bool,
-    leads_down: bool,
-    is_port: bool,
-) -> bool
-    requires directive { directive ≡ is_directive object.now (option_copied library) }
-    requires leads_down { leads_down ≡ has_sources object.now (option_copied library) }
-    ensures { result ≡ (is_no_part object.now (option_copied library.entry) || is_port) }
-{
-    is_graphical(object, library) || directive || leads_down || is_port
-}
-
 fn printed_refdes(
     alloc: Global,
     is_unlisted: bool,
@@ -72,20 +60,17 @@ fn printed_refdes(
     Ok(Some(line_under(alloc, &instance.path, refdes)?))
 }
 
-/// What a component is in an instance of its sheet (docs/RULES.md, "Packages", "Ports" and
-/// "No-connection directives").
-pub fn role_of(
+fn role_by(
     alloc: Global,
     found: &InstanceObject<'_>,
-    library: Option<&Symbol>,
+    values: &FirstValues<'_>,
 ) -> Result<Role, AllocError>
-    ensures { IfOk result (λ role. role ≡
-        role_of found.now.project found.now.flat (option_copied library.entry)) }
+    requires { (text : List ℕ) → Some text ≡ if_line values.now.refdes → All IsLineByte text }
+    ensures { IfOk result (λ role. role ≡ role_by found.now.project found.now.flat values.now) }
 {
-    let object = found.object();
-    let leads_down = has_sources(object, library);
-    let directive = is_directive(object, library);
-    let Some(refdes) = refdes_of(object, library) else {
+    let leads_down = values.has_sources();
+    let directive = values.is_directive();
+    let Some(refdes) = values.refdes_line() else {
         return Ok(Role {
             refdes: None,
             leads_down,
@@ -94,11 +79,28 @@ pub fn role_of(
         });
     };
     let is_port = !directive && found.is_port(refdes);
-    let is_unlisted = is_unlisted(object, library, directive, leads_down, is_port);
+    let is_unlisted = values.is_annotation() || leads_down || is_port;
     Ok(Role {
         refdes: printed_refdes(alloc, is_unlisted, found.instance(), refdes)?,
         leads_down,
         leads_up: pins_above(alloc, is_port, found.instance(), refdes)?,
         directive,
     })
+}
+
+/// What a component with these first values is in an instance of its sheet (docs/RULES.md,
+/// "Packages", "Ports" and "No-connection directives").
+pub fn role_of(
+    alloc: Global,
+    found: &InstanceObject<'_>,
+    component: &Component,
+    values: &FirstValues<'_>,
+) -> Result<Role, AllocError>
+    requires body { found.now.flat.object.body ≡ bodies.Component component.now }
+    requires values { values.now ≡ values_of found.now.flat.object
+        (library_of found.now.project found.now.flat.object) }
+    ensures { IfOk result (λ role. role ≡ role_at found.now.project found.now.flat) }
+{
+    let role = role_by(alloc, found, values)?;
+    Ok(role)
 }

@@ -54,6 +54,13 @@ impl<'a> InstanceObjects<'a> {
         Ok(InstanceObjects { ports, ordered })
     }
 
+    /// The project. It takes no memory.
+    pub fn project(&self) -> &'a Project
+        ensures { result.now.contents ≡ self.now }
+    {
+        self.ports.project()
+    }
+
     /// All objects in all instances, by route and then by id. It takes no memory.
     pub fn occurrences(&self) -> &[Occurrence<'a>]
         ensures { result.now ≡ occurrences self.now }

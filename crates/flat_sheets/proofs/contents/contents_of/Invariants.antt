@@ -7,4 +7,5 @@ invariant-loop-occurrence l = record {
   drawn : l.contents.conductors.drawn.items ++ drawn_in l.objects (drop l.occurrence-index l.occurrences) ≡ drawn_in l.objects l.occurrences;
   hidden : l.contents.conductors.hidden.items ++ hidden_in l.objects (drop l.occurrence-index l.occurrences) ≡ hidden_in l.objects l.occurrences;
   parts : l.contents.parts.items ++ parts_in l.objects (drop l.occurrence-index l.occurrences) ≡ parts_in l.objects l.occurrences;
+  same : l.tables ≡ l.objects;
 }

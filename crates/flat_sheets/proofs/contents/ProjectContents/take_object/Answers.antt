@@ -6,10 +6,10 @@ use Rattle.flat_sheets.proofs.contents.ProjectContents.take_object.Goals as goal
 
 pub returns-in-Component-clause-drawn : goal.returns-in-Component-clause-drawn
 returns-in-Component-clause-drawn c =
-    let same = drawn_of-component c.args.found.now.project c.args.found.now.flat c.in-Component.field-0 (sym c.body.ensures ∙ c.in-Component.is) in
+    let same = drawn_of-component c.args.found.now.project c.args.found.now.flat c.in-Component.component (sym c.body.ensures ∙ c.in-Component.is) in
     subst (λ (more : List FlatConductor). OnOk c.take_component.result (c.take_component.new.self.conductors.drawn.items ≡ c.args.self.now.conductors.drawn.items ++ more)) same c.take_component.ensures.drawn
 
 pub returns-in-Component-clause-hidden : goal.returns-in-Component-clause-hidden
 returns-in-Component-clause-hidden c =
-    let same = hidden_of-component c.args.found.now.project c.args.found.now.flat c.in-Component.field-0 (sym c.body.ensures ∙ c.in-Component.is) in
+    let same = hidden_of-component c.args.found.now.project c.args.found.now.flat c.in-Component.component (sym c.body.ensures ∙ c.in-Component.is) in
     subst (λ (more : List FlatConductor). OnOk c.take_component.result (c.take_component.new.self.conductors.hidden.items ≡ c.args.self.now.conductors.hidden.items ++ more)) same c.take_component.ensures.hidden
