@@ -5,7 +5,8 @@ Usage: edit_groups.py [--lists N] [--edits N] [--seed S]    40 lists of 60 edits
 
 GAFD names the program, else the one that is built. A list of edits begins with two sheets of wires
 and parts on a small grid, so that they touch, part and join again as wires and parts come, move,
-turn and go; names join over both sheets, and a library symbol comes and goes below its components.
+turn and go; names join over both sheets, and a library symbol comes, is replaced and goes below its
+components.
 The groups that a board keeps are so tried against classes that are made anew each time
 (edit_rules.py for the sheets, project_rules.py for their net list). Now and then, and after the
 last edit, the server is killed and started again, and asked once more: then its groups are new.
@@ -34,7 +35,7 @@ GRID, SIZE = 100, 6
 NAMES = ("A", "B", "unnamed_net1")
 # How often a kind of edit is drawn.
 KINDS = {"wire": 6, "part": 3, "placed": 1, "delete": 4, "move": 6, "turn": 2, "replace": 3,
-         "name": 2, "unname": 1, "undo": 3, "symbol": 1}
+         "name": 2, "unname": 1, "undo": 3, "symbol": 2}
 
 
 class Drawing:
@@ -93,9 +94,11 @@ class History:
         return sorted(self.rng.sample(known, min(len(known), self.rng.randint(1, most))))
 
     def symbol_edit(self):
-        """The library symbol comes, or is taken back."""
-        if ("symbol", LIBRARY) not in project_of(self.desk.changes):
-            return {"kind": "add_symbol", "name": LIBRARY, "text": self.drawing.symbol()}
+        """The library symbol comes, another one takes its place, or the first is taken back."""
+        is_there = ("symbol", LIBRARY) in project_of(self.desk.changes)
+        if not is_there or self.rng.random() < 0.7:
+            kind = "replace_symbol" if is_there else "add_symbol"
+            return {"kind": kind, "name": LIBRARY, "text": self.drawing.symbol()}
         kinds = [entry["edit"]["kind"] for entry in self.desk.entries]
         return {"kind": "undo", "serial": len(kinds) - 1 - kinds[::-1].index("add_symbol")}
 

@@ -7,6 +7,7 @@ import json
 from geda_files import Fault, Item, canonical, read_object, read_sheet, read_symbol, written
 
 MOST_COORDINATE = 200_000
+MOST_OBJECTS = 400_000
 # The letters of objects with the places of their points among their fields.
 POINTS = {letter: ((0, 1), (2, 3)) for letter in (b"L", b"N", b"U", b"P")}
 POINTS |= {letter: ((0, 1),) for letter in (b"G", b"B", b"V", b"A", b"T", b"C")}
@@ -48,6 +49,21 @@ def has_name(text, name):
 def attached(item, name):
     """The values of the attached attributes of a name."""
     return [split_attr(content(text))[1] for text in item.texts if has_name(text, name)]
+
+
+def symbol_parts(item, project):
+    """The parts of a component's symbol: its embedded one, else that of the library."""
+    if item.parts is not None:
+        return item.parts
+    _, parts = project.get(("symbol", item.values[-1].decode()), (None, []))
+    return parts
+
+
+def attrs(item, name, project):
+    """The values of a component's attached attributes of a name, else those that it inherits."""
+    free = (part for part in symbol_parts(item, project) if part.letter == b"T")
+    inherited = [split_attr(content(text))[1] for text in free if has_name(text, name)]
+    return attached(item, name) or inherited
 
 
 def first_point(item):
@@ -152,6 +168,8 @@ def names_of(edit):
 def things_named(edit):
     if edit["kind"] == "add_object":
         return [("sheet", edit["sheet"])]
+    if edit["kind"] == "replace_symbol":
+        return [("symbol", edit["name"])]
     return [("object", number) for number in names_of(edit)]
 
 
@@ -241,6 +259,8 @@ class Desk:
             refuse("SheetExists")
         if kind == "add_symbol" and ("symbol", edit["name"]) in project:
             refuse("SymbolExists")
+        if kind == "replace_symbol" and ("symbol", edit["name"]) not in project:
+            refuse("NoSymbol")
         if kind == "add_object" and ("sheet", edit["sheet"]) not in project:
             refuse("NoSheet")
         if kind == "undo" and edit["serial"] >= len(self.entries):
@@ -251,8 +271,8 @@ class Desk:
 
     def read(self, edit):
         """What the text of the edit spells."""
-        readers = {"add_sheet": read_sheet, "add_symbol": read_symbol}
-        readers |= {"add_object": read_object, "replace": read_object}
+        readers = {"add_sheet": read_sheet, "add_object": read_object, "replace": read_object}
+        readers |= {"add_symbol": read_symbol, "replace_symbol": read_symbol}
         try:
             if edit["kind"] in readers:
                 return readers[edit["kind"]](edit["text"].encode())
@@ -309,7 +329,7 @@ class Desk:
             if value is not None and value[1] is None:
                 refuse("OutOfRange", id=thing[1])
         after = project_of([*self.changes, change])
-        if count(after, "object") > 100_000:
+        if count(after, "object") > MOST_OBJECTS:
             refuse("TooManyObjects")
         is_over = count(after, "sheet") > 1_024 or count(after, "symbol") > 8_192
         if is_over or text_size(after) > 67_108_864:
@@ -323,7 +343,7 @@ class Desk:
             head, items = made
             items = [placed(first + k, edit["name"], item) for k, item in enumerate(items)]
             return [(("sheet", edit["name"]), head), *items]
-        if kind == "add_symbol":
+        if kind in ("add_symbol", "replace_symbol"):
             return [(("symbol", edit["name"]), made)]
         if kind == "add_object":
             return [placed(first, edit["sheet"], made)]
@@ -341,12 +361,14 @@ class Desk:
 
     def renumbered(self, project):
         components = [row for row in objects(project) if row[2].letter == b"C"]
-        refdes = {number: attached(item, b"refdes")[:1] for number, _, item in components}
+        refdes = {
+            number: attrs(item, b"refdes", project)[:1] for number, _, item in components
+        }
         used = {text for found in refdes.values() for text in found}
         change = []
         for number, sheet, item in sorted(components, key=lambda row: (row[1].encode(), row[0])):
             found = refdes[number]
-            is_graphical = attached(item, b"graphical")[:1] == [b"1"]
+            is_graphical = attrs(item, b"graphical", project)[:1] == [b"1"]
             if is_graphical or not found or not found[0].endswith(b"?"):
                 continue
             stem, least = found[0].rstrip(b"?"), 1

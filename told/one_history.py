@@ -40,7 +40,7 @@ VERSION = "v 20130925 2\n"
 REPORTS = ("netlist/list",) * 4 + ("netlist/tango", "netlist/pcb", "netlist/bom", "drc", "sheets")
 NAMED = (f"sheets/{COMMON}", f"objects/{COMMON}", "sheets/c0.sch", "symbols/res.sym")
 KINDS = {"add_object": 6, "move": 4, "set_attr": 3, "turn": 1, "replace": 1, "drop_attr": 0.5}
-KINDS |= {"renumber": 0.3, "add_sheet": 0.1, "undo": 1, "delete": 2}
+KINDS |= {"renumber": 0.3, "add_sheet": 0.1, "replace_symbol": 0.3, "undo": 1, "delete": 2}
 MOST_OBJECTS = 60
 # What was asked and answered: when, on which connection of which caller, and what. Of the text of a
 # report its sum stands for it.
@@ -61,6 +61,10 @@ def wire(rng):
     x, y, length = place(rng), place(rng), rng.randrange(100, 2000, 100)
     right, up = (length, 0) if rng.random() < 0.5 else (0, length)
     return f"N {x} {y} {x + right} {y + up} 4\n"
+
+
+def symbol(name):
+    return pathlib.Path(TOP, "examples", name).read_text(encoding="utf-8")
 
 
 class Caller(Writer):
@@ -114,6 +118,7 @@ class Caller(Writer):
             "move": lambda: {"dx": 100, "dy": rng.choice((0, -100)), "ids": [known]},
             "renumber": dict,
             "replace": lambda: {"id": known, "text": rng.choice((part, wire))(rng)},
+            "replace_symbol": lambda: {"name": SYMBOLS[0], "text": symbol(rng.choice(SYMBOLS))},
             "set_attr": lambda: {"id": known, "name": name, "value": value},
             "turn": lambda: {"ids": [known], "mirror": False, "quarter": 1, "x": 0, "y": 0},
             "undo": lambda: {"serial": rng.choice(self.serials[-5:] or [0])},
@@ -154,8 +159,7 @@ def opened(port, parts, seed):
     """A board: symbols, and a sheet of so many parts."""
     first = Caller(port, "first", seed)
     for name in SYMBOLS:
-        text = pathlib.Path(TOP, "examples", name).read_text()
-        first.edits({"kind": "add_symbol", "name": name, "text": text}, 0)
+        first.edits({"kind": "add_symbol", "name": name, "text": symbol(name)}, 0)
     body = "".join(part(first.rng, f"R{at + 1}") + wire(first.rng) for at in range(parts))
     first.edits({"kind": "add_sheet", "name": COMMON, "text": VERSION + body}, 0)
     first.link.close()
@@ -190,9 +194,9 @@ def history_of(told, faults):
 
 
 def rows_of(store, history, faults):
-    """The rows of the store are the entries."""
+    """The rows of the store are the entries, each with the version of its spelling."""
     rows = [json.loads(row.read_bytes()) for row in sorted(pathlib.Path(store).glob("*.json"))]
-    if rows != [json.loads(entry) for entry in history]:
+    if rows != [json.loads(entry) | {"version": 2} for entry in history]:
         faults.append(f"{len(rows)} rows, and other ones than the {len(history)} entries")
 
 

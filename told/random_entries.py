@@ -67,6 +67,11 @@ def object_text(rng):
     return drawn + block(rng)
 
 
+def symbol_part(rng):
+    """A shape, or an attribute that components inherit."""
+    return label(rng) if rng.random() < 0.3 else shape(rng)
+
+
 def file_text(rng, most, of):
     version = "v 20130925 2\n" if rng.random() < 0.97 else rng.choice(("", "v 20130925\n"))
     return version + "".join(of(rng) for _ in range(rng.randrange(most)))
@@ -80,11 +85,16 @@ def some_ids(rng, known):
     return sorted(found)
 
 
+def symbols_of(desk):
+    return [name for kind, name in project_of(desk.changes) if kind == "symbol"]
+
+
 def kind_of(rng, desk, known):
     """A kind of edit: mostly one for which there is something."""
     kinds = {"add_sheet": 1 if desk.entries else 30, "add_symbol": 1, "renumber": 1}
     kinds["undo"] = min(5, 2 * len(desk.entries)) + 0.05
     kinds["add_object"] = 3 if desk.sheets() else 0.1
+    kinds["replace_symbol"] = 2 if symbols_of(desk) else 0.1
     kinds["delete"] = 2 if known else 0.05
     often = {"replace": 2, "move": 3, "turn": 2, "set_attr": 3, "drop_attr": 1}
     kinds.update(often if known else dict.fromkeys(often, 0.05))
@@ -96,9 +106,17 @@ def edit(rng, desk):
     ids = some_ids(rng, known)
     kind = kind_of(rng, desk, known)
     sheets = desk.sheets() if desk.sheets() and rng.random() < 0.9 else SHEETS
+    symbols = symbols_of(desk) if symbols_of(desk) and rng.random() < 0.9 else SYMBOLS
     fields = {
         "add_sheet": lambda: {"name": rng.choice(SHEETS), "text": file_text(rng, 5, object_text)},
-        "add_symbol": lambda: {"name": rng.choice(SYMBOLS), "text": file_text(rng, 3, shape)},
+        "add_symbol": lambda: {
+            "name": rng.choice(SYMBOLS),
+            "text": file_text(rng, 3, symbol_part),
+        },
+        "replace_symbol": lambda: {
+            "name": rng.choice(symbols),
+            "text": file_text(rng, 3, symbol_part),
+        },
         "add_object": lambda: {"sheet": rng.choice(sheets), "text": object_text(rng)},
         "replace": lambda: {"id": ids[0], "text": object_text(rng)},
         "delete": lambda: {"ids": ids},
