@@ -1,8 +1,9 @@
 // Entries as JSON, a line of a file each. Where the text of an edit is `@NAME`, it is that of the
-// file NAME.
+// file NAME, and `[0 to 999]` is a list of ids.
 ghost use Rattle.std.specs.Prelude.{IfOk};
 ghost use Rattle.edit_entries.specs.Entries.{EditIsInRange};
 
+use crate::ids::with_ids;
 use case_tables::{CaseFault, TableFiles, text_in};
 use edit_entries::{Edit, Entry};
 use edit_json::{EntryFault, read_entry};
@@ -49,7 +50,8 @@ fn edit_of(alloc: Global, edit: Edit, files: &TableFiles) -> Result<Edit, CaseFa
 
 /// The entry of a line.
 pub fn entry_of(alloc: Global, line: &str, files: &TableFiles) -> Result<Entry, CaseFault> {
-    match read_entry(alloc, line.as_bytes()) {
+    let line = with_ids(alloc, line)?;
+    match read_entry(alloc, line.as_str().as_bytes()) {
         Ok(entry) => Ok(Entry {
             session: entry.session,
             number: entry.number,

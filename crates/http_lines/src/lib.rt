@@ -6,9 +6,10 @@
 #![tactic(auto)]
 
 mod entries;
+mod ids;
 mod replies;
 mod requests;
 
 pub use entries::{entries_of, entry_of};
-pub use replies::lines_of;
+pub use replies::{AnswerLines, lines_of};
 pub use requests::{input_of, put_request};

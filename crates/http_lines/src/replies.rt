@@ -1,27 +1,27 @@
-// The replies that went out, a line each. A reply that comes again at once stands once, with how
-// often it came.
+// The replies that went out, a line each. What comes again at once stands once, with how often it
+// came.
 use case_tables::{CaseFault, text_in};
 use std::alloc::{AllocError, Global};
 
-/// The lines of replies.
+/// Lines of an answer, in which one that comes again at once stands once: `> 9999 times x`.
 #[derive(Drop)]
-pub struct ReplyLines {
+pub struct AnswerLines {
     out: String,
     last: String,
     count: u32,
 }
 
-impl ReplyLines {
+impl AnswerLines {
     /// No lines.
-    pub fn new(alloc: Global) -> ReplyLines {
-        ReplyLines {
+    pub fn new(alloc: Global) -> AnswerLines {
+        AnswerLines {
             out: String::new(alloc),
             last: String::new(alloc),
             count: 0,
         }
     }
 
-    /// Puts the reply that came last.
+    /// Puts the line that came last.
     fn settle(&mut self) -> Result<(), AllocError> {
         let last = self.last.as_str();
         match self.count {
@@ -31,7 +31,8 @@ impl ReplyLines {
         }
     }
 
-    fn put(&mut self, line: String) -> Result<(), AllocError> {
+    /// One more line.
+    pub fn put(&mut self, line: String) -> Result<(), AllocError> {
         if self.count > 0 && self.last == line {
             self.count = self.count.saturating_add(1);
             return Ok(());
@@ -95,7 +96,7 @@ fn brief(alloc: Global, reply: &str) -> Result<String, AllocError> {
 /// The replies of a connection as lines, with all their bytes, or with status and body alone.
 pub fn lines_of(alloc: Global, written: &[u8], is_brief: bool) -> Result<String, CaseFault> {
     let text = text_in(alloc, written)?;
-    let mut lines = ReplyLines::new(alloc);
+    let mut lines = AnswerLines::new(alloc);
     for reply in text.as_str().split("HTTP/1.1 ").skip(1) {
         let line = if is_brief {
             brief(alloc, reply)?

@@ -1,6 +1,7 @@
 // The requests of a connection, a line of a file each: a method and a target; an entry as JSON,
 // which is an edit; `blanks N`, an edit whose body is so many blanks; or all the bytes of a request
 // as a cell.
+use crate::ids::with_ids;
 use case_tables::{CaseFault, TableFiles, number_of, text_in, text_of};
 use std::alloc::{AllocError, Global};
 
@@ -48,7 +49,8 @@ fn put_edit(
     line: &str,
     files: &TableFiles,
 ) -> Result<(), CaseFault> {
-    let body = entry_json(alloc, line, files)?;
+    let line = with_ids(alloc, line)?;
+    let body = entry_json(alloc, line.as_str(), files)?;
     put_edit_head(out, body.as_str().len())?;
     Ok(out.push_str(body.as_str())?)
 }
