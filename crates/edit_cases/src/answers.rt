@@ -7,6 +7,7 @@ fn row(alloc: Global, kind: &str, cells: &[&str], files: &TableFiles) -> Result<
     match kind {
         "body" => entries::body(alloc, cells, files),
         "edit" => entries::edit(alloc, cells),
+        "row" => entries::row(alloc, cells),
         "move" => motions::move_object(alloc, cells),
         "turn" => motions::turn_object(alloc, cells),
         "turn point" => motions::turn_point(alloc, cells),
@@ -28,6 +29,7 @@ fn question(
         "number" => numbers::number(alloc, words, files),
         "verdicts" => histories::verdicts(alloc, words, files),
         "report after" => project_reports::report_after(alloc, words, files),
+        "runs after" => project_reports::runs_after(alloc, words, files),
         _ => Err(CaseFault::BadCase),
     }
 }

@@ -1,7 +1,7 @@
-// Entries as JSON.
+// Entries as JSON, and stored rows.
 use case_tables::{CaseFault, TableFiles, bytes_of, cell, text_in};
 use edit_entries::Entry;
-use edit_json::{EntryFault, entry_text, read_entry};
+use edit_json::{EntryFault, Row, RowFault, entry_text, read_entry, read_row, row_text};
 use std::alloc::Global;
 
 /// The pointer of a fault behind its name.
@@ -54,4 +54,32 @@ pub fn edit(alloc: Global, cells: &[&str]) -> Result<String, CaseFault> {
     body.extend_from_slice(edit.as_slice())?;
     body.push(b'}')?;
     told(alloc, body.as_slice())
+}
+
+/// Whether a text is read as the row of version 2 of this entry.
+fn is_row_read_back(alloc: Global, text: &[u8], entry: &Entry) -> Result<bool, CaseFault> {
+    match read_row(alloc, text) {
+        Ok(row) => Ok(row.version == 2 && row.entry == *entry),
+        Err(RowFault::BadRow) => Ok(false),
+        Err(RowFault::NoMemory) => Err(CaseFault::NoMemory),
+    }
+}
+
+/// The spelling of a row in version 2, which has to be read back, behind the version that it has.
+fn written_row(alloc: Global, row: &Row) -> Result<String, CaseFault> {
+    let text = row_text(alloc, &row.entry)?;
+    if !is_row_read_back(alloc, text.as_slice(), &row.entry)? {
+        return Ok(String::from_str(alloc, "another row")?);
+    }
+    let text = text_in(alloc, text.as_slice())?;
+    Ok(format!(in alloc; "{} {}", row.version, text.as_str())?)
+}
+
+/// A stored row of these bytes: its version, and its entry as a row of version 2.
+pub fn row(alloc: Global, cells: &[&str]) -> Result<String, CaseFault> {
+    match read_row(alloc, bytes_of(alloc, cell(cells, 0))?.as_slice()) {
+        Ok(row) => written_row(alloc, &row),
+        Err(RowFault::BadRow) => Ok(String::from_str(alloc, "BadRow")?),
+        Err(RowFault::NoMemory) => Err(CaseFault::NoMemory),
+    }
 }

@@ -5,6 +5,7 @@ use case_tables::{CaseFault, TableFiles, name_of, text_in};
 use drc_rules::Matrix;
 use edit_desk::Desk;
 use geda_model::Name;
+use http_lines::AnswerLines;
 use project_model::Project;
 use reports::{Form, ReportFault, What, report};
 use std::alloc::Global;
@@ -37,22 +38,13 @@ fn what_of(alloc: Global, asked: &str) -> Result<What, CaseFault> {
     }
 }
 
-fn put_lines(out: &mut String, text: &str) -> Result<(), CaseFault> {
-    for line in text.lines() {
-        writeln!(out, "> {line}")?;
-    }
-    Ok(())
-}
-
-/// The lines of a report, or its fault.
+/// The text of a report, or its fault.
 fn told(alloc: Global, board: &Board, what: &What) -> Result<String, CaseFault> {
-    let mut out = String::new(alloc);
     match report(alloc, board, what, &Matrix::usual()) {
-        Ok(text) => put_lines(&mut out, text_in(alloc, text.as_slice())?.as_str())?,
-        Err(ReportFault::NoMemory) => return Err(CaseFault::NoMemory),
-        Err(fault) => writeln!(out, "> {fault:?}")?,
+        Ok(text) => text_in(alloc, text.as_slice()),
+        Err(ReportFault::NoMemory) => Err(CaseFault::NoMemory),
+        Err(fault) => Ok(format!(in alloc; "{fault:?}")?),
     }
-    Ok(out)
 }
 
 fn report_on(alloc: Global, project: &Project, asked: &str) -> Result<String, CaseFault> {
@@ -74,10 +66,29 @@ fn report_of(
     report_on(alloc, desk.project(), asked)
 }
 
-/// A report after the entries of a file: `h: list`.
-pub fn report_after(alloc: Global, words: &str, files: &TableFiles) -> Result<String, CaseFault> {
+fn text_after(alloc: Global, words: &str, files: &TableFiles) -> Result<String, CaseFault> {
     let mut desk = Desk::new(alloc);
     let text = report_of(alloc, &mut desk, words, files);
     drop(desk);
     text
+}
+
+/// A report after the entries of a file: `h: list`.
+pub fn report_after(alloc: Global, words: &str, files: &TableFiles) -> Result<String, CaseFault> {
+    let text = text_after(alloc, words, files)?;
+    let mut out = String::new(alloc);
+    for line in text.as_str().lines() {
+        writeln!(out, "> {line}")?;
+    }
+    Ok(out)
+}
+
+/// The same, in which equal lines that follow each other stand once.
+pub fn runs_after(alloc: Global, words: &str, files: &TableFiles) -> Result<String, CaseFault> {
+    let text = text_after(alloc, words, files)?;
+    let mut lines = AnswerLines::new(alloc);
+    for line in text.as_str().lines() {
+        lines.put(String::from_str(alloc, line)?)?;
+    }
+    Ok(lines.into_text()?)
 }
