@@ -115,6 +115,14 @@ of_gone rows s e = in_contains s (given_up rows) (in_filter (λ t. is_given_up (
     there None e = absurd (let clash : false ≡ true = e in cc)
     there (Some row) e = refl
 
+-- where none are, no sheet is
+pub all_kept : (rows : Rows) → given_up rows ≡ [] → (s : SheetName) → is_given_up (row_at rows s) ≡ false
+all_kept rows none s = by (is_given_up (row_at rows s)) refl
+  where
+    by : (b : Bool) → is_given_up (row_at rows s) ≡ b → is_given_up (row_at rows s) ≡ false
+    by true e = absurd (let c = subst (λ gone. Contains gone s) none (of_gone rows s e) in omega (arith, c.1))
+    by false e = e
+
 in_or_not : (s : SheetName) (ss : List SheetName) → In s ss ⊎ (In s ss → ⊥)
 in_or_not s [] = inr (λ h. h)
 in_or_not s (t ∷ ts) = elim (same_or_apart t s) [

@@ -34,13 +34,13 @@ holds_kept (Some None) cs k e = absurd k
 holds_kept (Some (Some g)) cs k e = (k, e)
 
 -- one whose groups are not kept has none
-bare : (r : Option (Option GroupsData)) (cs : Conductors) → HoldsSheet r cs → (IsKept r → ⊥) → conductors_of r ≡ empty
+pub bare : (r : Option (Option GroupsData)) (cs : Conductors) → HoldsSheet r cs → (IsKept r → ⊥) → conductors_of r ≡ empty
 bare None cs h n = refl
 bare (Some None) cs h n = refl
 bare (Some (Some g)) cs h n = absurd (n h.0)
 
 -- without an entry that was given up, it has no conductors at all
-bare_sheet : (r : Option (Option GroupsData)) (cs : Conductors) → HoldsSheet r cs → (IsKept r → ⊥) → is_given_up r ≡ false → cs ≡ empty
+pub bare_sheet : (r : Option (Option GroupsData)) (cs : Conductors) → HoldsSheet r cs → (IsKept r → ⊥) → is_given_up r ≡ false → cs ≡ empty
 bare_sheet None cs h n e = h
 bare_sheet (Some None) cs h n e = absurd (let clash : true ≡ false = e in cc)
 bare_sheet (Some (Some g)) cs h n e = absurd (n h.0)

@@ -30,7 +30,7 @@ use Rattle.board_core.proofs.DrawnLemmas.{all_in, keys_at, project_keys, stands}
 use Rattle.board_core.proofs.GroupLemmas.{Rise, found_at, reached, reaches, within}
 use Rattle.board_core.proofs.BoundLemmas.{behind}
 use Rattle.board_core.proofs.LabelLemmas.{labels_of}
-use Rattle.board_core.proofs.BoardLemmas.{of_gone}
+use Rattle.board_core.proofs.BoardLemmas.{all_kept}
 use Rattle.board_core.proofs.HoldLemmas.{alike_holds}
 
 -- what stands at a place
@@ -121,11 +121,7 @@ rows_push at (d ∷ cs) (r ∷ rows) c row h key least = (h.0, h.1, rows_push at
 
 module _ (p : ProjectData) (rows : Rows) (held : HoldsProject p rows) (fresh : given_up rows ≡ []) where
   not_gone : (s : SheetName) → is_given_up (row_at rows s) ≡ false
-  not_gone s = by (is_given_up (row_at rows s)) refl
-    where
-      by : (b : Bool) → is_given_up (row_at rows s) ≡ b → is_given_up (row_at rows s) ≡ false
-      by true e = absurd (let c = subst (λ gone. Contains gone s) fresh (of_gone rows s e) in omega (arith, c.1))
-      by false e = e
+  not_gone s = all_kept rows fresh s
 
   kept_where : (r : Option (Option GroupsData)) (cs : Conductors) → HoldsSheet r cs → is_given_up r ≡ false → (k : Key) → IsSome (get cs k) → IsKept r
   kept_where None cs h e k there = (let none : get cs k ≡ None = ap (λ m. get m k) h ∙ get-empty by_key k in let clash : false ≡ true = sym (ap is_some none) ∙ there in absurd (cc))

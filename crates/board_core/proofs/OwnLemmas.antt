@@ -138,6 +138,28 @@ none_passes : (t : ℕ × Placed → Bool) (rows : List (ℕ × Placed)) → ((r
 none_passes t [] none = refl
 none_passes t (row ∷ rows) none = ap (λ b. cond b (row ∷ filter t rows) (filter t rows)) (none row) ∙ none_passes t rows none
 
+within_step : {X : Type 0} (f g : X → Bool) (x : X) (xs : List X) → (g x ≡ false → f x ≡ false) → filter f (filter g xs) ≡ filter f xs → filter f (filter g (x ∷ xs)) ≡ filter f (x ∷ xs)
+within_step f g x xs within same = by (g x) refl
+  where
+    by : (b : Bool) → g x ≡ b → filter f (filter g (x ∷ xs)) ≡ filter f (x ∷ xs)
+    by true e = ap (λ b. filter f (cond b (x ∷ filter g xs) (filter g xs))) e ∙ ap (λ ys. cond (f x) (x ∷ ys) ys) same
+    by false e = ap (λ b. filter f (cond b (x ∷ filter g xs) (filter g xs))) e ∙ same ∙ ap (λ b. cond b (x ∷ filter f xs) (filter f xs)) (sym (within e))
+
+filter_within : {X : Type 0} (f g : X → Bool) → ((x : X) → g x ≡ false → f x ≡ false) → (xs : List X) → filter f (filter g xs) ≡ filter f xs
+filter_within f g within [] = refl
+filter_within f g within (x ∷ xs) = within_step f g x xs (within x) (filter_within f g within xs)
+
+-- the others that come by their symbols are among those that change
+pub renewed_changed : (items : List Item) (rows : List (ℕ × Placed)) → filter (is_renewed items) (filter (is_changed items) rows) ≡ filter (is_renewed items) rows
+renewed_changed items = filter_within (is_renewed items) (is_changed items) within
+  where
+    within : (row : ℕ × Placed) → is_changed items row ≡ false → is_renewed items row ≡ false
+    within row = by (has_thing (is_object row.0) items) (has_symbol_of items row.1.object)
+      where
+        by : (a b : Bool) → (a || b) ≡ false → (not a && b) ≡ false
+        by true b e = refl
+        by false b e = e
+
 -- a change without symbols has no library symbol of any object
 no_symbol_of : (items : List Item) (o : ObjectData) → HasNoSymbol items → has_symbol_of items o ≡ false
 no_symbol_of items o none = by o.body refl
@@ -161,17 +183,6 @@ module _ (p : ProjectData) (items : List Item) (none : HasNoSymbol items) where
           by : (b : Bool) → b ≡ (b || has_symbol_of items row.1.object)
           by true = refl
           by false = sym (no_symbol_of items row.1.object none)
-
-  -- and no other objects come
-  pub given_come : given_rows items ≡ coming_rows p items
-  given_come = sym (ap (λ rows. given_rows items ++ rows) (none_passes (is_renewed items) (entries p.objects) plain) ∙ append-nil (given_rows items))
-    where
-      plain : (row : ℕ × Placed) → is_renewed items row ≡ false
-      plain row = by (not (has_thing (is_object row.0) items))
-        where
-          by : (b : Bool) → (b && has_symbol_of items row.1.object) ≡ false
-          by true = no_symbol_of items row.1.object none
-          by false = refl
 
   -- what is drawn of objects stays
   pub drawn_same : (rows : List (ℕ × Placed)) → drawn_in p rows ≡ drawn_in (put p items) rows

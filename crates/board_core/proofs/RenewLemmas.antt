@@ -3,11 +3,12 @@ use Rattle.std.proofs.Common.{◌≡◌, ◌≤◌, inl, inr, ℕ, Bool, true, f
 use Rattle.std.proofs.lemmas.List.{append-nil}
 use Rattle.project_model.specs.Projects.{ProjectData}
 use Rattle.group_runs.specs.Runs.{SheetName}
-use Rattle.group_runs.specs.Sheets.{IsKept, KeepsGroups, KeepsOtherSheets, Rows, is_given_up, row_at}
+use Rattle.group_runs.specs.Sheets.{IsKept, KeepsGroups, KeepsOtherSheets, Rows, is_given_up, kept_at, row_at}
 use Rattle.group_runs.proofs.RowLemmas.{same_or_apart}
-use Rattle.board_core.specs.steps.Kept.{AreRenewed, HoldsProject, NoneGivenUp, Renews}
+use Rattle.board_core.specs.steps.Standing.{on_sheet}
+use Rattle.board_core.specs.steps.Kept.{AreRenewed, HoldsProject, HoldsSheet, NoneGivenUp, Renews}
 use Rattle.board_core.proofs.MemberLemmas.{in_either, in_left, in_right}
-use Rattle.board_core.proofs.HoldLemmas.{kept_not_gone}
+use Rattle.board_core.proofs.HoldLemmas.{bare, bare_sheet, holds_kept, kept_not_gone}
 
 -- nothing is done for no sheets
 pub renews_none : (p : ProjectData) (rows : Rows) (steps : ℕ) (sheets : List SheetName) → HoldsProject p rows → Renews p rows rows steps steps sheets
@@ -43,6 +44,20 @@ module _ (p : ProjectData) (old new : Rows) (before after : ℕ) (sheet : SheetN
 -- a sheet whose groups are kept
 pub renewed_kept : (rows : Rows) (sheet : SheetName) → IsKept (row_at rows sheet) → AreRenewed rows rows (sheet ∷ [])
 renewed_kept rows sheet kept = record { kept = λ s h. elim h [ inl e ↦ subst (λ x. IsKept (row_at rows x)) e kept | inr k ↦ absurd k ]; fewer = λ s e. e }
+
+-- a sheet that has no conductors begins
+module _ (old new : Rows) (sheet : SheetName) (not_kept : IsKept (row_at old sheet) → ⊥) (others : KeepsOtherSheets sheet old new) where
+  pub begun_holds : (p : ProjectData) → HoldsProject p old → is_given_up (row_at old sheet) ≡ false → IsKept (row_at new sheet) → kept_at new ≡ kept_at old → HoldsProject p new
+  begun_holds p held e kept same s = elim (same_or_apart s sheet) [
+    | inl is ↦ subst (λ x. HoldsSheet (row_at new x) (on_sheet p x)) (sym is) (holds_kept (row_at new sheet) (on_sheet p sheet) kept ((λ i. same i sheet) ∙ bare (row_at old sheet) (on_sheet p sheet) (held sheet) not_kept ∙ sym (bare_sheet (row_at old sheet) (on_sheet p sheet) (held sheet) not_kept e)))
+    | inr n ↦ subst (λ r. HoldsSheet r (on_sheet p s)) (sym (others s n)) (held s)
+  ]
+
+  pub begun_keeps : KeepsGroups old new
+  begun_keeps s k = elim (same_or_apart s sheet) [
+    | inl is ↦ absurd (not_kept (subst (λ x. IsKept (row_at old x)) is k))
+    | inr n ↦ subst IsKept (sym (others s n)) k
+  ]
 
 -- some sheets, and then others
 module _ (p : ProjectData) (old mid new : Rows) (a b c : ℕ) (xs ys : List SheetName) where

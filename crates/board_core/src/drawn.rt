@@ -98,6 +98,8 @@ fn after_change(alloc: Global, project: &Project, change: &Change) -> Result<Pro
 }
 
 /// What comes with a change, of the objects that come.
+///
+/// The project is copied where the change has symbols and objects come with it.
 pub(crate) fn coming_drawn(
     alloc: Global,
     project: &Project,
@@ -113,6 +115,9 @@ pub(crate) fn coming_drawn(
 {
     if !things.has_symbols() {
         return drawn_in(alloc, project, rows);
+    }
+    if rows.is_empty() {
+        return Ok(Vec::new(alloc));
     }
     let after = after_change(alloc, project, change)?;
     drawn_in(alloc, &after, rows)

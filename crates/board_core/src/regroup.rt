@@ -38,7 +38,7 @@ fn moves_of<'p>(
         moves.leaving.items moves.coming.items) }
 {
     let before = changed_rows(alloc, project, things)?;
-    let after = coming_rows(alloc, project, things)?;
+    let after = coming_rows(alloc, things, &before)?;
     let leaving = keys_in(alloc, project, &before)?;
     let coming = coming_drawn(alloc, project, change, things, &after)?;
     Ok(Moves {

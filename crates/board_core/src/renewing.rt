@@ -1,7 +1,8 @@
 // The groups of sheets that a change touches are made anew, where they are not kept.
 ghost use Rattle.std.specs.Prelude.{◌≡◌, ◌≤◌, ◌∷◌, [], map, false, IfOk, OnOk};
+ghost use Rattle.project_model.specs.Projects.{ProjectData};
 ghost use Rattle.project_model.specs.Tables.{row_now};
-ghost use Rattle.group_runs.specs.Sheets.{IsKept, KeepsGroups, KeepsOtherSheets, is_given_up, row_at};
+ghost use Rattle.group_runs.specs.Sheets.{IsKept, KeepsGroups, KeepsOtherSheets, given_up, is_given_up, row_at};
 ghost use Rattle.board_core.specs.steps.Kept.{AreRenewed, HoldsProject, Renews, named_by, sheets_at, sheets_named};
 ghost use Rattle.board_core.specs.steps.Standing.{come, drawn_in, rows_on, some_row};
 
@@ -49,7 +50,25 @@ fn group_sheet(
     Ok(())
 }
 
+/// Begins the groups of a sheet whose groups are not kept, where none were given up: so it has no
+/// conductors.
+fn begin_sheet(alloc: Global, groups: &mut SheetGroups, sheet: &Name) -> Result<(), AllocError>
+    requires not_kept { IsKept (row_at groups.old.rows sheet.now) → ⊥ }
+    requires fresh { given_up groups.old.rows ≡ [] }
+    ensures held { (p : ProjectData) → HoldsProject p groups.old.rows
+        → HoldsProject p groups.new.rows }
+    ensures kept { OnOk result (IsKept (row_at groups.new.rows sheet.now)) }
+    ensures others { KeepsOtherSheets sheet.now groups.old.rows groups.new.rows }
+    ensures still { KeepsGroups groups.old.rows groups.new.rows }
+    ensures steps { groups.new.steps ≡ groups.old.steps }
+{
+    groups.open(alloc, sheet)?;
+    Ok(())
+}
+
 /// Groups the conductors of a sheet, unless its groups are kept.
+///
+/// Only where some groups were given up, the objects of the project are looked through.
 fn renew_sheet(
     alloc: Global,
     project: &Project,
@@ -64,6 +83,9 @@ fn renew_sheet(
 {
     if groups.is_kept(sheet) {
         return Ok(());
+    }
+    if groups.is_fresh() {
+        return begin_sheet(alloc, groups, sheet);
     }
     group_sheet(alloc, project, groups, sheet)
 }

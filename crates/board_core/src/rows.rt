@@ -1,7 +1,7 @@
 // The objects whose conductors leave or come with a change.
 ghost use Rattle.std.specs.Prelude.{◌≡◌, ◌++◌, ◌∷◌, [], cond, IfOk, OnOk, filter, map};
 ghost use Rattle.std.specs.Option.{option_map};
-ghost use Rattle.project_model.specs.Projects.{is_on};
+ghost use Rattle.project_model.specs.Projects.{ProjectData, is_on};
 ghost use Rattle.project_model.specs.Tables.{row_now};
 ghost use Rattle.board_core.specs.Bounds.{is_renewed};
 ghost use Rattle.board_core.specs.Changed.{is_changed};
@@ -116,24 +116,18 @@ fn push_renewed<'p>(
     Ok(())
 }
 
-/// The objects whose conductors come with a change: those that it gives, then the others of the
-/// project whose symbols it has, by id.
-///
-/// Where the change has no symbol, only its own objects are looked at.
+/// The objects whose conductors come with a change: those that it gives, then the others of a
+/// project whose symbols it has, by id. These are among those whose conductors leave.
 pub(crate) fn coming_rows<'p>(
     alloc: Global,
-    project: &'p Project,
     things: &'p Things<'_>,
+    changed: &[(u32, &'p Placed)],
 ) -> Result<Vec<(u32, &'p Placed)>, AllocError>
-    ensures { IfOk result (λ coming. map row_now coming.items
-        ≡ coming_rows project.now.contents things.now) }
+    ensures { (p : ProjectData) → map row_now changed.now ≡ changed_rows p things.now
+        → IfOk result (λ coming. map row_now coming.items ≡ coming_rows p things.now) }
 {
     let mut coming = given_rows(alloc, things.items())?;
-    if !things.has_symbols() {
-        return Ok(coming);
-    }
-    let rows = project.objects_by_id(alloc)?;
-    push_renewed(&mut coming, things, &rows)?;
+    push_renewed(&mut coming, things, changed)?;
     Ok(coming)
 }
 
