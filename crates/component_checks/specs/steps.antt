@@ -3,3 +3,4 @@ pub mod Repeats
 pub mod FoundBy
 pub mod SlotRows
 pub mod CheckedObjects
+pub mod CheckedValues

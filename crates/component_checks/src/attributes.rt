@@ -1,33 +1,32 @@
 // What the attributes and the pins of a component say to the check.
-ghost use Rattle.std.specs.Prelude.{◌≡◌, IfOk, codes, filter, option_copied, option_map};
+ghost use Rattle.std.specs.Prelude.{List, ℕ, ◌≡◌, All, IfOk, Some, codes, filter, option_copied};
+ghost use Rattle.std.specs.Prelude.{option_map};
 ghost use Rattle.std.specs.List.{list_any};
+ghost use Rattle.geda_model.specs.Names.{IsLineByte};
 ghost use Rattle.attr_rules.specs.Attributes.{all_attrs, attr};
-ghost use Rattle.attr_rules.specs.Components.{refdes_of};
 ghost use Rattle.attr_rules.specs.Slots.{slot_count};
-ghost use Rattle.pin_place.specs.Pins.{is_drawn, pins_of};
+ghost use Rattle.pin_place.specs.Pins.{is_drawn};
 ghost use Rattle.instance_objects.specs.Texts.{under};
 ghost use Rattle.component_checks.specs.CheckedComponents.{is_bad_net, slot_fault};
 
-use attr_rules::{
-    NetFault, SlotFault, all_attrs_of, attr_of, net_entries, refdes_of, short_number, slot_pins_of,
-};
-use geda_model::{Block, Line, Object, Symbol};
+use attr_rules::{NetFault, SlotFault, all_attrs_of, net_entries, short_number, slot_pins_of};
+use geda_model::{Block, Items, Line, Object, Symbol};
 use hierarchy::Instance;
 use instance_objects::line_under;
-use pin_place::{PlacedPin, pins_of};
+use pin_place::PlacedPin;
 use std::alloc::{AllocError, Global};
 
-/// The printed refdes of a component that has a refdes.
+/// The printed refdes of a component that has this refdes, if it has one.
 pub fn printed_refdes(
     alloc: Global,
     instance: &Instance,
-    object: &Object,
-    library: Option<&Symbol>,
+    refdes: Option<&str>,
 ) -> Result<Option<Line>, AllocError>
+    requires { (text : List ℕ) → Some text ≡ option_copied refdes → All IsLineByte text }
     ensures { IfOk result (λ printed. printed ≡ option_map (under instance.now.path)
-        (refdes_of object.now (option_copied library.entry))) }
+        (option_copied refdes.entry)) }
 {
-    match refdes_of(object, library) {
+    match refdes {
         None => Ok(None),
         Some(refdes) => Ok(Some(line_under(alloc, &instance.path, refdes)?)),
     }
@@ -54,17 +53,24 @@ fn some_bad_net(alloc: Global, values: &[Block]) -> Result<bool, AllocError>
     Ok(false)
 }
 
-/// Whether a value of `net`, attached or inherited, is bad.
+/// Whether a value of `net`, attached or inherited, is bad, where this is the first one.
 pub fn has_bad_net(
     alloc: Global,
     object: &Object,
     library: Option<&Symbol>,
+    first: Option<&str>,
 ) -> Result<bool, AllocError>
+    requires { option_copied first ≡ attr object.now (option_copied library) (codes "net") }
     ensures { IfOk result (λ bad. bad ≡
         list_any is_bad_net (all_attrs object.now (option_copied library.entry) (codes "net"))) }
 {
-    let values = all_attrs_of(alloc, object, library, "net")?;
-    some_bad_net(alloc, values.as_slice())
+    match first {
+        None => Ok(false),
+        Some(_) => {
+            let values = all_attrs_of(alloc, object, library, "net")?;
+            some_bad_net(alloc, values.as_slice())
+        }
+    }
 }
 
 /// A value that may be there, by itself.
@@ -97,24 +103,18 @@ pub fn slot_fault(
     }
 }
 
-/// The count of slots, if `numslots` is 1 to 4 digits. It takes no memory.
-pub fn slot_count(object: &Object, library: Option<&Symbol>) -> Option<u32>
-    ensures { result ≡
-        slot_count (attr object.now (option_copied library.entry) (codes "numslots")) }
+/// The count of slots, if this value of `numslots` is 1 to 4 digits. It takes no memory.
+pub fn slot_count(numslots: Option<&str>) -> Option<u32>
+    ensures { result ≡ slot_count (option_copied numslots.entry) }
 {
-    short_number(attr_of(object, library, "numslots")?)
+    short_number(numslots?)
 }
 
-/// The drawn net pins, by place.
-pub fn drawn_pins(
-    alloc: Global,
-    object: &Object,
-    library: Option<&Symbol>,
-) -> Result<Vec<PlacedPin>, AllocError>
-    ensures { IfOk result (λ pins. pins.items ≡
-        filter is_drawn (pins_of object.now (option_copied library.entry))) }
+/// The drawn ones of these pins, in their order.
+pub fn drawn_pins(pins: Items<PlacedPin>) -> Vec<PlacedPin>
+    ensures { result.items ≡ filter is_drawn pins }
 {
-    let mut pins = pins_of(alloc, object, library)?.into_vec();
+    let mut pins = pins.into_vec();
     pins.retain(|pin| pin.end.is_some());
-    Ok(pins)
+    pins
 }

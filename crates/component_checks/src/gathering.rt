@@ -1,15 +1,20 @@
 // A component as the check sees it.
 ghost use Rattle.std.specs.Prelude.{◌≡◌, IfOk, option_copied};
+ghost use Rattle.geda_model.specs.declared.object.Body.TheVariants as bodies;
+ghost use Rattle.attr_rules.specs.FirstValues.{values_of};
 ghost use Rattle.attr_rules.specs.Libraries.{library_of};
 ghost use Rattle.component_checks.specs.CheckedComponents.{checked_component, checked_object};
-ghost use Rattle.component_checks.specs.CheckedComponents.{checked_with, has_symbol, is_port_if};
+ghost use Rattle.component_checks.specs.CheckedComponents.{has_symbol, is_port_if};
+ghost use Rattle.component_checks.specs.steps.CheckedValues.{checked_by};
 
 use crate::attributes::{copy_of, drawn_pins, has_bad_net, printed_refdes, slot_count, slot_fault};
 use crate::checked::CheckedComponent;
-use attr_rules::{attr_of, has_sources, is_annotation, refdes_of};
-use geda_model::{Body, Component, Symbol};
+use attr_rules::FirstValues;
+use geda_model::{Body, Component, Items, Symbol};
 use instance_objects::InstanceObject;
+use pin_place::PlacedPin;
 use std::alloc::{AllocError, Global};
+use symbol_tables::SymbolTables;
 
 fn has_symbol(component: &Component, library: Option<&Symbol>) -> bool
     ensures { result ≡ has_symbol component.now (option_copied library.entry) }
@@ -27,61 +32,75 @@ fn is_port_if(found: &InstanceObject<'_>, refdes: Option<&str>) -> bool
     }
 }
 
-fn checked_with(
+/// A component with these first values and pins, as the check sees it.
+fn checked_by(
     alloc: Global,
     found: &InstanceObject<'_>,
     component: &Component,
     library: Option<&Symbol>,
+    values: &FirstValues<'_>,
+    pins: Items<PlacedPin>,
 ) -> Result<CheckedComponent, AllocError>
-    ensures { IfOk result (λ made. made ≡ checked_with found.now.project found.now.flat.instance
-        found.now.flat.id found.now.flat.object component.now (option_copied library.entry)) }
+    requires { values.now ≡ values_of found.now.flat.object (option_copied library) }
+    ensures { IfOk result (λ made. made ≡ checked_by found.now.project found.now.flat
+        component.now (option_copied library.entry) values.now pins) }
 {
     let object = found.object();
     let instance = found.instance();
-    let refdes = refdes_of(object, library);
-    let slot = attr_of(object, library, "slot");
+    let refdes = values.refdes_line();
     Ok(CheckedComponent {
         sheet: instance.sheet.clone()?,
         id: found.id(),
         basename: component.basename.clone()?,
         has_symbol: has_symbol(component, library),
-        refdes: printed_refdes(alloc, instance, object, library)?,
-        is_hierarchical: has_sources(object, library),
+        refdes: printed_refdes(alloc, instance, refdes)?,
+        is_hierarchical: values.has_sources(),
         is_port: is_port_if(found, refdes),
-        has_net: attr_of(object, library, "net").is_some(),
-        has_bad_net: has_bad_net(alloc, object, library)?,
-        slot: copy_of(alloc, slot)?,
-        slot_fault: slot_fault(alloc, object, library, slot)?,
-        slots: slot_count(object, library),
-        pins: drawn_pins(alloc, object, library)?,
+        has_net: values.net.is_some(),
+        has_bad_net: has_bad_net(alloc, object, library, values.net)?,
+        slot: copy_of(alloc, values.slot)?,
+        slot_fault: slot_fault(alloc, object, library, values.slot)?,
+        slots: slot_count(values.numslots),
+        pins: drawn_pins(pins),
     })
 }
 
-fn checked_component(
+fn checked_component<'a>(
     alloc: Global,
-    found: &InstanceObject<'_>,
+    tables: &mut SymbolTables<'a>,
+    found: &InstanceObject<'a>,
     component: &Component,
 ) -> Result<Option<CheckedComponent>, AllocError>
-    ensures { IfOk result (λ made. made ≡ checked_component found.now.project found.now.flat
-        component.now (library_of found.now.project found.now.flat.object)) }
+    requires body { found.now.flat.object.body ≡ bodies.Component component.now }
+    requires same { tables.old ≡ found.now.project }
+    ensures made { IfOk result (λ made. made ≡ checked_component found.now.project
+        found.now.flat component.now (library_of found.now.project found.now.flat.object)) }
+    ensures kept { tables.new ≡ tables.old }
 {
-    let library = found.library(alloc)?;
-    if is_annotation(found.object(), library) {
+    let object = found.object();
+    let values = tables.values_of(alloc, object)?;
+    if values.is_annotation() {
         return Ok(None);
     }
-    Ok(Some(checked_with(alloc, found, component, library)?))
+    let library = tables.library_of(alloc, object)?;
+    let pins = tables.pins_of(alloc, object)?;
+    let made = checked_by(alloc, found, component, library, &values, pins)?;
+    Ok(Some(made))
 }
 
 /// An object as the check sees it, if it is a component that is neither graphical nor a directive.
-pub fn checked_object(
+pub fn checked_object<'a>(
     alloc: Global,
-    found: &InstanceObject<'_>,
+    tables: &mut SymbolTables<'a>,
+    found: &InstanceObject<'a>,
 ) -> Result<Option<CheckedComponent>, AllocError>
-    ensures { IfOk result
+    requires same { tables.old ≡ found.now.project }
+    ensures made { IfOk result
         (λ made. made ≡ checked_object found.now.project found.now.flat) }
+    ensures kept { tables.new ≡ tables.old }
 {
     match found.body() {
         Body::Shape(_) => Ok(None),
-        Body::Component(component) => checked_component(alloc, found, component),
+        Body::Component(component) => checked_component(alloc, tables, found, component),
     }
 }

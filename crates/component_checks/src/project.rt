@@ -10,19 +10,23 @@ use crate::gathering::checked_object;
 use crate::lists::push_if;
 use instance_objects::{InstanceObjects, Occurrence};
 use std::alloc::{AllocError, Global};
+use symbol_tables::SymbolTables;
 
 /// What stands there, if it is checked.
-fn checked_at(
+fn checked_at<'a>(
     alloc: Global,
-    objects: &InstanceObjects<'_>,
+    tables: &mut SymbolTables<'a>,
+    objects: &'a InstanceObjects<'_>,
     occurrence: &Occurrence<'_>,
 ) -> Result<Option<CheckedComponent>, AllocError>
-    ensures { IfOk result (λ made. made ≡ checked_at objects.now occurrence.now) }
+    requires same { tables.old ≡ objects.now }
+    ensures made { IfOk result (λ made. made ≡ checked_at objects.now occurrence.now) }
+    ensures kept { tables.new ≡ tables.old }
 {
     let Some(found) = objects.object(occurrence) else {
         return Ok(None);
     };
-    checked_object(alloc, &found)
+    checked_object(alloc, tables, &found)
 }
 
 #[tactic(auto, using(crate::proofs::ListLemmas::push_more))]
@@ -34,9 +38,11 @@ fn components_among(
         filter_map (checked_at objects.now) (occurrences objects.now)) }
 {
     let occurrences = objects.occurrences();
+    let mut tables = SymbolTables::new(alloc, objects.project());
     let mut components = Vec::new(alloc);
     for occurrence in occurrences {
-        push_if(&mut components, checked_at(alloc, objects, occurrence)?)?;
+        let made = checked_at(alloc, &mut tables, objects, occurrence)?;
+        push_if(&mut components, made)?;
     }
     Ok(components)
 }

@@ -4,4 +4,4 @@ use Rattle.component_checks.proofs.attributes.drawn_pins.Goals as goal
 use Rattle.pin_place.specs.Pins.{is_drawn}
 
 pub returns : goal.returns
-returns c = filter_from_retain _ is_drawn (λ p x b q h. search rules) _ _ _ c.retain.ensures.filtered ∙ ap (filter is_drawn) (c.into_vec-pins.ensures ∙ c.in_ok-pins_of.ensures)
+returns c = filter_from_retain _ is_drawn (λ p x b q h. search rules) _ _ _ c.retain.ensures.filtered ∙ ap (filter is_drawn) c.into_vec-pins.ensures
