@@ -12,7 +12,7 @@ from component_rules import Component, attributes, values_of
 from geda_files import Fault, canonical, read_sheet, read_symbol, written
 from touching import classes, classes_by_ends
 
-MOST_OBJECTS = 100_000
+MOST_OBJECTS = 400_000
 MOST_SHEETS = 1_024
 MOST_SYMBOLS = 8_192
 MOST_TEXT = 67_108_864

@@ -75,15 +75,18 @@ def of_sheets():
 
 
 def of_objects():
-    half = VERSION + POINT * 50_000
-    for count, more in [(100_000, b""), (100_001, POINT)]:
-        files = {"x.sch": half, "y.sch": half + more}
-        yield f"{count} objects in two sheets", files, ["x.sch", "y.sch"]
-    below = {"x.sch": half + over("y.sch"), "y.sch": half + over("z.sch")}
+    quarter = VERSION + POINT * 99_999
+    quarters = {f"{number}.sch": quarter for number in range(4)}
+    for count in (400_000, 400_001):
+        files = {**quarters, "rest.sch": VERSION + POINT * (count - 4 * 99_999)}
+        yield f"{count} objects in five sheets", files, list(files)
+    below = {f"{number}.sch": quarter + over(f"{number + 1}.sch") for number in range(4)}
+    below["4.sch"] = VERSION + POINT + over("5.sch")
     yield "too many objects, and a sheet that is refused", {
-        **below, "z.sch": VERSION + b"N\n"}, ["x.sch"]
+        **below, "5.sch": VERSION + b"N\n"}, ["0.sch"]
     many = {f"{number}.sch": VERSION for number in range(1_025)}
-    many.update({"0.sch": half, "1.sch": half + POINT})
+    many.update(quarters)
+    many["4.sch"] = VERSION + POINT * 5
     yield "too many objects in too many sheets", many, list(many)
 
 

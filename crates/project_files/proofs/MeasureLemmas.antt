@@ -25,7 +25,7 @@ use Rattle.project_model.proofs.Rows.{ids, key_same, names}
 use Rattle.project_files.specs.declared.fault.FileFault.TheVariants as faults
 use Rattle.project_files.specs.Gathering.{AskedSymbol, Gathered}
 use Rattle.project_files.specs.Measures.{LeavesIds, symbols_text, text_bytes}
-use Rattle.project_files.specs.Opening.{all_objects, found_symbol, has_too_many_objects, is_over_full, library_of, object_items, opened, opening, sheet_items, sheets_items, symbol_items}
+use Rattle.project_files.specs.Opening.{all_objects, found_symbol, has_too_many_objects, is_over_full, library_of, most_project_objects, object_items, opened, opening, sheet_items, sheets_items, symbol_items}
 use Rattle.project_files.specs.steps.Counting.{asked_bytes}
 use Rattle.project_files.specs.steps.Standing.{IsWhole}
 use Rattle.project_files.proofs.OpeningLemmas.{opening_can_apply}
@@ -126,14 +126,14 @@ no_symbols : symbols_text empty_project ≡ 0
 no_symbols = none_in (entries empty_project.symbols) (sym (len-entries empty_project.symbols) ∙ len-empty (slice_cmp nat_cmp) SymbolData)
 
 -- what is opened is a project within its limits
-is_opened : (g : Gathered) (p : ProjectData) → Ok p ≡ opened g → (p ≡ put empty_project (opening g)) × (length (all_objects g) ≤ 100000)
+is_opened : (g : Gathered) (p : ProjectData) → Ok p ≡ opened g → (p ≡ put empty_project (opening g)) × (length (all_objects g) ≤ most_project_objects)
 is_opened g p is = go (has_too_many_objects g) (is_over_full g) refl is
   where
     go : (many full : Bool) → has_too_many_objects g ≡ many → Ok p ≡ cond many (Err faults.TooManyObjects) (cond full (Err faults.ProjectFull) (Ok (put empty_project (opening g))))
-        → (p ≡ put empty_project (opening g)) × (length (all_objects g) ≤ 100000)
+        → (p ≡ put empty_project (opening g)) × (length (all_objects g) ≤ most_project_objects)
     go true full few h = absurd cc
     go false true few h = absurd cc
-    go false false few h = (cc, ltb-false 100000 (length (all_objects g)) few)
+    go false false few h = (cc, ltb-false most_project_objects (length (all_objects g)) few)
 
 pub opened_leaves_ids : (g : Gathered) (p : ProjectData) → IsWhole g → Ok p ≡ opened g → LeavesIds p
 opened_leaves_ids g p whole is =

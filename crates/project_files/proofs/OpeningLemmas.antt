@@ -12,7 +12,7 @@ use Rattle.project_model.specs.declared.change.Value.TheVariants as values
 use Rattle.project_model.specs.Items.{Item}
 use Rattle.project_model.specs.Changes.{CanApply, IsIdInRange}
 use Rattle.project_files.specs.Gathering.{AskedSymbol, Gathered}
-use Rattle.project_files.specs.Opening.{Library, all_objects, found_symbol, library_of, object_items, opening, sheet_items, sheets_items, symbol_items}
+use Rattle.project_files.specs.Opening.{Library, all_objects, found_symbol, library_of, most_project_objects, object_items, opening, sheet_items, sheets_items, symbol_items}
 use Rattle.project_files.specs.steps.Standing.{IsWhole}
 
 -- the two items are of different things
@@ -158,7 +158,7 @@ symbols_in_range [] = All-nil _
 symbols_in_range (symbol ∷ library) = All-cons (λ (item : Item). IsIdInRange item.0) (symbol_item symbol.0 symbol.1) (symbol_items library) tt (symbols_in_range library)
 
 -- the change that opens a project can be applied
-pub opening_can_apply : (g : Gathered) → IsWhole g → length (all_objects g) ≤ 100000 → CanApply (opening g)
+pub opening_can_apply : (g : Gathered) → IsWhole g → length (all_objects g) ≤ most_project_objects → CanApply (opening g)
 opening_can_apply g whole few =
     let sheets = sheets_items 0 g.queue g.sheets in
     let symbols = symbol_items (library_of g) in

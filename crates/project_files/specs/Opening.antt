@@ -2,7 +2,7 @@
 use Rattle.std.specs.Prelude.{ℕ, ◌+◌, ◌||◌, nat_lt, if◌then◌else◌, Bool, List, [], ◌∷◌, ◌++◌, Result, Ok, Err, Some, length, map, option_map}
 use Rattle.std.specs.declared.option.Option.{Option}
 use Rattle.std.specs.List.{filter_map, flat_map, sum_by}
-use Rattle.geda_model.specs.Limits.{most_objects, most_project_text, most_sheets, most_symbols}
+use Rattle.geda_model.specs.Limits.{most_project_text, most_sheets, most_symbols}
 use Rattle.geda_model.specs.Sheets.{ObjectData, SheetData, SymbolData}
 use Rattle.project_model.specs.Items.{Item}
 use Rattle.project_model.specs.Projects.{ProjectData, empty_project}
@@ -42,9 +42,13 @@ symbol_bytes symbol = length (symbol_text symbol.1)
 abbrev pub project_text : Gathered → ℕ
 project_text g = sum_by object_bytes (all_objects g) + sum_by symbol_bytes (library_of g)
 
+-- the objects that all sheets of a project may have
+abbrev pub most_project_objects : ℕ
+most_project_objects = 400000
+
 -- more objects than a project may have
 abbrev pub has_too_many_objects : Gathered → Bool
-has_too_many_objects g = nat_lt most_objects (length (all_objects g))
+has_too_many_objects g = nat_lt most_project_objects (length (all_objects g))
 
 -- more sheets than a project may have, or more symbols, or more text
 abbrev pub is_over_full : Gathered → Bool

@@ -3,7 +3,7 @@ ghost use Rattle.std.specs.Prelude.{◌≡◌, ◌+◌, ◌++◌, ◌≤◌, IfO
 ghost use Rattle.std.specs.List.{filter_map, flat_map};
 ghost use Rattle.project_model.specs.Changes.{CanApply, put};
 ghost use Rattle.project_model.specs.Projects.{empty_project};
-ghost use Rattle.project_files.specs.Opening.{all_objects, found_symbol, object_items, opened};
+ghost use Rattle.project_files.specs.Opening.{all_objects, found_symbol, most_project_objects, object_items, opened};
 ghost use Rattle.project_files.specs.Opening.{opening, sheet_items, sheets_items, symbol_items};
 ghost use Rattle.project_files.specs.steps.Standing.{IsWhole};
 ghost use Rattle.project_files.specs.ProjectFiles.{IsAnswer, with_view};
@@ -53,7 +53,7 @@ fn push_sheet(change: &mut Change, name: Name, id: u32, sheet: Sheet) -> Result<
 }
 
 fn push_sheets(change: &mut Change, names: Vec<Name>, sheets: Vec<Sheet>) -> Result<(), AllocError>
-    requires { length (flat_map (λ sheet. sheet.objects) sheets.items) ≤ 100000 }
+    requires { length (flat_map (λ sheet. sheet.objects) sheets.items) ≤ most_project_objects }
     ensures { OnOk result
         (change.new.items ≡ change.old.items ++ sheets_items 0 names.items sheets.items) }
 {
@@ -81,7 +81,7 @@ fn push_symbols(change: &mut Change, symbols: Vec<(Name, Option<Symbol>)>) -> Re
 }
 
 fn opening(alloc: Global, gathered: GatheredFiles) -> Result<Change, AllocError>
-    requires { length (all_objects gathered) ≤ 100000 }
+    requires { length (all_objects gathered) ≤ most_project_objects }
     ensures { IfOk result (λ change. change.items ≡ opening gathered) }
 {
     let GatheredFiles {

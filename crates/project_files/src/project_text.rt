@@ -7,10 +7,11 @@ ghost use Rattle.project_files.specs.steps.Counting.{asked_bytes, found_bytes, o
 ghost use Rattle.project_files.specs.steps.Counting.{sheet_bytes};
 
 use crate::gathered::GatheredFiles;
-use geda_model::{
-    MOST_OBJECTS, MOST_PROJECT_TEXT, MOST_SHEETS, MOST_SYMBOLS, Name, Object, Sheet, Symbol,
-};
+use geda_model::{MOST_PROJECT_TEXT, MOST_SHEETS, MOST_SYMBOLS, Name, Object, Sheet, Symbol};
 use geda_write::{object_size, symbol_size};
+
+// The objects of all sheets of a project.
+const MOST_PROJECT_OBJECTS: usize = 400000;
 
 fn object_count(sheets: &[Sheet]) -> usize
     ensures { result ≡ min (sum_by object_count sheets.now) (2 ^ 64 - 1) }
@@ -85,7 +86,7 @@ fn project_text(gathered: &GatheredFiles) -> u64
 pub fn has_too_many_objects(gathered: &GatheredFiles) -> bool
     ensures { result ≡ has_too_many_objects gathered.now }
 {
-    object_count(&gathered.sheets) > MOST_OBJECTS
+    object_count(&gathered.sheets) > MOST_PROJECT_OBJECTS
 }
 
 /// Whether it has more sheets or symbols, or more text, than a project may have. It takes no
