@@ -5,10 +5,15 @@
 //! "Gates".
 #![tactic(auto)]
 
+mod accepting;
 mod gate;
 mod memory_gate;
+mod patience;
+mod served;
+mod shared;
 mod tcp_gate;
 mod tcp_link;
+mod waiting;
 
 pub use gate::{Gate, GateFault};
 pub use memory_gate::MemoryGate;

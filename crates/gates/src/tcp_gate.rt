@@ -1,31 +1,41 @@
 // A TCP listener.
 use crate::gate::{Gate, GateFault};
+use crate::shared::Shared;
 use crate::tcp_link::TcpLink;
+use std::io;
 use std::net::{Net, TcpListener, TcpStream};
-use std::time::{Clock, Duration};
-use std::{io, thread};
-
-/// After so many failures in a row no further connection comes.
-const MOST_FAILURES: u32 = 1_000;
-
-/// How long to wait after a failure, since want of descriptors or of memory mostly passes.
-const PAUSE_MILLISECONDS: u64 = 10;
+use std::sync::{Arc, Wait};
+use std::time::Clock;
 
 /// A TCP listener, which waits for clients.
+///
+/// A connection is given out when the head of a request is there, or the end of its input, and is
+/// taken back between two requests where the client is silent or others wait for a worker: it may
+/// be several links, one after the other.
 #[derive(Drop)]
-pub struct TcpGate<'a, R: Net<Listener = TcpListener, Stream = TcpStream> + Clock> {
+pub struct TcpGate<
+    'a,
+    R: Net<Listener = TcpListener, Stream = TcpStream> + Clock + Wait + AllocGlobal,
+> {
     rt: &'a R,
-    listener: Option<TcpListener>,
+    shared: Option<Arc<Shared>>,
     faults: u64,
 }
 
-/// Waits for a client.
-fn accept(listener: &TcpListener) -> io::Result<TcpLink> {
-    let (stream, _) = listener.accept()?;
-    TcpLink::new(stream)
+/// Listens at an address.
+fn listen<R: Net<Listener = TcpListener, Stream = TcpStream> + AllocGlobal>(
+    rt: &R,
+    address: &str,
+) -> io::Result<Arc<Shared>> {
+    let listener = TcpListener::bind(rt, address)?;
+    let shared = Shared::new(rt, rt.alloc(), listener)?;
+    Ok(Arc::new(rt.alloc(), shared)?)
 }
 
-impl<'a, R: Net<Listener = TcpListener, Stream = TcpStream> + Clock> TcpGate<'a, R> {
+impl<'a, R: Net<Listener = TcpListener, Stream = TcpStream> + Clock + Wait + AllocGlobal> TcpGate<
+    'a,
+    R,
+> {
     ghost use Rattle.std.specs.Prelude.{◌≡◌};
 
     /// A listener that is not bound yet.
@@ -34,22 +44,25 @@ impl<'a, R: Net<Listener = TcpListener, Stream = TcpStream> + Clock> TcpGate<'a,
     {
         TcpGate {
             rt,
-            listener: None,
+            shared: None,
             faults: 0,
         }
     }
 }
 
-impl<R: Net<Listener = TcpListener, Stream = TcpStream> + Clock> Gate for TcpGate<'_, R> {
-    type Link = TcpLink;
+impl<
+    'a,
+    R: Net<Listener = TcpListener, Stream = TcpStream> + Clock + Wait + AllocGlobal + Sync,
+> Gate for TcpGate<'a, R> {
+    type Link = TcpLink<'a, R>;
 
     ghost faults = { λ g. g.faults };
 
     /// Listens at this address: an IP address or the name of a host, `:` and a port.
     fn bind(&mut self, address: &str) -> Result<(), GateFault> {
-        match TcpListener::bind(self.rt, address) {
-            Ok(listener) => {
-                self.listener = Some(listener);
+        match listen(self.rt, address) {
+            Ok(shared) => {
+                self.shared = Some(shared);
                 Ok(())
             }
             Err(_) => {
@@ -61,14 +74,10 @@ impl<R: Net<Listener = TcpListener, Stream = TcpStream> + Clock> Gate for TcpGat
 
     /// Waits for the next client. A connection that fails before it is set up counts for none, and
     /// the next one is waited for. `None` after 1,000 such failures in a row, and before a bind.
-    fn next(&self) -> Option<TcpLink> {
-        let listener = self.listener.as_ref()?;
-        for _ in 0..MOST_FAILURES {
-            match accept(listener) {
-                Ok(link) => return Some(link),
-                Err(_) => thread::sleep(self.rt, Duration::from_millis(PAUSE_MILLISECONDS)),
-            }
-        }
-        None
+    fn next(&self) -> Option<TcpLink<'a, R>> {
+        let shared = self.shared.as_ref()?;
+        let (stream, others) = shared.next(self.rt)?;
+        let shared = Arc::try_clone(shared).ok()?;
+        Some(TcpLink::new(self.rt, shared, stream, others))
     }
 }

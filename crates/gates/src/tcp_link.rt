@@ -1,66 +1,46 @@
 // A TCP connection. It tells no contents.
 ghost use Rattle.std.specs.Prelude.{None};
-ghost use Rattle.std.specs.Io.{ReadsAtMost};
 
-#[cfg(test)]
-mod tests;
-
-use std::io;
-use std::io::{Read, Write};
+use crate::served::Served;
+use crate::shared::Shared;
 use std::net::TcpStream;
-use std::time::Duration;
+use std::sync::{Arc, Wait};
+use std::time::Clock;
 use web_heads::{Link, LinkFault};
 
-/// How long a read or a write waits for the client at most.
-const LONGEST_WAIT_SECONDS: u64 = 60;
-
-/// How often a read is begun anew where a signal interrupts it.
-const MOST_INTERRUPTIONS: u32 = 100;
-
-/// A TCP connection. What is written goes out at once. A read or a write that waits for more than
-/// 60 seconds fails, so that a silent client does not keep a worker.
+/// A TCP connection for as long as a worker serves it. What is written goes out at once. It ends
+/// where the client is silent between two requests, so that no worker waits for it. Within a
+/// request or a reply a client that takes too long is given up: a head has 20 seconds, a body or a
+/// reply 60 seconds and one for each 64 KiB, and less while others wait for a worker.
 #[derive(Drop)]
-pub struct TcpLink {
-    stream: TcpStream,
+pub struct TcpLink<'a, R: Clock + Wait> {
+    served: Served<'a, R>,
     read_faults: u64,
     write_faults: u64,
 }
 
-/// Takes bytes that have come, or waits for some.
-fn read_stream(stream: &mut TcpStream, room: &mut [u8]) -> io::Result<usize>
-    ensures { ReadsAtMost result room.new }
-{
-    for _ in 0..MOST_INTERRUPTIONS {
-        match stream.read(room) {
-            Err(fault) if fault.kind() == io::ErrorKind::Interrupted => {}
-            answer => return answer,
-        }
-    }
-    Err(io::Error::from(io::ErrorKind::Interrupted))
-}
+impl<'a, R: Clock + Wait> TcpLink<'a, R> {
+    ghost use Rattle.std.specs.Prelude.{◌≡◌};
 
-impl TcpLink {
-    ghost use Rattle.std.specs.Prelude.{◌≡◌, IfOk};
-
-    /// The connection of a stream, whose delay and waiting times it sets. It fails where the stream
-    /// refuses them.
-    pub fn new(stream: TcpStream) -> io::Result<TcpLink>
-        ensures read_faults { IfOk result (λ link. link.read_faults ≡ 0) }
-        ensures write_faults { IfOk result (λ link. link.write_faults ≡ 0) }
+    /// The link of a connection that a worker begins to serve, while so many others wait for one.
+    pub(crate) fn new(
+        rt: &'a R,
+        shared: Arc<Shared>,
+        stream: TcpStream,
+        others: usize,
+    ) -> TcpLink<'a, R>
+        ensures read_faults { result.read_faults ≡ 0 }
+        ensures write_faults { result.write_faults ≡ 0 }
     {
-        let longest_wait = Some(Duration::from_secs(LONGEST_WAIT_SECONDS));
-        stream.set_nodelay(true)?;
-        stream.set_read_timeout(longest_wait)?;
-        stream.set_write_timeout(longest_wait)?;
-        Ok(TcpLink {
-            stream,
+        TcpLink {
+            served: Served::new(rt, shared, stream, others),
             read_faults: 0,
             write_faults: 0,
-        })
+        }
     }
 }
 
-impl Link for TcpLink {
+impl<R: Clock + Wait> Link for TcpLink<'_, R> {
     ghost input = { λ _. None };
 
     ghost output = { λ _. None };
@@ -69,8 +49,9 @@ impl Link for TcpLink {
 
     ghost write_faults = { λ l. l.write_faults };
 
+    /// 0 comes also where the connection is taken back, which is so between two requests alone.
     fn read(&mut self, room: &mut [u8]) -> Result<usize, LinkFault> {
-        match read_stream(&mut self.stream, room) {
+        match self.served.read(room) {
             Ok(count) => Ok(count),
             Err(_) => {
                 self.read_faults = self.read_faults.saturating_add(1);
@@ -80,7 +61,7 @@ impl Link for TcpLink {
     }
 
     fn write(&mut self, piece: &[u8]) -> Result<(), LinkFault> {
-        match self.stream.write_all(piece) {
+        match self.served.write(piece) {
             Ok(()) => Ok(()),
             Err(_) => {
                 self.write_faults = self.write_faults.saturating_add(1);

@@ -24,7 +24,7 @@ open_served around out (Err faults.KeeperFault) legal h = absurd h
 open_served around out (Err (faults.RowRefused serial)) legal h = absurd h
 open_served around out (Err faults.NoPlace) legal h = absurd h
 open_served around out (Err faults.OutputFault) legal h = (legal, h)
-open_served around out (Err faults.NoMemory) legal h = inr h
+open_served around out (Err faults.NoMemory) legal h = h
 
 -- the hall was not opened
 pub not_opened : {X : Type 0} (around : Outside) (out : Stream) (fault : OpenFault) (e : ServeFault) → FromOpening fault e → Refuses around.rows fault → (IsErrOf {T = X} (Err fault) opening.NoPlace → Failed around.places) → (around.never_fails → IsErrOf {T = X} (Err fault) opening.KeeperFault → ⊥) → IsQuiet out → ServesTo around out (Err e)

@@ -21,6 +21,9 @@ use std::thread::Threads;
 /// How many seats a hall that is served has.
 const SEATS: u32 = 8;
 
+/// What eight workers ask for: each a stack of 8 MiB, and 5 MiB for a connection.
+const MEMORY_OF_WORKERS: usize = 8 * 13 * 1024 * 1024;
+
 // Prints the line that tells that links are served.
 #[tactic(auto, using(sinks::proofs::Writing::prefix_written, sinks::proofs::Writing::whole_written))]
 fn print_serving<O: Sink>(out: &mut O) -> Result<(), SinkFault>
@@ -30,6 +33,12 @@ fn print_serving<O: Sink>(out: &mut O) -> Result<(), SinkFault>
         (counts (O.faults out.old) (O.faults out.new))) serving_line) }
 {
     out.write(b"serving\n")
+}
+
+// Asks once for the memory of eight workers, so that want of it is told before links are served.
+fn ask_for_memory(alloc: Global) -> Result<(), AllocError> {
+    let _memory: Vec<u8> = Vec::with_capacity(alloc, MEMORY_OF_WORKERS)?;
+    Ok(())
 }
 
 // Prints that links are served, and serves them until the gate gives none. The seats stand to the
@@ -52,6 +61,10 @@ fn serve_opened<
     ensures { OpenServesTo (stream (O.written out.old) (O.written out.new)
         (counts (O.faults out.old) (O.faults out.new))) result }
 {
+    if ask_for_memory(alloc).is_err() {
+        mem::forget(seats);
+        return Err(ServeFault::NoMemory);
+    }
     if print_serving(out).is_err() {
         mem::forget(seats);
         return Err(ServeFault::OutputFault);
@@ -108,8 +121,8 @@ fn serve_named<
 /// did, and `OutputFault` only where that of `out` did; then a prefix of the line is out.
 /// `KeeperFault` never comes of a keeper that never fails. Where the rows are told, `RowRefused`
 /// only where the rules do not accept that row, which is the first such one, and links are served
-/// only where they accept each. Without links served nothing is out. The hall stands to the end of
-/// the process.
+/// only where they accept each. Without links served nothing is out. Before the line the memory of
+/// eight workers was there once. The hall stands to the end of the process.
 pub fn serve<W: Threads + Wait + Sync, G: Gate + Sync, K: Keeper + Send, O: Sink>(
     rt: &W,
     alloc: Global,
