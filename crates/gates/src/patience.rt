@@ -14,7 +14,7 @@ const LONGEST_SHARED_SECONDS: u64 = 2;
 
 /// How long a client may stand still while others wait: the shorter, the more there are, but longer
 /// than a network takes to send again what it lost.
-const LONGEST_STILL_MILLISECONDS: u64 = 500;
+const LONGEST_STILL_MILLISECONDS: u64 = 1_000;
 
 const SHORTEST_STILL_MILLISECONDS: u64 = 220;
 
