@@ -187,7 +187,7 @@ def arguments(doc, count):
 def compare_asked(asked, command, known, random_folders, folder_of=folder_of):
     """Compares the folders that are asked for: those with known answers, which come before the
     random ones, or those of a folder. With --cases the program has to be named."""
-    if asked.cases and not asked.program:
+    if asked.cases and not (asked.program and known):
         return 0
     folders = itertools.chain(known, random_folders(asked.seed, asked.count))
     if asked.cases:
