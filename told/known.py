@@ -1,7 +1,7 @@
 #!/usr/bin/env python3
 """Works the known answers of all scripts of told/ out again, by the rules that are told there.
 
-Usage: told/known [PROGRAM]. No program is run where none is named; the one that is named has to
+Usage: known.py [PROGRAM]. No program is run where none is named; the one that is named has to
 answer them too. Each script runs in a process of its own, as many at a time as there are
 processors. The status is 1 where an answer is not what is known.
 """
