@@ -1,0 +1,101 @@
+#!/usr/bin/env python3
+"""gafd_view: a page on which a laboratory looks at its board.
+
+  gafd_view [--port N] [--symbols FOLDER]... FOLDER
+  gafd_view [--port N] [--symbols FOLDER]... FILE...
+  gafd_view [--port N] [--store FOLDER] [--look] [--host NAME]... SERVER
+
+It prints the address of the page, and serves it on the loopback alone. Of a FOLDER it shows all
+sheets as one board, of FILEs these and the sheets below them; it looks again when a file changes.
+Symbols that do not lie beside the sheets are looked for below the folders that --symbols names, and
+below those of lepton-eda and gEDA.
+
+Of a SERVER, as http://127.0.0.1:8080, it shows what that keeps, and hands edits on. --store names
+the server's store where it can be read here; then the page has the history, and who did what is told
+to others too. --look hands on no edits. --host is one more name under which the page is called, as
+behind a proxy.
+
+Nobody is asked who they are: let people in by ssh or by nginx. The program is that which GAFD names,
+else `gafd` on the PATH, else that of this checkout.
+"""
+import argparse
+import pathlib
+import signal
+import sys
+
+from folder_board import FolderBoard
+from gafd_program import program
+from history import History
+from past_boards import PastBoards
+from served_board import ServedBoard
+from web import View
+
+LIBRARIES = ["/usr/share/lepton-eda/sym", "/usr/share/gEDA/sym", "/usr/local/share/lepton-eda/sym"]
+
+
+def arguments():
+    parser = argparse.ArgumentParser(prog="gafd_view", description=__doc__.split("\n")[0])
+    parser.add_argument("--port", type=int, default=8090, help="of the page; 0 takes a free one")
+    parser.add_argument("--symbols", action="append", default=[], metavar="FOLDER",
+                        help="where symbols are looked for that do not lie beside the sheets")
+    parser.add_argument("--store", metavar="FOLDER", help="the store of the server, for the history")
+    parser.add_argument("--look", action="store_true", help="hands on no edits")
+    parser.add_argument("--host", action="append", default=[], metavar="NAME",
+                        help="one more name under which the page is called")
+    parser.add_argument("shown", nargs="+", metavar="SERVER|FOLDER|FILE")
+    return parser.parse_args()
+
+
+def sheets_of(shown):
+    """The folder, and the names of the sheets that are asked for: none for all of a folder."""
+    paths = [pathlib.Path(it) for it in shown]
+    missing = next((it for it in paths if not it.exists()), None)
+    if missing:
+        sys.exit(f"gafd_view: {missing}: missing")
+    if len(paths) == 1 and paths[0].is_dir():
+        return paths[0], []
+    folders = {it.parent.resolve() for it in paths}
+    if len(folders) > 1 or not all(it.is_file() for it in paths):
+        sys.exit("gafd_view: name one folder, or sheets of one folder")
+    return folders.pop(), [it.name for it in paths]
+
+
+def folder_view(asked):
+    folder, names = sheets_of(asked.shown)
+    run = program()
+    if run is None:
+        sys.exit("gafd_view: there is no gafd: have it on the PATH, or name it by GAFD")
+    libraries = asked.symbols + [it for it in LIBRARIES if pathlib.Path(it).is_dir()]
+    board = FolderBoard(folder, names, libraries, run)
+    return View(asked.port, board, is_look=True, hosts=asked.host)
+
+
+def server_view(asked):
+    if len(asked.shown) > 1:
+        sys.exit("gafd_view: name one server")
+    history = past = None
+    if asked.store:
+        history, past = History(asked.store), PastBoards(asked.store, program())
+    board = ServedBoard(asked.shown[0])
+    return View(asked.port, board, history, past, is_look=asked.look, hosts=asked.host)
+
+
+def main():
+    asked = arguments()
+    is_server = not any(pathlib.Path(it).exists() for it in asked.shown) and ":" in asked.shown[0]
+    try:
+        view = (server_view if is_server else folder_view)(asked)
+    except OSError as error:
+        sys.exit(f"gafd_view: 127.0.0.1:{asked.port}: {error.strerror}")
+    signal.signal(signal.SIGTERM, lambda *_: sys.exit(0))
+    print(f"http://127.0.0.1:{view.server_port}/", flush=True)
+    try:
+        view.serve_forever()
+    except KeyboardInterrupt:
+        pass
+    finally:
+        view.close()
+
+
+if __name__ == "__main__":
+    main()

@@ -1,0 +1,29 @@
+"""The program `gafd`, which reads files, and serves a board as it was."""
+import os
+import pathlib
+import random
+import shutil
+import socket
+
+TOP = pathlib.Path(__file__).resolve().parent.parent.parent
+
+
+def program():
+    """The program that GAFD names, else `gafd` on the PATH, else that of this checkout, else None."""
+    found = [os.environ.get("GAFD"), shutil.which("gafd"), TOP / "crates/gafd/out/gafd",
+             TOP / "out/gafd", TOP / "gafd"]
+    paths = (pathlib.Path(it).resolve() for it in found if it)
+    return next((str(it) for it in paths if it.is_file() and os.access(it, os.X_OK)), None)
+
+
+def free_port():
+    """A free port below those that the system gives to clients, which might take it meanwhile."""
+    for _ in range(100):
+        port = random.randrange(10_240, 32_768)
+        with socket.socket() as probe:
+            try:
+                probe.bind(("127.0.0.1", port))
+                return port
+            except OSError:
+                continue
+    raise OSError("no port is free")

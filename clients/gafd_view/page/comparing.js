@@ -1,0 +1,101 @@
+// Two fronts beside each other: what was added to the shown sheet since an earlier front, what is gone,
+// and what changed, in three colours; and what the net lists differ in.
+
+import { readSheetBy, symbolNames } from "./board.js";
+import { newCanvas } from "./canvas.js";
+import { changesOf, netListChanges } from "./changes.js";
+import { drawObject } from "./drawing.js";
+import { showList } from "./lists.js";
+import { readNetList } from "./nets.js";
+import { readObjects } from "./objects.js";
+import { elementOf } from "./picture.js";
+import { askPast, forEachAtOnce } from "./server.js";
+import { board, byId, instanceOf, notice, shown, shownObjects } from "./state.js";
+import { escapeText } from "./texts.js";
+import { changeWords, label } from "./words.js";
+
+const STEP = 1;
+
+/** The symbols of some objects as they were. */
+async function pastSymbols(ask, objects) {
+  const symbols = new Map();
+  await forEachAtOnce(symbolNames(objects), async (name) => {
+    const { status, text } = await ask(`symbols/${encodeURIComponent(name)}`);
+    if (status === 200) symbols.set(name, readObjects(text));
+  });
+  return symbols;
+}
+
+/** Compares the shown sheet with what it was after so many edits. */
+export async function compareWith(front) {
+  const { sheet } = shown.at;
+  notice(`reading the board as it was after ${front} edits`, 20);
+  try {
+    const ask = askPast(front);
+    const [past, list] = await Promise.all([readSheetBy(ask, sheet), ask("netlist/list")]);
+    const objects = past.objects || [];
+    const symbols = await pastSymbols(ask, objects);
+    if (shown.at.sheet !== sheet) return;
+    const pastList = list.status === 200 ? readNetList(list.text) : null;
+    shown.comparison = { front, sheet, objects, symbols, list: pastList };
+    showComparison();
+    notice(`added, gone and changed since edit ${front}; Escape ends it`, 6);
+  } catch (error) {
+    notice(`the board as it was after ${front} edits cannot be read: ${error.message}`);
+  }
+}
+
+/** Ends the comparison. */
+export function endComparison() {
+  shown.comparison = null;
+  byId("past").innerHTML = "";
+  for (const name of ["is-added", "is-changed"]) {
+    for (const one of byId("drawn").querySelectorAll(`.${name}`)) one.classList.remove(name);
+  }
+  document.body.classList.remove("comparing");
+  showList();
+}
+
+/** Shows the comparison with what the sheet is now; one of another sheet is ended, or begun anew. */
+export function showComparison() {
+  const { comparison } = shown;
+  if (!comparison) return undefined;
+  if (comparison.sheet !== shown.at.sheet) {
+    endComparison();
+    return compareWith(comparison.front);
+  }
+  const { changed, added, gone } = changesOf(comparison.objects, shownObjects());
+  const canvas = newCanvas(comparison.symbols, shown.sizes);
+  byId("past").innerHTML = [...gone.map((it) => [it, "is-gone"]), ...changed.map(([was]) => [was, "was"])]
+    .map(([object, kind]) => `<g class="${kind}">${drawObject({ ...object, id: `past${object.id}` }, canvas)}</g>`)
+    .join("");
+  for (const object of added) elementOf(object.id)?.classList.add("is-added");
+  for (const [, object] of changed) elementOf(object.id)?.classList.add("is-changed");
+  document.body.classList.add("comparing");
+  return listChanges(comparison, { changed, added, gone });
+}
+
+function row(kind, words, link = "") {
+  const leads = link ? ` data-link="${escapeText(link)}" tabindex="0" role="link"` : "";
+  return `<tr class="${kind}"${leads}><td>${kind}</td><td>${escapeText(words)}</td></tr>`;
+}
+
+/** The changes of the sheet, and those of the net list, in place of the other lists. */
+function listChanges({ front, sheet, list }, { changed, added, gone }) {
+  const at = instanceOf(sheet);
+  const rows = [
+    ...added.map((it) => row("added", label(it, at), `id:${sheet}:${it.id}`)),
+    ...changed.map(([was, is]) => row("changed", changeWords(was, is, at), `id:${sheet}:${is.id}`)),
+    ...gone.map((it) => row("gone", label(it, at))),
+  ];
+  const nets = list ? netListChanges(list, board.list) : { gone: [], added: [] };
+  const lines = [...nets.gone.map((it) => ["<", it]), ...nets.added.map((it) => [">", it])]
+    .map(([sign, [kind, name, rest]]) => `<tr><td>${escapeText(sign)}</td><td>${kind} ${escapeText(name)} `
+      + `<small>${escapeText(rest)}</small></td></tr>`);
+  byId("list").innerHTML = `<p><b>${escapeText(sheet)}</b> since edit ${front} `
+    + '<button id="end-comparison">end</button></p>'
+    + `<p><button data-compare="${Math.max(0, front - STEP)}">one earlier</button> `
+    + `<button data-compare="${front + STEP}">one later</button></p>`
+    + `<table>${rows.join("") || "<tr><td>nothing changed on it</td></tr>"}</table>`
+    + `<p>parts and nets of the board</p><table>${lines.join("") || "<tr><td>nothing changed</td></tr>"}</table>`;
+}

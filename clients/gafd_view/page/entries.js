@@ -1,0 +1,54 @@
+// Edits as entries (docs/FORMATS.md, "Entries as JSON"): each is sent once, under its session's number.
+
+import { request } from "./server.js";
+
+const GREATEST = 4294967295;
+const TRIES = 6;
+
+const pause = (seconds) => new Promise((resolve) => setTimeout(resolve, seconds * 1000));
+
+/** The edits of one session. */
+export class Entries {
+  constructor() {
+    this.begin();
+  }
+
+  /** The next number is not known yet; one that is far too great is answered with the last. */
+  begin() {
+    this.number = GREATEST;
+    this.own = [];
+  }
+
+  /** Sends an edit that stands on what was seen at `base`. The answer, or the fault, is told. */
+  async send(session, edit, base) {
+    for (let tries = 0; tries < TRIES; tries++) {
+      const body = JSON.stringify({ session, number: this.number, base, edit });
+      const answer = await this.sendUntilAnswered(body);
+      if (answer.fault === "NumberGap") this.number = answer.last + 1;
+      else if (answer.fault === "NumberReused") this.number = GREATEST;
+      else return this.noted(edit, answer);
+    }
+    return { fault: "NumberGap" };
+  }
+
+  noted(edit, answer) {
+    if (answer.fault) return answer;
+    this.number++;
+    if (edit.kind === "undo") this.own = this.own.filter((it) => it !== edit.serial);
+    else this.own.push(answer.serial);
+    return answer;
+  }
+
+  /** The same entry may be sent again: it is done once. */
+  async sendUntilAnswered(body) {
+    const headers = { "Content-Type": "application/json" };
+    for (let tries = 1; ; tries++) {
+      try {
+        return JSON.parse((await request("board/edits", { method: "POST", body, headers })).text);
+      } catch (error) {
+        if (tries === TRIES) throw error;
+        await pause(tries);
+      }
+    }
+  }
+}

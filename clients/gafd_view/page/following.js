@@ -1,0 +1,183 @@
+// Following the server: what changed is read, drawn, and told with who did it.
+
+import { addRails, railsThatMeet } from "./findings.js";
+import { showList, showTrail } from "./lists.js";
+import { netsIn } from "./nets.js";
+import { addressed, open } from "./navigation.js";
+import { drawAll, drawChanges, drawFindings, elementOf, frame, light, markLooseEnds } from "./picture.js";
+import { symbolNames } from "./board.js";
+import { Away } from "./server.js";
+import { board, byId, instanceOf, notice, sheetOf, shown, shownInstance, shownObjects } from "./state.js";
+import { escapeText } from "./texts.js";
+import { changeWords, label } from "./words.js";
+
+const EVERY = 2000;
+const MOST_LOGGED = 200;
+const RAILS_AT_ONCE = 10;
+const FRAMED = 6;
+
+const pause = (milliseconds) => new Promise((resolve) => setTimeout(resolve, milliseconds));
+
+let reading = null;
+let isAskedAgain = false;
+
+/** Takes what changed, if anything did. One reading runs at a time, and one more after it. */
+export function refresh() {
+  isAskedAgain = true;
+  reading ||= readUntilDone().finally(() => { reading = null; });
+  return reading;
+}
+
+async function readUntilDone() {
+  while (isAskedAgain) {
+    isAskedAgain = false;
+    try {
+      await readBoard();
+      showState("");
+    } catch (error) {
+      showState("away");
+      if (!(error instanceof Away)) notice(`the page did not understand what it read: ${error.message}`);
+    }
+    if (isAskedAgain) await pause(200);
+  }
+}
+
+let awaySince = null;
+
+function showState(state) {
+  awaySince = state === "away" ? awaySince || new Date() : null;
+  byId("status").className = state;
+  const count = board.about.kind === "folder" ? `${board.name || board.about.name}` : `${board.front} edits`;
+  byId("status").textContent = awaySince ? `the server is away since ${awaySince.toLocaleTimeString()}` : count;
+}
+
+/** Reads what changed since the last reading: the shown sheet first, and all else behind it. */
+async function readBoard() {
+  const front = await board.look();
+  if (front === board.front) return;
+  if (front < board.front) return location.reload();
+  const since = board.front;
+  const told = [];
+  const isFirst = !shown.at;
+  if (isFirst) shown.at = firstSheet();
+  const takes = (name, changes) => {
+    told.push([name, changes]);
+    if (shown.at && name === shown.at.sheet && board.sheets.has(name)) drawChanges(changes);
+  };
+  const isKnown = await board.markChanged();
+  await board.readStale(takes, (name) => name === shown.at?.sheet);
+  if (isFirst && shown.at) requestAnimationFrame(() => setTimeout(() => performance.mark("pictured")));
+  await readSymbolsAnew(isKnown);
+  await board.readHistory(front);
+  if (await board.readLists(front)) board.front = front;
+  else isAskedAgain = true;
+  // What nobody looks at is read when it is asked for; but at first, and where it is known to be another.
+  await board.readStale(takes, (name) => isKnown || !board.sheets.has(name));
+  board.arrange();
+  if (!shown.at || !board.sheets.has(shown.at.sheet)) leaveLostSheet();
+  if (!shown.at) return undefined;
+  for (const [name, changes] of told) tell(name, changes, since);
+  showNets();
+  showTrail();
+  return findRails();
+}
+
+/** Reads the symbols of the shown sheet again, where they may be others than before. */
+async function readSymbolsAnew(isKnown) {
+  if (!shown.at || board.front < 0) return;
+  const names = symbolNames(shownObjects());
+  const asked = isKnown ? names.filter((it) => board.changedSymbols.includes(it)) : names;
+  if (await board.readSymbols(asked)) drawAll();
+}
+
+/** The sheet that the address names, or the only one; else it is chosen once all are read. */
+function firstSheet() {
+  const asked = addressed();
+  if (asked && board.counts.has(asked.sheet)) return asked;
+  return board.counts.size === 1 ? { sheet: board.names[0], path: "" } : null;
+}
+
+function leaveLostSheet() {
+  shown.at = board.instances[0] || (board.counts.size ? instanceOf(board.names[0]) : null);
+  if (shown.at) return open(shown.at, true);
+  for (const name of ["drawn", "cues", "marks", "findings", "sheets", "trail"]) byId(name).innerHTML = "";
+  return showList();
+}
+
+/** Reads the sheets that may have changed since they were read, or some of them. */
+export async function freshen(isAsked) {
+  const takes = (name, changes) => {
+    if (name === shown.at.sheet && board.sheets.has(name)) drawChanges(changes);
+  };
+  if (!(await board.readStale(takes, isAsked))) return;
+  board.arrange();
+  showNets();
+  showTrail();
+}
+
+/** Finds the nets of the shown instance, and shows what follows from them. */
+export function showNets() {
+  shown.nets = netsIn(shownInstance(), shownObjects(), board.symbols, board.list);
+  // A sheet that is newer than the net list tells nothing against it.
+  if (board.fronts.get(shown.at.sheet) !== board.listFront) shown.nets.disagreements = [];
+  light();
+  drawFindings();
+  showList();
+}
+
+let railsFront = null;
+
+/** Finds the rails that meet on any sheet, some instances at once so that the page stays quick. */
+async function findRails() {
+  const front = board.listFront;
+  railsFront = front;
+  const rails = new Map();
+  for (const [place, instance] of board.instances.entries()) {
+    if (place % RAILS_AT_ONCE === RAILS_AT_ONCE - 1) await pause(0);
+    if (railsFront !== front) return;
+    const { groups } = netsIn(instance, board.sheets.get(instance.sheet) || [], board.symbols, board.list);
+    addRails(rails, groups, board.symbols);
+  }
+  shown.rails = railsThatMeet(rails);
+  if (shown.at && shown.rails.length + board.findings.length) drawFindings();
+  showList();
+}
+
+/** Shows for some seconds what changed of a sheet since a front, and writes down who did it. */
+function tell(name, { changed, added, gone, isNew }, since) {
+  if (isNew) {
+    if (name === shown.at.sheet) markLooseEnds();
+    return;
+  }
+  const at = instanceOf(name);
+  for (const [was, is] of changed) log(is.id, name, changeWords(was, is, at), since);
+  for (const object of added) log(object.id, name, `${label(object, at)} came on ${name}`, since);
+  for (const object of gone) log(object.id, name, `${label(object, at)} went from ${name}`, since);
+  if (name !== shown.at.sheet) return;
+  const elements = [...changed.map(([, is]) => is), ...added].map((it) => elementOf(it.id)).filter((it) => it);
+  for (const one of elements) one.classList.add("changed");
+  setTimeout(() => elements.forEach((it) => it.classList.remove("changed")), FRAMED * 1000);
+  frame(elements.map((it) => it.getBBox()), "", FRAMED);
+  markLooseEnds();
+}
+
+/** A line of what happened, with who did it where the history tells. */
+function log(id, sheet, words, since) {
+  const author = authorOf(id, sheet, board.history.filter((it) => it.serial >= since));
+  const line = `<small>${new Date().toLocaleTimeString()}</small> ${escapeText(author + words)}`;
+  byId("log").insertAdjacentHTML("afterbegin", `<div>${line}</div>`);
+  while (byId("log").children.length > MOST_LOGGED) byId("log").lastElementChild.remove();
+}
+
+/** Who last named an object, or else who alone drew on its sheet. */
+function authorOf(id, sheet, rows) {
+  const row = rows.findLast(({ edit }) => edit.id === id || (edit.ids || []).includes(id));
+  const drew = new Set(rows.filter((it) => it.edit.sheet === sheet).map((it) => it.session));
+  return row ? `${row.session}: ` : drew.size === 1 ? `${[...drew][0]}: ` : "";
+}
+
+/** Follows the server from now on. */
+export async function followServer() {
+  await refresh();
+  setTimeout(followServer, EVERY);
+}

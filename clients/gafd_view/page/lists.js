@@ -1,0 +1,191 @@
+// The lists beside the sheet: nets, findings, parts, the chosen object, and the history; and the trail
+// down to the shown instance.
+
+import { attributesAmong, symbolParts } from "./attributes.js";
+import { findingText, linkOf } from "./findings.js";
+import { printed } from "./instances.js";
+import { pinsOf } from "./placing.js";
+import { board, byId, objectOf, shown, shownInstance, shownObjects } from "./state.js";
+import { escapeText } from "./texts.js";
+import { editWords, label } from "./words.js";
+
+const MOST_ROWS = 500;
+const MOST_MEMBERS = 30;
+
+function table(list, row) {
+  const more = list.length > MOST_ROWS ? `<p><small>and ${list.length - MOST_ROWS} more</small></p>` : "";
+  return `<table>${list.slice(0, MOST_ROWS).map(row).join("")}</table>${more}`;
+}
+
+/** A row that leads to something. */
+function row(link, cells, kind = "") {
+  const columns = cells.map((it) => `<td>${it}</td>`).join("");
+  const leads = link ? ` data-link="${escapeText(link)}" tabindex="0" role="link"` : "";
+  return `<tr class="${kind}"${leads}>${columns}</tr>`;
+}
+
+function anchor(link, text) {
+  return `<a data-link="${escapeText(link)}" tabindex="0" role="link">${escapeText(text)}</a>`;
+}
+
+function netRow({ name, members }) {
+  const some = members.length > MOST_MEMBERS && name !== shown.net ? members.slice(0, MOST_MEMBERS) : members;
+  const more = some.length < members.length ? ` and ${members.length - some.length} more` : "";
+  const pins = some.map((it) => anchor(`pin:${it}`, it)).join(" ") + more;
+  return row(`net:${name}`, [escapeText(name), `<small>${pins}</small>`], name === shown.net ? "on" : "");
+}
+
+function partRow({ refdes, device, value, footprint }) {
+  const more = [device, footprint].filter((it) => it !== "-").map(escapeText).join("<br>");
+  const cells = [refdes, value === "-" ? "" : value].map(escapeText);
+  return row(`part:${refdes}`, [...cells, `<small>${more}</small>`]);
+}
+
+function findingRow(finding) {
+  const isTold = findingText(finding) === shown.finding;
+  return row(linkOf(finding, board.list.names), [finding.name, escapeText(finding.words.join(" "))],
+    `${finding.level}${isTold ? " on" : ""}`);
+}
+
+/** The findings of the check, those of the page, and where drawing and net list disagree. */
+function findingTable() {
+  const odd = [...board.refusals.values()];
+  if (board.listFault) odd.push(`no net list and no check: ${board.listFault}`);
+  else if (shown.nets.disagreements.length) {
+    odd.push("the drawing and the net list disagree:", ...shown.nets.disagreements);
+  }
+  const told = odd.length ? `<div class="odd">${odd.map(escapeText).join("<br>")}</div>` : "";
+  return told + table([...shown.rails, ...board.findings], findingRow);
+}
+
+/** The chosen object with its attributes, of which the attached ones can be changed. */
+function objectTable() {
+  const object = shown.chosen.size === 1 && objectOf([...shown.chosen][0]);
+  if (!object) return `<p>${shown.chosen.size ? `${shown.chosen.size} objects` : "nothing is chosen"}</p>`;
+  const own = attributesAmong(object.attached);
+  const inherited = attributesAmong((object.letter === "C" && symbolParts(object, board.symbols)) || [])
+    .filter(([name]) => !own.some((it) => it[0] === name));
+  const rows = object.letter === "T" ? textField(object)
+    : own.map((it) => attributeField(object, it)).join("") + newField(object);
+  const given = inherited.map(([name, text]) => `<tr><td><small>${escapeText(name)}</small></td>`
+    + `<td><small>${escapeText(text)}</small></td></tr>`);
+  return `<p><b>${escapeText(label(object))}</b> <small>${object.letter} ${object.id} `
+    + `${escapeText(object.basename || "")}</small></p><table>${rows}${given.join("")}</table>${pinTable(object)}`;
+}
+
+function attributeField({ id }, [name, value]) {
+  const [shownName, shownValue] = [escapeText(name), escapeText(value)];
+  return `<tr><td>${shownName}</td><td><input data-of="${id}" data-attribute="${shownName}" `
+    + `aria-label="${shownName}" value="${shownValue}"> <button class="only-edit drop" data-of="${id}" `
+    + `data-drop="${shownName}" title="take ${shownName} away">×</button></td></tr>`;
+}
+
+function newField({ id }) {
+  return `<tr class="only-edit"><td>new</td><td><input data-of="${id}" data-attribute="" `
+    + 'aria-label="a new attribute" placeholder="name=value"></td></tr>';
+}
+
+function textField({ id, content }) {
+  return `<tr><td colspan="2"><textarea data-of="${id}" data-text="" aria-label="the text" rows="4">`
+    + `\n${escapeText(content)}</textarea></td></tr>`;
+}
+
+function pinTable(object) {
+  if (object.letter !== "C") return netLine(shown.nets.netOf.get(`${object.id}.0`));
+  return table(pinsOf(object, board.symbols).filter((it) => it.place !== null), (pin) => {
+    const net = shown.nets.netOf.get(`${object.id}.${pin.place}`);
+    const cells = [pin.number, pin.label || "", net || "-"].map(escapeText);
+    return row(net ? `net:${net}` : "", cells);
+  });
+}
+
+function netLine(net) {
+  return net ? `<p>net ${anchor(`net:${net}`, net)}</p>` : "";
+}
+
+function historyRow({ serial, session, time, edit }) {
+  const digits = { month: "2-digit", day: "2-digit", hour: "2-digit", minute: "2-digit", hour12: false };
+  const first = (edit.ids || [edit.id])[0];
+  const compare = board.about.past ? ` <a data-compare="${serial}" tabindex="0" role="link" `
+    + 'title="show what changed since before this edit">compare</a>' : "";
+  return row(first === undefined ? "" : `id::${first}`, [serial, escapeText(session), escapeText(editWords(edit)),
+    `<small>${new Date(time).toLocaleString([], digits)}${compare}</small>`]);
+}
+
+function historyTable() {
+  if (!board.about.history) return "<p><small>there is no history here</small></p>";
+  return table([...board.history].reverse(), historyRow);
+}
+
+/** All that has the words of the search in it. */
+function found(asked) {
+  const has = (...texts) => texts.some((it) => it && it.toLowerCase().includes(asked));
+  const texts = shownObjects().filter((it) => it.letter === "T" && has(it.content))
+    .map((it) => row(`id:${shown.at.sheet}:${it.id}`, ["text", escapeText(it.content.slice(0, 80))]));
+  return table(board.list.parts.filter((it) => has(it.refdes, it.value, it.device, it.footprint)), partRow)
+    + table(board.list.nets.filter((it) => has(it.name) || it.members.some((one) => has(one))), netRow)
+    + `<table>${texts.slice(0, MOST_ROWS).join("")}</table>`;
+}
+
+const TABS = {
+  nets: () => table(board.list.nets, netRow),
+  findings: findingTable,
+  parts: () => table(board.list.parts, partRow),
+  object: objectTable,
+  history: historyTable,
+};
+
+function isTypedIn() {
+  const active = document.activeElement;
+  return byId("list").contains(active) && /INPUT|TEXTAREA/.test(active.tagName);
+}
+
+/** Shows the list of the tab, or what the search found. What is typed there stays. */
+export function showList() {
+  showTabs();
+  if (isTypedIn() || shown.comparison) return;
+  const asked = byId("search").value.trim().toLowerCase();
+  const scrolled = byId("list").scrollTop;
+  const focused = byId("list").contains(document.activeElement) && document.activeElement.dataset.link;
+  byId("list").innerHTML = asked ? found(asked) : TABS[shown.tab]();
+  byId("list").scrollTop = scrolled;
+  // Who goes through a list by keyboard stays at the row.
+  if (focused) byId("list").querySelector(`[data-link="${CSS.escape(focused)}"]`)?.focus();
+}
+
+function showTabs() {
+  const { nets, parts } = board.list;
+  const findings = board.findings.length + shown.rails.length;
+  const counts = { nets: nets.length, findings, parts: parts.length };
+  const isSearch = byId("search").value.trim() !== "";
+  for (const tab of byId("tabs").children) {
+    const name = tab.dataset.tab;
+    const words = name === "findings" ? "check" : name;
+    tab.textContent = counts[name] === undefined ? words : `${words} ${counts[name]}`;
+    const isOn = name === shown.tab && !isSearch && !shown.comparison;
+    tab.classList.toggle("on", isOn);
+    tab.setAttribute("aria-selected", isOn);
+  }
+}
+
+/** Shows a tab, in place of a search. */
+export function showTab(tab) {
+  shown.tab = tab;
+  byId("search").value = "";
+  showList();
+}
+
+/** Shows the instances to choose from, and the trail down to this one. */
+export function showTrail() {
+  const options = board.instances.map((it) => [it.path ? `${it.path} (${it.sheet})` : it.sheet, it]);
+  const reached = new Set(board.instances.map((it) => it.sheet));
+  for (const name of board.names) if (!reached.has(name)) options.push([name, { sheet: name, path: "" }]);
+  const isHere = (it) => it.sheet === shown.at.sheet && it.path === shown.at.path;
+  byId("sheets").innerHTML = options.map(([text, it]) => `<option value="${escapeText(`${it.sheet}@${it.path}`)}"`
+    + `${isHere(it) ? " selected" : ""}>${escapeText(text)}</option>`).join("");
+  const trail = [];
+  for (let it = shownInstance(); it; it = it.parent) trail.unshift(it);
+  const name = (it) => (it.path ? printed(it.path.split("/").pop()) : it.sheet);
+  byId("trail").innerHTML = trail.map((it) => anchor(`at:${it.sheet}@${it.path}`, name(it))).join(" / ");
+  document.title = `${shown.at.path || shown.at.sheet} - gafd`;
+}

@@ -1,0 +1,23 @@
+// The page begins here.
+
+import { listenToFields, recall } from "./fields.js";
+import { followServer } from "./following.js";
+import { fontSizes } from "./font.js";
+import { listenToKeys } from "./keyboard.js";
+import { listenToMouse } from "./mouse.js";
+import { board, byId, shown } from "./state.js";
+import { listenToTools } from "./tools.js";
+import { showBox } from "./viewport.js";
+
+shown.sizes = fontSizes(getComputedStyle(byId("sheet")).fontFamily);
+recall();
+listenToMouse();
+listenToKeys();
+listenToFields();
+listenToTools();
+showBox();
+board.readAbout().catch(() => {}).finally(() => {
+  document.body.classList.toggle("looking", !board.about.edits);
+  byId("tabs").querySelector('[data-tab="history"]').hidden = board.about.kind === "folder";
+  followServer();
+});

@@ -1,0 +1,120 @@
+// The drawing of the shown sheet, and what is lit, chosen, framed and marked on it.
+
+import { cuesOf, drawCues } from "./cues.js";
+import { drawObject, drawSheet } from "./drawing.js";
+import { findingText, findingsAt } from "./findings.js";
+import { newCanvas } from "./canvas.js";
+import { placesOf } from "./instances.js";
+import { board, byId, shown, shownInstance, shownObjects } from "./state.js";
+import { escapeText } from "./texts.js";
+import { conductorsOf } from "./touching.js";
+import { bringIn, fit } from "./viewport.js";
+
+const MOST_PATCHED = 200;
+const FRAME = 60;
+const FLAG = 110;
+let openEnds = null;
+
+/** Draws the whole sheet. */
+export function drawAll(isFit = false) {
+  const drawing = drawSheet(shownObjects(), board.symbols, shown.sizes);
+  shown.extent = drawing.box;
+  if (isFit) fit();
+  byId("drawn").innerHTML = [...drawing.drawn.values()].join("");
+  byId("cues").innerHTML = drawing.cues;
+  openEnds = null;
+  light();
+}
+
+/** Draws what changed alone, where it is little; the order of objects stays. */
+export function drawChanges({ changed, added, gone, isNew, hasSymbols }) {
+  const count = changed.length + added.length + gone.length;
+  if (isNew || hasSymbols || count > MOST_PATCHED) return drawAll(isNew);
+  if (!count) return undefined;
+  const canvas = newCanvas(board.symbols, shown.sizes);
+  for (const object of gone) elementOf(object.id)?.remove();
+  for (const [, object] of changed) elementOf(object.id).outerHTML = drawObject(object, canvas);
+  byId("drawn").insertAdjacentHTML("beforeend", added.map((it) => drawObject(it, canvas)).join(""));
+  byId("cues").innerHTML = drawCues(shownObjects(), board.symbols);
+  return light();
+}
+
+/** The drawing of an object, or null. */
+export function elementOf(id) {
+  return byId("drawn").querySelector(`[data-id="${id}"]`);
+}
+
+export function boxesOf(ids) {
+  return ids.map(elementOf).filter((it) => it).map((it) => it.getBBox());
+}
+
+/** Lights the wires and pins of the lit net, or of a group without one, and the chosen objects. */
+export function light() {
+  const { net, group, nets: { netOf, groupOf } } = shown;
+  for (const one of byId("drawn").querySelectorAll("[data-key]")) {
+    const { key } = one.dataset;
+    one.classList.toggle("lit", net ? netOf.get(key) === net : group !== null && groupOf.get(key) === group);
+  }
+  for (const one of byId("drawn").querySelectorAll(".chosen")) one.classList.remove("chosen");
+  for (const id of shown.chosen) elementOf(id)?.classList.add("chosen");
+}
+
+function framePath({ x, y, width, height }) {
+  return `M${x - FRAME} ${y - FRAME}h${width + 2 * FRAME}v${height + 2 * FRAME}h${-width - 2 * FRAME}z`;
+}
+
+/** Frames round boxes, which go after some seconds. */
+export function frame(boxes, kind, seconds) {
+  const paths = boxes.map((it) => `<path class="${kind}" d="${framePath(it)}"/>`);
+  byId("marks").insertAdjacentHTML("beforeend", `<g>${paths.join("")}</g>`);
+  const made = byId("marks").lastElementChild;
+  setTimeout(() => made.remove(), seconds * 1000);
+}
+
+/** Frames of what is dragged, where it would come to stand. */
+export function frameDragged(dx, dy) {
+  const paths = boxesOf([...shown.chosen]).map((it) => `<path d="${framePath({ ...it, x: it.x + dx, y: it.y + dy })}"/>`);
+  byId("marks").innerHTML = paths.join("");
+}
+
+/** Brings objects into the middle, and frames them for a while. */
+export function showObjects(ids) {
+  const boxes = boxesOf(ids);
+  if (!boxes.length) return;
+  bringIn(boxes);
+  frame(boxes, "here", 6);
+}
+
+/** Rings round the ends that have come loose since the ends were looked at last. */
+export function markLooseEnds() {
+  const open = new Map(cuesOf(shownObjects(), board.symbols).open.map((it) => [it.join(), it]));
+  const loose = openEnds ? [...open].filter(([key]) => !openEnds.has(key)).map(([, it]) => it) : [];
+  openEnds = open;
+  const boxes = loose.map(([x, y]) => ({ x: x - FRAME, y: -y - FRAME, width: 2 * FRAME, height: 2 * FRAME }));
+  if (boxes.length) frame(boxes, "loose", 8);
+}
+
+/** Where a key is on the sheet, y down: of a pin its active end, of a wire its middle. */
+function pointsOfKeys() {
+  return new Map(conductorsOf(shownObjects(), board.symbols)
+    .map((it) => [it.key, [(it.x1 + it.x2) / 2, -(it.y1 + it.y2) / 2]]));
+}
+
+/** Marks the parts and pins that have a finding, each with its words. */
+export function drawFindings() {
+  const instance = shownInstance();
+  const objects = shownObjects();
+  const places = placesOf([instance], new Map([[instance.sheet, objects]]), board.symbols);
+  const spots = findingsAt([...board.findings, ...shown.rails], board.list.names,
+    { instance, objects, places, groups: shown.nets.groups, symbols: board.symbols });
+  const points = pointsOfKeys();
+  byId("findings").innerHTML = [...spots].map(([spot, found]) => {
+    const box = points.has(spot) ? null : elementOf(spot)?.getBBox();
+    const [x, y] = points.get(spot) || (box ? [box.x, box.y] : [null]);
+    if (x === null) return "";
+    const level = found.some((it) => it.level === "error") ? "error" : "warning";
+    const words = escapeText(found.map(findingText).join("\n"));
+    return `<g class="finding ${level}" data-finding="${escapeText(findingText(found[0]))}"><title>${words}</title>`
+      + `<path d="M${x} ${y}l${FLAG / 2} ${-FLAG}h${-FLAG}z"/></g>`;
+  }).join("");
+}

@@ -1,0 +1,74 @@
+// The window on the sheet.
+
+import { byId, shown } from "./state.js";
+
+const [NARROWEST, WIDEST] = [200, 2e6];
+const READABLE = 9000;
+let hair = 1;
+
+/** Shows the sheet through the window. */
+export function showBox() {
+  byId("sheet").setAttribute("viewBox", shown.box.map((it) => it.toFixed(1)).join(" "));
+  // No line is thinner than a pixel; a new width for all lines is set only where it shows.
+  const pixel = 1 / (byId("sheet").getScreenCTM()?.a || 1);
+  if (Math.abs(Math.log(pixel / hair)) < 0.15) return;
+  hair = pixel;
+  byId("sheet").style.setProperty("--hair", `${hair.toFixed(1)}px`);
+}
+
+/** Shows the whole sheet. */
+export function fit() {
+  const [x1, y1, x2, y2] = shown.extent;
+  const edge = 0.02 * Math.max(x2 - x1, y2 - y1, 1000);
+  shown.box = [x1 - edge, -y2 - edge, x2 - x1 + 2 * edge, y2 - y1 + 2 * edge];
+  showBox();
+}
+
+/** The place of the mouse in the sheet, in mils with y down. */
+export function placeOf({ clientX, clientY }) {
+  const { x, y } = new DOMPoint(clientX, clientY).matrixTransform(byId("sheet").getScreenCTM().inverse());
+  return [x, y];
+}
+
+/** The middle of the window. */
+export function middle() {
+  return [shown.box[0] + shown.box[2] / 2, shown.box[1] + shown.box[3] / 2];
+}
+
+/** Widens the window, or narrows it, about a point. */
+export function zoom(by, [x, y] = middle()) {
+  const [left, top, width, height] = shown.box;
+  if (width * by < NARROWEST || width * by > WIDEST) return;
+  shown.box = [x + (left - x) * by, y + (top - y) * by, width * by, height * by];
+  showBox();
+}
+
+/** Moves the window. */
+export function pan(dx, dy) {
+  shown.box = [shown.box[0] + dx, shown.box[1] + dy, shown.box[2], shown.box[3]];
+  showBox();
+}
+
+/** Moves the window by shares of its size. */
+export function panBy(across, down) {
+  pan(across * shown.box[2], down * shown.box[3]);
+}
+
+/** Brings boxes into the middle, near enough to be read. */
+export function bringIn(boxes) {
+  const [x1, y1] = ["x", "y"].map((it) => Math.min(...boxes.map((box) => box[it])));
+  const x2 = Math.max(...boxes.map((it) => it.x + it.width));
+  const y2 = Math.max(...boxes.map((it) => it.y + it.height));
+  const width = Math.max(Math.min(shown.box[2], READABLE), (x2 - x1) * 1.5);
+  const height = width * (shown.box[3] / shown.box[2]);
+  shown.box = [(x1 + x2 - width) / 2, (y1 + y2 - height) / 2, width, height];
+  showBox();
+}
+
+/** Moves the window as little as brings a point well inside it. */
+export function keepInside([x, y]) {
+  const [left, top, width, height] = shown.box;
+  const beyond = (at, from, size) => Math.min(0, at - from - size / 10) + Math.max(0, at - from - 0.9 * size);
+  const [dx, dy] = [beyond(x, left, width), beyond(y, top, height)];
+  if (dx || dy) pan(dx, dy);
+}

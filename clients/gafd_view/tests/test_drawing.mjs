@@ -1,0 +1,191 @@
+// What is drawn, without a browser: `node --test test_drawing.mjs`. The numbers are those of the
+// pictures that lepton-cli export makes of the same lines.
+
+import assert from "node:assert/strict";
+import test from "node:test";
+import { drawSheet } from "../page/drawing.js";
+import { readFindings } from "../page/findings.js";
+import { instancesOf, placesOf } from "../page/instances.js";
+import { netsIn, readNetList } from "../page/nets.js";
+import { readObjects } from "../page/objects.js";
+
+const HEAD = "v 20130925 2\n";
+const SYMBOL = `${HEAD}P 0 400 300 400 1 0 0
+{
+T 100 450 5 8 1 1 0 0 1
+pinnumber=1
+T 100 450 5 8 0 1 0 0 1
+pinseq=1
+T 350 400 9 8 1 1 0 1 1
+pinlabel=IN
+}
+P 1300 200 1000 200 1 0 0
+{
+T 1100 250 5 8 1 1 0 0 1
+pinnumber=2
+T 1100 250 5 8 0 1 0 0 1
+pinseq=2
+}
+B 300 0 700 600 3 0 0 0 -1 -1 0 -1 -1 -1 -1 -1
+T 300 700 8 10 1 1 0 0 1
+refdes=U?
+T 300 -300 9 10 1 0 0 0 1
+plain
+T 300 -500 8 10 0 0 0 0 1
+slotdef=2:5,6
+`;
+const SYMBOLS = new Map([["own.sym", readObjects(SYMBOL)]]);
+
+function sheetOf(lines) {
+  const objects = readObjects(HEAD + lines);
+  objects.forEach((it, id) => { it.id = id; });
+  return objects;
+}
+
+function draw(lines) {
+  const { drawn, cues, box } = drawSheet(sheetOf(lines), SYMBOLS);
+  return { svg: [...drawn.values()].join(""), cues, box };
+}
+
+test("lines have a least width, ends and dashes", () => {
+  assert.match(draw("L 0 0 100 50 3 0 0 0 -1 -1\n").svg,
+    /<path class="k3" stroke-width="5" stroke-linecap="butt" stroke-linejoin="bevel" d="M0 0L100 -50"\/>/);
+  assert.match(draw("L 0 0 100 0 3 50 1 1 -1 100\n").svg,
+    /stroke-width="50" stroke-linecap="round" stroke-linejoin="miter" stroke-dasharray="0 100"/);
+  assert.match(draw("L 0 0 100 0 3 10 2 3 200 75\n").svg, /stroke-dasharray="200 70 10 70"/);
+});
+
+test("shapes stand where they are", () => {
+  assert.match(draw("B 100 200 300 400 3 10 0 0 -1 -1 1 -1 -1 -1 -1 -1\n").svg,
+    /fill="currentColor".* d="M100 -200h300v-400h-300z"/);
+  assert.match(draw("V 0 0 300 3 10 0 0 -1 -1 0 -1 -1 -1 -1 -1\n").svg, /d="M-300 0a300 300 0 1 0 600 0/);
+  assert.match(draw("A 3500 7000 300 0 90 3 10 0 0 -1 -1\n").svg, /d="M3800 -7000A300 300 0 0 0 3500 -7300"/);
+  assert.match(draw("A 3500 7000 300 0 -90 3 10 0 0 -1 -1\n").svg, /d="M3800 -7000A300 300 0 0 1 3500 -6700"/);
+  assert.match(draw("H 3 10 0 0 -1 -1 0 -1 -1 -1 -1 -1 2\nM 0,0\nL 100,50\n").svg,
+    /transform="matrix\(1 0 0 -1 0 0\)" d="M 0,0 L 100,50"/);
+  assert.match(draw("B 0 0 900 500 3 10 0 0 -1 -1 2 5 45 100 135 90\n").svg, /<pattern id="hatch_k3_5_45_100"/);
+  assert.deepEqual(draw("N 0 0 100 0 4\nB 50 50 100 100 3 0 0 0 -1 -1 0 -1 -1 -1 -1 -1\n").box, [0, 0, 150, 150]);
+});
+
+test("texts stand by their nine alignments", () => {
+  const place = (align, lines = 1) => {
+    const svg = draw(`T 1000 2000 9 10 1 0 0 ${align} ${lines}\n${"Hxg\n".repeat(lines)}`).svg;
+    return Number(/ y="([-0-9.]+)"(?: text-anchor="\w+")?>Hxg/.exec(svg)[1]);
+  };
+  assert.equal(place(0), 0);
+  assert.equal(place(1), 62.6);
+  assert.equal(place(2), 163.4);
+  assert.equal(place(0, 3), -403.4);
+  assert.equal(place(1, 3), -139.1);
+  assert.match(draw("T 0 0 9 10 1 0 0 7 1\nx\n").svg, /text-anchor="end"/);
+  assert.match(draw("T 5 7 9 10 1 0 90 0 1\nx\n").svg, /transform="translate\(5 -7\) rotate\(-90\)"/);
+  // At 180 degrees it stands upright, at the corner across.
+  assert.match(draw("T 5 7 9 10 1 0 180 0 1\nx\n").svg, /translate\(5 -7\)" y="163.4" text-anchor="end"/);
+  assert.match(draw("T 5 7 9 10 1 0 180 2 1\nx\n").svg, /translate\(5 -7\)" y="-38.3" text-anchor="end"/);
+});
+
+test("texts show what they are told to, and no markup", () => {
+  const shown = (flags, content) => />([^<]*(?:<tspan.*<\/tspan>[^<]*)?)<\/text>/
+    .exec(draw(`T 0 0 9 10 ${flags} 0 0 1\n${content}\n`).svg)?.[1];
+  assert.equal(shown("1 0", "value=10k"), "value=10k");
+  assert.equal(shown("1 1", "value=10k"), "10k");
+  assert.equal(shown("1 2", "value=10k"), "value");
+  assert.equal(shown("1 1", "plain"), "plain");
+  assert.equal(shown("0 0", "value=10k"), undefined);
+  assert.equal(shown("1 0", "<b>&"), "&lt;b&gt;&amp;");
+  assert.equal(shown("1 0", "\\_RESET\\_ in"), '<tspan class="over">RESET</tspan> in');
+});
+
+test("a component shows its symbol, its slot's numbers, and its own attributes alone", () => {
+  const { svg } = draw("C 1000 1000 1 0 0 own.sym\n{\nT 0 0 5 10 1 1 0 0 1\nrefdes=U1\n"
+    + "T 0 0 5 10 0 1 0 0 1\nslot=2\n}\n");
+  assert.match(svg, new RegExp('data-key="0.0"><path class="k1" stroke-width="10" stroke-linecap="square"'
+    + ' d="M1000 -1400L1300 -1400"'));
+  assert.match(svg, />5<\/text>.*>IN<\/text>.*>6<\/text>.*>plain<\/text>.*>U1<\/text>/);
+  assert.doesNotMatch(svg, /U\?|slotdef/);
+  assert.match(draw("C 0 0 1 0 0 none.sym\n").svg, /k8.*>none.sym<\/text>/);
+  assert.match(draw("C 0 0 1 0 0 EMBEDDEDe.sym\n[\nT 5 5 8 10 1 1 0 0 1\nrefdes=E?\n]\n").svg, />E\?<\/text>/);
+});
+
+test("a mirrored and turned component takes its texts along", () => {
+  const { svg } = draw("C 17000 1000 1 90 1 own.sym\n");
+  assert.match(svg, /d="M16600 -1000L16600 -700"/);
+  assert.match(svg, /transform="translate\(16600 -650\) rotate\(-90\)" y="[0-9.]+" text-anchor="end">IN/);
+  const upright = new Map([["own.sym", readObjects(`${HEAD}T 0 0 9 10 1 0 90 0 1\nx\n`)]]);
+  const mirrored = drawSheet(sheetOf("C 0 0 1 0 1 own.sym\n"), upright).drawn.get(0);
+  assert.match(mirrored, /rotate\(-90\)" y="163.4">x/);
+});
+
+test("dots stand where wires meet, and squares at open ends", () => {
+  const cues = (lines) => {
+    const paths = draw(lines).cues.split('d="').slice(1).map((it) => it.split('"')[0]);
+    return paths.map((it) => [...it.matchAll(/M(-?\d+) (-?\d+)/g)].map((at) => `${at[1]},${-at[2]}`));
+  };
+  const cross = cues("N 0 0 200 0 4\nN 100 0 100 200 4\nN 0 100 200 100 4\n");
+  assert.deepEqual(cross, [["-30,30", "170,30", "70,230", "-30,130", "170,130"], ["100,0"]]);
+  assert.deepEqual(cues("N 0 0 100 0 4\nN 100 0 100 100 4\n")[1], []);
+  assert.deepEqual(cues("N 0 0 100 0 4\nN 100 0 100 100 4\nN 100 0 200 50 4\n")[1], ["100,0"]);
+  assert.deepEqual(cues("N 0 0 200 200 4\nN 100 100 100 0 4\n")[1], []);
+  assert.deepEqual(cues("N 0 0 200 200 4\nN 0 100 -100 100 4\n")[1], []);
+  assert.deepEqual(cues("N 0 0 200 0 4\nU 100 0 100 200 10 1\n")[1], []);
+  assert.deepEqual(cues("P 0 0 300 0 1 0 1\n")[0], ["270,30"]);
+  assert.deepEqual(cues("N 0 0 200 0 4\nP 100 0 100 300 1 0 0\n")[1], ["100,0"]);
+  assert.deepEqual(cues("U 0 0 200 0 10 1\nU 100 0 100 300 10 1\n")[1], ["100,0"]);
+  assert.deepEqual(cues("U 0 0 0 300 10 1\nN 0 100 200 100 4\n"), [["170,130"], ["0,100"]]);
+  assert.deepEqual(cues("P 0 0 300 0 1 0 0\nN 300 0 600 0 4\n")[0], ["-30,30", "270,30", "570,30"]);
+});
+
+const attached = (...texts) => `{\n${texts.map((it) => `T 0 0 5 10 1 1 0 0 1\n${it}\n`).join("")}}\n`;
+const pin = (x, y, number, label) => `P ${x} 0 ${y} 0 1 0 0\n${attached(`pinnumber=${number}`, `pinlabel=${label}`)}`;
+const part = (x, name, symbol = "two") => `C ${x} 0 1 0 0 ${symbol}.sym\n${attached(`refdes=${name}`)}`;
+const wire = (x1, x2, name) => `N ${x1} 0 ${x2} 0 4\n${name ? attached(`netname=${name}`) : ""}`;
+const PARTS = new Map([
+  ["two.sym", readObjects(HEAD + pin(0, 100, 1, "a") + pin(300, 200, 2, "b"))],
+  ["box.sym", readObjects(`${HEAD}T 0 0 8 10 0 0 0 0 1\nsource=low.sch\n${pin(0, 100, 1, "IN")}`)],
+]);
+
+function board(sheets, nets) {
+  const read = new Map(Object.entries(sheets).map(([name, lines]) => [name, sheetOf(lines)]));
+  const list = readNetList(`parts 0\nnets 0\n${nets.join("\n")}\n`);
+  const instances = instancesOf(read, PARTS);
+  const netsAt = (place) => netsIn(instances[place], read.get(instances[place].sheet), PARTS, list);
+  return { instances, netsAt, places: placesOf(instances, read, PARTS) };
+}
+
+test("wires and pins have the net of the list, in each instance its own", () => {
+  const low = part(0, "R1") + part(600, "R2") + wire(300, 600, "X") + wire(5000, 6000, "X") + wire(9000, 9500);
+  const { instances, netsAt, places } = board(
+    { "low.sch": low, "top.sch": part(0, "LEFT", "box") + part(9, "RIGHT", "box") },
+    ["LEFT/X\tLEFT/R1-2 LEFT/R2-1", "RIGHT/X\tRIGHT/R1-2", "q\tRIGHT/R2-1", "a\tLEFT/R1-1", "b\tLEFT/R2-2",
+      "c\tRIGHT/R1-1"],
+  );
+  assert.deepEqual(instances.map((it) => `${it.sheet}@${it.path}`), ["top.sch@", "low.sch@LEFT", "low.sch@RIGHT"]);
+  const [left, right] = [netsAt(1), netsAt(2)];
+  assert.deepEqual(left.disagreements, []);
+  assert.deepEqual(["2.0", "0.1", "3.0", "0.0", "4.0"].map((it) => left.netOf.get(it)),
+    ["LEFT/X", "LEFT/X", "LEFT/X", "a", null]);
+  assert.equal(right.netOf.get("2.0"), null);
+  assert.equal(right.groupOf.get("2.0"), right.groupOf.get("0.1"));
+  assert.deepEqual(right.disagreements, ["RIGHT/R1-2 RIGHT/R2-1 touch, and are in several nets: RIGHT/X q",
+    "RIGHT/R2-2 is in no net of the list"]);
+  assert.equal(places.pins.get("RIGHT/R2-1")[0].id, 1);
+});
+
+test("a wire without pins has the net of one with its name, by the path of its instance", () => {
+  const low = part(0, "R1") + wire(300, 600, "X") + wire(5000, 6000, "X") + wire(7000, 8000, "Z");
+  const { netsAt } = board({ "low.sch": low, "top.sch": part(0, "U", "box") },
+    ["X\tJ1-1", "Z\tJ1-2", "Y\tU/R1-2", "w\tU/R1-1"]);
+  assert.deepEqual(["1.0", "2.0", "3.0"].map((it) => netsAt(1).netOf.get(it)), ["Y", "Y", null]);
+});
+
+test("a port is no part, and a loop ends", () => {
+  const low = part(0, "IN") + part(0, "SELF", "box") + part(600, "R1");
+  const { instances, netsAt } = board({ "low.sch": low, "top.sch": part(0, "U", "box") }, ["a\tU/R1-1", "b\tU/R1-2"]);
+  assert.deepEqual(instances.map((it) => it.path), ["", "U"]);
+  assert.deepEqual(netsAt(1).disagreements, []);
+});
+
+test("findings have a level, a name and words", () => {
+  assert.deepEqual(readFindings("findings 1\nerror Conflict n out out\nerrors 1 warnings 0\n"),
+    [{ level: "error", name: "Conflict", words: ["n", "out", "out"] }]);
+});
