@@ -1,5 +1,5 @@
 #!/usr/bin/env python3
-"""Tests gafd_sync.py against the real program, which GAFD names, else the one that is built.
+"""Tests gafd_sync against the real program, which GAFD names, else the one that is built.
 
 Each test has a server of its own on a free port of the loopback, and folders of two engineers. With
 no program it says so, and its status is 0. It takes some seconds, and five minutes at most.
@@ -19,7 +19,9 @@ from unittest import mock
 
 sys.dont_write_bytecode = True
 
-import gafd_sync
+from gafd_sync.arguments import main
+from gafd_sync.server import Server
+from gafd_sync.sheets import item_of, sheet_of
 from served import TOP, Served, bounded, program
 
 sys.path.append(str(TOP / "bench"))
@@ -39,7 +41,7 @@ def asked(folder, *words):
     try:
         with mock.patch.object(sys, "argv", ["gafd_sync", *words]):
             with contextlib.redirect_stdout(said), contextlib.redirect_stderr(said):
-                status = gafd_sync.main()
+                status = main()
     except SystemExit as end:
         status = end.code
     finally:
@@ -68,7 +70,7 @@ class Engineer:
 
     def objects(self, name="preamp.sch"):
         """The objects of a file, in whatever order."""
-        return sorted(gafd_sync.sheet_of(name, self.path(name).read_text(encoding="utf-8")).texts)
+        return sorted(sheet_of(name, self.path(name).read_text(encoding="utf-8")).texts)
 
 
 class ClientTest(unittest.TestCase):
@@ -95,7 +97,7 @@ class ClientTest(unittest.TestCase):
         return self.asked_server(lambda server: server.get(path).text, url)
 
     def asked_server(self, call, url=None):
-        server = gafd_sync.Server(url or self.server.url, "test")
+        server = Server(url or self.server.url, "test")
         with contextlib.closing(server.link):
             return call(server)
 
@@ -239,7 +241,7 @@ class ClientTest(unittest.TestCase):
     def test_a_change_between_reading_and_sending_is_stale(self):
         self.both_start()
         self.bob.draws("value=1k\n", "value=3k\n")
-        send, calls = gafd_sync.Server.send, []
+        send, calls = Server.send, []
 
         def late(server, edit, base):
             if server.session == "bob" and not calls:
@@ -248,7 +250,7 @@ class ClientTest(unittest.TestCase):
                 self.assertEqual(self.ann("push", "preamp.sch")[0], 0)
             return send(server, edit, base)
 
-        with mock.patch.object(gafd_sync.Server, "send", late):
+        with mock.patch.object(Server, "send", late):
             status, said = self.bob("push", "preamp.sch")
         self.assertEqual(status, 1)
         self.assertIn("Stale", said)
@@ -259,7 +261,7 @@ class ClientTest(unittest.TestCase):
     def test_a_lost_reply_sends_an_edit_once(self):
         self.both_start()
         self.ann.draws("N 44500 47400 44500 48000 4\n", "N 44500 47400 44500 48000 4\n" + WIRE)
-        once, lost = gafd_sync.Server.once, []
+        once, lost = Server.once, []
 
         def broken(server, method, path, body):
             reply = once(server, method, path, body)
@@ -268,7 +270,7 @@ class ClientTest(unittest.TestCase):
                 raise ConnectionResetError("the reply is lost")
             return reply
 
-        with mock.patch.object(gafd_sync.Server, "once", broken):
+        with mock.patch.object(Server, "once", broken):
             status, said = self.ann("push", "preamp.sch")
         self.assertEqual((status, self.kinds(said)), (0, ["add_object"]))
         self.assertEqual(self.answer("/sheets/preamp.sch").count(WIRE), 1)
@@ -277,7 +279,7 @@ class ClientTest(unittest.TestCase):
         self.both_start()
         self.ann.draws("value=1k\n", "value=2k\n")
         self.ann.draws("N 44500 47400 44500 48000 4\n", "N 44500 47400 44500 48000 4\n" + WIRE)
-        send = gafd_sync.Server.send
+        send = Server.send
 
         def cut(server, edit, base):
             reply = send(server, edit, base)
@@ -285,7 +287,7 @@ class ClientTest(unittest.TestCase):
                 raise KeyboardInterrupt
             return reply
 
-        with mock.patch.object(gafd_sync.Server, "send", cut):
+        with mock.patch.object(Server, "send", cut):
             self.assertEqual(self.ann("push", "preamp.sch")[0], 1)
         self.assertEqual(self.ann("push", "preamp.sch"), (0, "preamp.sch: nothing to send\n"))
         self.assertEqual(self.answer("/sheets/preamp.sch").count(WIRE), 1)
@@ -380,7 +382,7 @@ class ClientTest(unittest.TestCase):
         for words in wrong:
             self.assertEqual(self.ann(*words)[0], 2, words)
         self.server.stop()
-        with mock.patch.object(gafd_sync, "PAUSES", ()):
+        with mock.patch("gafd_sync.server.PAUSES", ()):
             status, said = self.ann("pull")
         self.assertEqual((status, "refused" in said), (3, True), said)
 
@@ -398,7 +400,7 @@ class ClientTest(unittest.TestCase):
         self.server.stop()
         (pathlib.Path(self.server.store) / "0000000008.json").unlink()
         self.server.start()
-        with mock.patch.object(gafd_sync, "PAUSES", ()):
+        with mock.patch("gafd_sync.server.PAUSES", ()):
             status, said = self.bob("pull", "preamp.sch")
         self.assertEqual(status, 1)
         self.assertIn("has 8 edits, and this folder has seen 9", said)
@@ -509,7 +511,7 @@ class ClientTest(unittest.TestCase):
         self.ann.path("r.sch").write_text(head + "".join(f"N {x} 0 {x} 9 4\n" for x in range(12)))
         self.ann("push", "r.sch")
         self.bob("pull")
-        send, seen, counts = gafd_sync.Server.send, {}, {"replace": 0, "delete": 0, "add_object": 0}
+        send, seen, counts = Server.send, {}, {"replace": 0, "delete": 0, "add_object": 0}
 
         def watched(server, edit, base):
             reply = send(server, edit, base)
@@ -539,7 +541,7 @@ class ClientTest(unittest.TestCase):
             known = json.loads(origin.read_text(encoding="utf-8"))["objects"]
             seen["known"] = {int(key): text for key, text in known.items()}
             seen["now"] = self.asked_server(lambda server: server.sheet("r.sch").objects)
-            with mock.patch.object(gafd_sync.Server, "send", watched):
+            with mock.patch.object(Server, "send", watched):
                 status, _ = engineer(*command)
             if status:
                 refused += 1
@@ -562,10 +564,10 @@ class TextTest(unittest.TestCase):
                 wanted = geda_files.canonical(geda_files.read_sheet(data))
             except geda_files.Fault:
                 continue
-            found = gafd_sync.sheet_of("x", data.decode("utf-8"))
+            found = sheet_of("x", data.decode("utf-8"))
             self.assertEqual(found.text.encode("utf-8"), wanted, data)
             for item in found.items:
-                self.assertEqual(gafd_sync.item_of(item.text), item)
+                self.assertEqual(item_of(item.text), item)
             count += 1
         self.assertGreater(count, 100)
 

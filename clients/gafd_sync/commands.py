@@ -1,0 +1,79 @@
+"""What is asked of the server, sheet by sheet or as a whole."""
+import pathlib
+
+from .differences import show_conflicts, show_theirs, show_yours
+from .merge import plan_of
+from .server import GREATEST, Server
+from .sheets import item_of, sheet_of
+from .words import Refused, Stop, told
+
+
+def diff(asked, server, folder):
+    names = asked.sheets or sorted(path.name for path in pathlib.Path(".").glob("*.sch"))
+    for name in names:
+        origin, stand = folder.origin(name), server.sheet(name)
+        if stand is None or origin is None:
+            what = "the server has no such sheet" if stand is None else "was not pulled"
+            print(f"{name}: {what}")
+            continue
+        plan = plan_of(origin[1], stand.objects, folder.sheet(name).texts)
+        show_yours(name, plan)
+        show_theirs(name, plan, stand.objects)
+        show_conflicts(name, plan, stand.objects)
+    return 0
+
+
+def in_order(stands):
+    """The names of sheets by their least ids, those without objects last."""
+    return sorted(stands, key=lambda name: (min(stands[name].objects, default=GREATEST), name))
+
+
+def renumber(asked, server, folder):
+    server.names()
+    serial = server.send({"kind": "renumber"}, server.front)["serial"]
+    print(f"renumbered at {serial}; `pull` brings the numbers")
+    return 0
+
+
+def sheets(asked, server, folder):
+    for name in in_order(server.all_sheets()):
+        print(name)
+    return 0
+
+
+def ids(asked, server, folder):
+    stand = server.sheet(asked.sheet)
+    if stand is None:
+        raise Stop(f"{asked.sheet}: the server has no such sheet")
+    for key, text in stand.objects.items():
+        print(key, item_of(text))
+    return 0
+
+
+def copy(asked, server, folder):
+    other = Server(asked.url, server.session)
+    other.headers |= {"Connection": "close"}
+    if other.names() or other.front:
+        raise Stop(f"{asked.url} is not empty: it has {other.front} edits")
+    stands = server.all_sheets()
+    front = server.front
+    named = {name for key, stand in stands.items() for name in sheet_of(key, stand.text).symbols()}
+    texts = {name: text for name in sorted(named) if (text := server.symbol(name)) is not None}
+    netlist = server.get("/netlist/list").text
+    if server.front != front:
+        raise Stop(f"{server.url} was edited meanwhile: call it again when nobody edits")
+    edits = [{"kind": "add_symbol", "name": name, "text": text} for name, text in texts.items()]
+    for name in in_order(stands):
+        edits.append({"kind": "add_sheet", "name": name, "text": stands[name].text})
+    for edit in edits:
+        try:
+            other.send(edit, other.front)
+        except Refused as refused:
+            raise Stop(f"{edit['name']}: {told(refused.fault)}") from None
+    print(f"{len(stands)} sheets and {len(texts)} symbols are at {other.url}")
+    if other.get("/netlist/list").text != netlist:
+        print("the netlists differ: a package has parts on several top sheets, and now has its")
+        print("attributes from another of them; compare both with gafd-netdiff")
+        return 1
+    print("both netlists are the same")
+    return 0

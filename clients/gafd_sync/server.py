@@ -1,0 +1,178 @@
+"""The connection to a `gafd serve`."""
+import base64
+import http.client
+import json
+import netrc
+import time
+import urllib.parse
+from typing import NamedTuple
+
+from .sheets import sheet_of
+from .words import Refused, Stop
+
+
+MOST_IDS = 1000
+MOST_BYTES = 4_194_304
+GREATEST = 4_294_967_295
+# A connection waits while eight others are served, and a silent one is ended after a minute.
+PATIENCE = 150
+PAUSES = (0.1, 0.5, 2, 5)
+
+
+class Reply(NamedTuple):
+    status: int
+    front: int
+    text: str
+
+    def fault(self):
+        try:
+            found = json.loads(self.text)
+            return found if isinstance(found, dict) else {}
+        except ValueError:
+            return {}
+
+
+class Stand(NamedTuple):
+    """A sheet as the server has it after `front` entries: its objects by id, in their order."""
+
+    front: int
+    head: str
+    objects: dict
+
+    @property
+    def text(self):
+        return self.head + "\n" + "".join(self.objects.values())
+
+
+class Server:
+    """One connection to a `gafd serve`. What it has seen of the history never shrinks."""
+
+    def __init__(self, url, session):
+        parts = urllib.parse.urlsplit(url if "//" in url else "http://" + url)
+        if parts.scheme not in ("http", "https") or not parts.hostname:
+            raise Stop(f"{url} is no address of a server, as http://127.0.0.1:8080 is one", 2)
+        is_safe = parts.scheme == "https"
+        kind = http.client.HTTPSConnection if is_safe else http.client.HTTPConnection
+        self.url = f"{parts.scheme}://{parts.netloc.rpartition('@')[2]}{parts.path}".rstrip("/")
+        self.session = session
+        self.link = kind(parts.hostname, parts.port, timeout=PATIENCE)
+        self.path = parts.path.rstrip("/")
+        self.headers = {"Authorization": word} if (word := password(parts)) else {}
+        self.front, self.number = 0, None
+
+    def once(self, method, path, body):
+        self.link.request(method, self.path + path, body, self.headers)
+        answer = self.link.getresponse()
+        text = answer.read().decode("utf-8", "replace")
+        return Reply(answer.status, int(answer.getheader("Front", -1)), text)
+
+    def ask(self, method, path, body=None):
+        """The reply to a request. One whose reply is lost is sent again as it was: an edit that
+        stood already is answered as the first time."""
+        for pause in (*PAUSES, None):
+            try:
+                reply = self.once(method, path, body)
+                if reply.status not in (500, 502, 503, 504):
+                    break
+                cause = f"{reply.status} {reply.text.strip()[:100]}"
+            except (OSError, http.client.HTTPException) as error:
+                self.link.close()
+                cause = str(error) or type(error).__name__
+            if pause is None:
+                raise Stop(f"{self.url}: {cause}", 3)
+            time.sleep(pause)
+        if reply.status == 401:
+            raise Stop(f"{self.url} wants a password; ~/.netrc may have it", 3)
+        if reply.front < 0:
+            raise Stop(f"{self.url}: {reply.status} {reply.text.strip()[:200]}", 3)
+        return reply
+
+    def get(self, path):
+        """A report, of a history that holds all that was seen; None where it is not there."""
+        for pause in (*PAUSES, None):
+            reply = self.ask("GET", path + (f"?min={self.front}" if self.front else ""))
+            if reply.status == 200:
+                self.front = reply.front
+                return reply
+            if reply.status == 404 and reply.fault().get("fault") in ("NoSheet", "NoSymbol"):
+                self.front = reply.front
+                return None
+            if reply.status != 409 or pause is None:
+                break
+            time.sleep(pause)
+        if reply.status == 409:
+            raise Stop(
+                f"{self.url} has {reply.front} edits, and this folder has seen {self.front}: it is"
+                " another server, or came from an older backup. `pull --over` takes its sheets"
+            )
+        raise Stop(f"{self.url}{path}: {reply.status} {reply.text.strip()[:200]}", 3)
+
+    def names(self):
+        """The sheets, by name."""
+        return [line.rsplit(" ", 1)[0] for line in self.get("/sheets").text.splitlines()]
+
+    def sheet(self, name):
+        """A sheet as it stands, or None. Text and ids are of one moment."""
+        for _ in range(100):
+            text, ids = self.get("/sheets/" + name), self.get("/objects/" + name)
+            if text is None or ids is None:
+                if text is None and ids is None:
+                    return None
+            elif text.front == ids.front:
+                found = sheet_of(name, text.text)
+                numbers = [int(line.split(" ")[0]) for line in ids.text.splitlines()]
+                if len(numbers) != len(found.items):
+                    raise Stop(f"{self.url}: {name} has {len(numbers)} ids, and other objects", 3)
+                return Stand(text.front, found.head, dict(zip(numbers, found.texts)))
+        raise Stop(f"{self.url}: {name} changes faster than it can be read", 3)
+
+    def all_sheets(self):
+        """All sheets at one moment, by name."""
+        for _ in range(100):
+            stands = {name: self.sheet(name) for name in self.names()}
+            if all(stand and stand.front == self.front for stand in stands.values()):
+                return stands
+        raise Stop(f"{self.url} changes faster than it can be read", 3)
+
+    def symbol(self, name):
+        reply = self.get("/symbols/" + name)
+        return reply.text if reply else None
+
+    def next_number(self):
+        """One above the session's last number, which a gap on purpose tells."""
+        fault = self.post({"kind": "renumber"}, GREATEST, 0).fault()
+        if fault.get("fault") != "NumberGap":
+            raise Stop(f"{self.url}: {fault} in place of NumberGap", 3)
+        return fault["last"] + 1
+
+    def post(self, edit, number, base):
+        entry = {"session": self.session, "number": number, "base": base, "edit": edit}
+        body = json.dumps(entry, ensure_ascii=False, separators=(",", ":")).encode()
+        if len(body) > MOST_BYTES:
+            raise Refused({"fault": "TooLarge"})
+        return self.ask("POST", "/edits", body)
+
+    def send(self, edit, base):
+        """What the server answers to an edit that it takes; Refused where it does not."""
+        if self.number is None:
+            self.number = self.next_number()
+        reply = self.post(edit, self.number, base)
+        if reply.status != 200:
+            raise Refused(reply.fault() or {"fault": f"{reply.status} {reply.text.strip()[:100]}"})
+        self.number += 1
+        self.front = max(self.front, reply.front)
+        return reply.fault()
+
+
+def password(parts):
+    """The header for a password in the address, or in ~/.netrc."""
+    user, word = parts.username, parts.password
+    if user is None:
+        try:
+            found = netrc.netrc().authenticators(parts.hostname)
+        except (OSError, netrc.NetrcParseError):
+            found = None
+        user, word = (found[0], found[2]) if found else (None, None)
+    if user is None:
+        return None
+    return "Basic " + base64.b64encode(f"{user}:{word or ''}".encode()).decode()

@@ -1,0 +1,49 @@
+"""What ends a call, and the faults of the server in words."""
+import json
+import re
+
+NAME = re.compile(r"(?!\.)[A-Za-z0-9_+.-]{1,100}")
+
+
+class Stop(Exception):
+    """What ends the call: a text, and the status."""
+
+    def __init__(self, text, status=1):
+        super().__init__(text)
+        self.status = status
+
+
+class Refused(Exception):
+    """An edit that the server refused: the fault, as it was answered."""
+
+    def __init__(self, fault):
+        super().__init__(fault.get("fault"))
+        self.fault = fault
+
+
+FAULTS = {
+    "SheetExists": "another added a sheet of this name meanwhile: pull it under another name",
+    "SymbolExists": "another added a symbol of this name meanwhile: push again",
+    "NoSheet": "the sheet is gone: its addition was taken back",
+    "NoObject": "an object is gone: pull, and push again",
+    "NumberGap": "another program edits under this session: give each its own --session",
+    "NumberReused": "another program edits under this session: give each its own --session",
+    "BaseAhead": "the server's history is shorter than it was: it came from an older backup",
+    "HistoryFull": "the history is full: begin anew with `gafd_sync copy`",
+    "TooManyObjects": "the board would have more than 100,000 objects",
+    "ProjectFull": "the board would have more than 1,024 sheets, 8,192 symbols or 64 MiB of text",
+    "KeeperFault": "the server could not write to its disk: nothing was changed",
+    "TooLarge": "it is more than 4 MiB: split the sheet, or take embedded pictures out of it",
+    "NotYours": "it was sent under another session",
+    "UndoneAlready": "it was taken back already",
+    "UndoBlocked": "something of it was changed since, by the edit {by}",
+    "SheetInUse": "another put the object {id} on the sheet since",
+}
+
+
+def told(fault):
+    """A fault in words."""
+    name = str(fault.get("fault"))
+    if name == "BadText":
+        return f"BadText: {fault.get('read')} in line {fault.get('line')} of its text"
+    return f"{name}: {FAULTS[name].format_map(fault)}" if name in FAULTS else json.dumps(fault)
