@@ -1,11 +1,10 @@
 #!/usr/bin/env python3
 """Tests gafd_sync against the real program, which GAFD names, else the one that is built.
 
-Each test has a server of its own on a free port of the loopback, and folders of two engineers. With
-no program it says so, and its status is 0. It takes some seconds, and five minutes at most.
+Each test has a server of its own on a free port of the loopback, and folders of two engineers. The
+tests stand here and in the files test_*.py beside this one; words are handed on to unittest, as
+`-k undo`. With no program it says so, and its status is 0. It takes a minute, and ten at most.
 """
-import contextlib
-import io
 import json
 import os
 import pathlib
@@ -13,101 +12,40 @@ import random
 import signal
 import subprocess
 import sys
-import tempfile
 import unittest
+from collections import Counter
 from unittest import mock
 
 sys.dont_write_bytecode = True
 
-from gafd_sync.arguments import main
 from gafd_sync.server import Server
 from gafd_sync.sheets import item_of, sheet_of
-from served import TOP, Served, bounded, program
+from laboratory import SHEET, WIRE, Engineer, Laboratory
+from served import TOP, bounded, program
 
 sys.path.append(str(TOP / "bench"))
 
 import geda_files
 from random_files import random_file
 
-LONGEST = 300
-SHEET = TOP / "examples/preamp.sch"
-WIRE = "N 100 100 900 100 4\n"
+LONGEST = 600
 
 
-def asked(folder, *words):
-    """What a call of the client prints in a folder, and its status."""
-    said, here = io.StringIO(), os.getcwd()
-    os.chdir(folder)
-    try:
-        with mock.patch.object(sys, "argv", ["gafd_sync", *words]):
-            with contextlib.redirect_stdout(said), contextlib.redirect_stderr(said):
-                status = main()
-    except SystemExit as end:
-        status = end.code
-    finally:
-        os.chdir(here)
-    return status, said.getvalue()
+def drawn_at_random(draw, lines, turn):
+    """Changes a few of the wires that lines are, takes some away, and adds some."""
+    for _ in range(draw.randint(0, 2)):
+        at = draw.randrange(len(lines))
+        x = lines[at].split()[1]
+        choice = draw.random()
+        if choice < 0.6:
+            lines[at] = f"N {x} {draw.randrange(9)} {x} {10 + turn} 4"
+        elif choice < 0.8 and len(lines) > 6:
+            del lines[at]
+        else:
+            lines.insert(at, f"N {x} {20 + turn} {x} {30 + turn} 4")
 
 
-class Engineer:
-    """A folder, and who works in it."""
-
-    def __init__(self, room, name, server):
-        self.folder, self.name, self.server = pathlib.Path(room, name), name, server
-        self.folder.mkdir()
-
-    def __call__(self, *words):
-        return asked(self.folder, "--server", self.server.url, "--session", self.name, *words)
-
-    def path(self, name="preamp.sch"):
-        return self.folder / name
-
-    def draws(self, old, new, name="preamp.sch"):
-        """Changes one place of a file, as a drawing program does when it saves."""
-        text = self.path(name).read_text(encoding="utf-8")
-        assert text.count(old) == 1, (old, text.count(old))
-        self.path(name).write_text(text.replace(old, new), encoding="utf-8")
-
-    def objects(self, name="preamp.sch"):
-        """The objects of a file, in whatever order."""
-        return sorted(sheet_of(name, self.path(name).read_text(encoding="utf-8")).texts)
-
-
-class ClientTest(unittest.TestCase):
-    def setUp(self):
-        room = tempfile.TemporaryDirectory()
-        self.addCleanup(room.cleanup)
-        self.room = pathlib.Path(room.name)
-        self.server = self.served("store")
-        self.ann, self.bob = (Engineer(room.name, name, self.server) for name in ("ann", "bob"))
-        for path in (SHEET, *(TOP / "examples").glob("*.sym")):
-            (self.ann.folder / path.name).write_bytes(path.read_bytes())
-
-    def served(self, store):
-        server = Served(self.room / store)
-        self.addCleanup(server.__exit__)
-        return server
-
-    def both_start(self):
-        """The sheet is on the server, and both have it."""
-        self.assertEqual(self.ann("push", "preamp.sch")[0], 0)
-        self.assertEqual(self.bob("pull")[0], 0)
-
-    def answer(self, path, url=None):
-        return self.asked_server(lambda server: server.get(path).text, url)
-
-    def asked_server(self, call, url=None):
-        server = Server(url or self.server.url, "test")
-        with contextlib.closing(server.link):
-            return call(server)
-
-    def kinds(self, said):
-        """The edits of a push, as it printed them."""
-        return [line.split()[2] for line in said.splitlines() if line.split()[1].isdigit()]
-
-    def rows(self):
-        return len(list(pathlib.Path(self.server.store).glob("*.json")))
-
+class ClientTest(Laboratory):
     def test_a_sheet_goes_out_with_its_symbols_and_comes_back(self):
         status, said = self.ann("push", "preamp.sch")
         self.assertEqual((status, self.kinds(said)), (0, ["add_symbol"] * 8 + ["add_sheet"]))
@@ -292,40 +230,6 @@ class ClientTest(unittest.TestCase):
         self.assertEqual(self.ann("push", "preamp.sch"), (0, "preamp.sch: nothing to send\n"))
         self.assertEqual(self.answer("/sheets/preamp.sch").count(WIRE), 1)
 
-    def test_undo_takes_the_last_push_back(self):
-        self.both_start()
-        before = self.answer("/sheets/preamp.sch")
-        self.bob.draws("value=1k\n", "value=3k\n")
-        self.bob.draws("N 44500 47400 44500 48000 4\n", "")
-        self.bob("push", "preamp.sch")
-        drawn = self.bob.path().read_bytes()
-        status, said = self.bob("undo")
-        self.assertEqual((status, said.count("is taken back")), (0, 2))
-        self.assertEqual(self.answer("/sheets/preamp.sch"), before)
-        self.assertEqual(self.bob.path().read_bytes(), drawn)
-        self.assertEqual(self.bob("undo")[0], 1)
-        self.assertEqual(self.kinds(self.bob("push", "preamp.sch")[1]), ["replace", "delete"])
-
-    def test_undo_of_a_sheet_takes_its_symbols_too(self):
-        self.ann("push", "preamp.sch")
-        self.assertEqual(self.ann("undo")[0], 0)
-        self.assertEqual(self.answer("/sheets"), "")
-        self.assertEqual(self.ann("push", "preamp.sch")[0], 0)
-        self.assertEqual(self.answer("/sheets"), "preamp.sch 46\n")
-
-    def test_undo_leaves_what_another_changed_since(self):
-        self.both_start()
-        self.ann.draws("value=1k\n", "value=2k\n")
-        self.ann("push", "preamp.sch")
-        self.bob("pull")
-        self.bob.draws("value=2k\n", "value=3k\n")
-        self.bob("push", "preamp.sch")
-        status, said = self.ann("undo")
-        self.assertEqual(status, 1)
-        self.assertIn("UndoBlocked: something of it was changed since, by the edit 10", said)
-        self.assertEqual(self.bob("undo")[0], 0)
-        self.assertEqual(self.ann("undo")[0], 1)
-
     def test_a_file_of_unknown_origin_is_not_sent(self):
         self.both_start()
         other = Engineer(self.room, "eve", self.server)
@@ -345,17 +249,6 @@ class ClientTest(unittest.TestCase):
         self.assertEqual(self.bob("pull", "--over", "preamp.sch")[0], 0)
         self.assertEqual(self.bob.path().read_bytes(), SHEET.read_bytes())
         self.assertEqual(self.bob.path("preamp.sch.mine").read_bytes(), mine)
-
-    def test_a_symbol_is_added_once_and_never_changed(self):
-        self.both_start()
-        self.ann.draws("device=RESISTOR", "device=OTHER", "res.sym")
-        for command in (("push", "preamp.sch"), ("push", "res.sym"), ("pull", "preamp.sch")):
-            status, said = self.ann(*command)
-            self.assertEqual((status, "res.sym: differs from" in said), (1, True), said)
-        self.assertEqual(self.ann("pull", "--over", "preamp.sch")[0], 0)
-        self.assertIn("device=RESISTOR", self.ann.path("res.sym").read_text())
-        self.ann.path("own.sym").write_text("v 20130925 2\nP 0 0 100 0 1 0 0\n")
-        self.assertEqual(self.kinds(self.ann("push", "own.sym")[1]), ["add_symbol"])
 
     def test_what_cannot_be_sent_is_told(self):
         self.both_start()
@@ -415,16 +308,6 @@ class ClientTest(unittest.TestCase):
             status, said = engineer("push", "preamp.sch")
             self.assertEqual((status, self.kinds(said)), (0, ["replace"]), said)
 
-    def test_the_history_of_an_object_is_told(self):
-        self.both_start()
-        self.bob.draws("value=1k\n", "value=3k\n")
-        self.bob("push", "preamp.sch")
-        self.bob("undo")
-        status, said = asked(self.room, "history", self.server.store, "30")
-        self.assertEqual(status, 0)
-        first, then = "8 ann 9 add_sheet preamp.sch", "9 bob 1 replace 30 C R3 res.sym"
-        self.assertEqual(said.splitlines(), [first, then, "10 bob 2 undo 9"])
-
     def test_two_who_add_parts_get_two_numbers(self):
         self.both_start()
         part = "C 47000 44000 1 0 0 gnd.sym\n"
@@ -443,36 +326,6 @@ class ClientTest(unittest.TestCase):
         lines = self.bob("ids", "preamp.sch")[1].splitlines()
         self.assertEqual(len(lines), 46)
         self.assertEqual((lines[0], lines[41]), ("0 C - title.sym", "41 C R4 res.sym"))
-
-    def test_a_backup_takes_what_came_and_is_served(self):
-        self.both_start()
-        words = ("backup", self.server.store, str(self.room / "copied"))
-        self.assertEqual(asked(self.room, *words), (0, "9 rows, of which 9 came now\n"))
-        self.ann.draws("value=1k\n", "value=2k\n")
-        self.ann("push", "preamp.sch")
-        # A row behind a gap, as one that came amid the copying may be, is not taken.
-        row = pathlib.Path(self.server.store, "0000000011.json")
-        row.write_bytes(pathlib.Path(self.server.store, "0000000009.json").read_bytes())
-        self.assertEqual(asked(self.room, *words), (0, "10 rows, of which 1 came now\n"))
-        row.unlink()
-        other = self.served("copied")
-        for path in ("/sheets/preamp.sch", "/netlist/list"):
-            self.assertEqual(self.answer(path, other.url), self.answer(path))
-        self.ann.path("b.sch").write_text("v 20130925 2\n")
-        self.ann("push", "b.sch")
-        (self.room / "copied" / "0000000010.json").write_text("{}\n")
-        self.assertEqual(asked(self.room, *words)[0], 1)
-
-    def test_all_is_copied_to_an_empty_server(self):
-        for name in ("stereo.sch", "channel.sch"):
-            (self.ann.folder / name).write_bytes((TOP / "examples" / name).read_bytes())
-        self.ann("push", "stereo.sch", "channel.sch", "preamp.sch")
-        other = self.served("second")
-        status, said = self.ann("copy", other.url)
-        self.assertEqual((status, "both netlists are the same" in said), (0, True), said)
-        for path in ("/sheets/stereo.sch", "/symbols/res.sym", "/netlist/list", "/drc"):
-            self.assertEqual(self.answer(path, other.url), self.answer(path), path)
-        self.assertEqual(self.ann("copy", other.url)[0], 1)
 
     def test_two_who_draw_at_random_lose_nothing(self):
         draw = random.Random(7)
@@ -502,6 +355,12 @@ class ClientTest(unittest.TestCase):
         for engineer in (self.ann, self.bob):
             self.assertEqual(set(engineer.path("r.sch").read_text().splitlines()[1:]), wanted)
 
+    def both_end_alike(self):
+        for engineer in (self.ann, self.bob):
+            engineer("pull", "--mine")
+            self.assertEqual(engineer("push", "r.sch")[0], 0)
+        self.ann("pull")
+        self.assertEqual(self.ann.objects("r.sch"), self.bob.objects("r.sch"))
 
     def test_nobody_overwrites_what_he_has_not_seen(self):
         """Two who draw at random on the same few wires. Whatever a push changes is on the server as
@@ -511,7 +370,7 @@ class ClientTest(unittest.TestCase):
         self.ann.path("r.sch").write_text(head + "".join(f"N {x} 0 {x} 9 4\n" for x in range(12)))
         self.ann("push", "r.sch")
         self.bob("pull")
-        send, seen, counts = Server.send, {}, {"replace": 0, "delete": 0, "add_object": 0}
+        send, seen, counts = Server.send, {}, Counter()
 
         def watched(server, edit, base):
             reply = send(server, edit, base)
@@ -525,16 +384,7 @@ class ClientTest(unittest.TestCase):
         for turn in range(150):
             engineer = draw.choice((self.ann, self.bob))
             lines = engineer.path("r.sch").read_text().splitlines()[1:]
-            for _ in range(draw.randint(0, 2)):
-                at = draw.randrange(len(lines))
-                x = lines[at].split()[1]
-                choice = draw.random()
-                if choice < 0.6:
-                    lines[at] = f"N {x} {draw.randrange(9)} {x} {10 + turn} 4"
-                elif choice < 0.8 and len(lines) > 6:
-                    del lines[at]
-                else:
-                    lines.insert(at, f"N {x} {20 + turn} {x} {30 + turn} 4")
+            drawn_at_random(draw, lines, turn)
             engineer.path("r.sch").write_text(head + "\n".join(lines) + "\n")
             command = draw.choice((["push", "r.sch"], ["push", "r.sch"], ["pull"]))
             origin = engineer.folder / ".gafd_sync/r.sch.from"
@@ -546,12 +396,9 @@ class ClientTest(unittest.TestCase):
             if status:
                 refused += 1
                 self.assertEqual(engineer("pull", draw.choice(("--mine", "--theirs")))[0], 0)
+        self.assertEqual(set(counts), {"replace", "move", "delete", "add_object"})
         self.assertTrue(refused > 5 and min(counts.values()) > 5, (refused, counts))
-        for engineer in (self.ann, self.bob):
-            engineer("pull", "--mine")
-            self.assertEqual(engineer("push", "r.sch")[0], 0)
-        self.ann("pull")
-        self.assertEqual(self.ann.objects("r.sch"), self.bob.objects("r.sch"))
+        self.both_end_alike()
 
 
 class TextTest(unittest.TestCase):
@@ -579,4 +426,5 @@ if __name__ == "__main__":
     bounded(LONGEST)
     os.environ.pop("GAFD_SERVER", None)
     os.environ.pop("GAFD_SESSION", None)
-    unittest.main()
+    words = ["discover", "-s", str(TOP / "clients"), *sys.argv[1:]]
+    unittest.main(module=None, argv=[sys.argv[0], *words])

@@ -4,54 +4,67 @@ import getpass
 import os
 import re
 import sys
+from typing import Callable, NamedTuple
 
 from .commands import copy, diff, ids, renumber, sheets
 from .folder import Folder
 from .pulls import pull
 from .pushes import push
+from .revert import revert
 from .server import Server
-from .store import backup, history
+from .store import backup, check, history
 from .undo import undo
 from .words import NAME, Refused, Stop, told
 
 USAGE = """\
 gafd_sync: a folder of sheets beside a `gafd serve`, for who draws in lepton-schematic.
 
-It is called in the folder of the sheets. A SHEET or a SYMBOL is a file there, without a path.
+It is called in the folder of the sheets. A FILE is a sheet or a symbol there, without a path; a
+symbol's name ends in .sym.
 
-  pull [SHEET...]       writes the sheets, or all of the server's, with the symbols that they name.
-                        What you drew since stays: it is put together with what others changed,
-                        object by object. Where both changed one object nothing is written, and
-                        --mine or --theirs says whose stands; --over takes all as the server has it
+  pull [FILE...]        writes the files, or all sheets of the server, with the symbols that they
+                        name. What you drew since stays: it is put together with what others
+                        changed, object by object. Where both changed one object, or one symbol,
+                        nothing is written, and --mine or --theirs says whose stands; --over takes
+                        all as the server has it. A symbol that is a link becomes a file: what the
+                        link leads to is never written. Where there is no gafrc one is written, so
+                        that lepton finds the symbols; --lepton writes a lepton.conf likewise
   push FILE...          sends what you changed, as the fewest edits, one after the other, and prints
-                        each. A sheet that the server does not have is added, with its symbols, and
-                        so is a SYMBOL. Where others changed an object that you changed, nothing is
-                        sent, and both changes are shown. --over makes the server's sheet as the
-                        file is, whatever others changed
-  diff [SHEET...]       prints what `push` would send, and what `pull` would bring
-  undo                  takes back the last push from this folder; the files stay as they are
+                        each. What moved or turned as one goes as one. A sheet that the server does
+                        not have is added. The symbols of a sheet go with it. Where others changed
+                        what you changed, nothing is sent, and both changes are shown. --over makes
+                        the server's file as yours is, whatever others changed; --copy adds a sheet
+                        that has what another one has
+  diff [FILE...]        prints what `push` would send, and what `pull` would bring
+  undo [N]              takes back the last push from this folder that stands, or the last N. A file
+                        that nobody drew on since comes along
+  revert STORE SERIAL   sends the contrary of anybody's edit. STORE is that of the server, or a copy
+                        of it; it calls `gafd`, or the program that GAFD names
   renumber              gives each `R?` on the server a number; `pull` brings them
   sheets                prints the names of the server's sheets, in the order in which they came
-  ids SHEET             prints the ids of a sheet's objects, each with what it is
+  ids FILE              prints the ids of a sheet's objects, each with what it is
   copy URL              puts all sheets and their symbols into the empty server at URL, and compares
                         the netlists of both
   history STORE [ID...] prints the edits of a store, or of a copy, a line each; with IDs those that
                         may have changed one of these objects. It asks no server
   backup STORE FOLDER   copies the rows that FOLDER does not have yet, in their order, also while
                         the store is served. It asks no server
+  check STORE           whether the rows of a store are whole and without a gap, and whether this
+                        user may go on with it. It asks no server
 
 `--server URL` names the server, as http://127.0.0.1:8080 or https://lab.example/amp; else
 GAFD_SERVER does, else the folder remembers the last one. A password is taken from ~/.netrc.
-`--session NAME`, else GAFD_SESSION, is who you are to the server; else it is your login name.
+`--session NAME`, else GAFD_SESSION, is who you are to the server; else it is your name in ~/.netrc,
+else your login name.
 
 Status 0: done. 1: something is left to you, and is printed. 2: wrong arguments. 3: the server does
 not answer, or answers what it should not.
 
 What you started from stands in the folder .gafd_sync: for each sheet the ids and the texts of the
-objects that your file was made from. `push` takes as base the length of the history at which it has
-just read the sheet, and only after it saw that each object that it will change is there as you got
-it. So what others changed before that is seen by the texts, and what they change after it is
-refused as Stale.
+objects that your file was made from, for each symbol its text. `push` takes as base the length of
+the history at which it has just read the sheet, and only after it saw that each object that it will
+change is there as you got it. So what others changed before that is seen by the texts, and what
+they change after it is refused as Stale.
 """
 
 
@@ -59,6 +72,58 @@ def a_name(word):
     if not NAME.fullmatch(word):
         raise argparse.ArgumentTypeError(f"{word} is no name of a file without a path")
     return word
+
+
+def a_count(word):
+    if not word.isdigit() or int(word) < 1:
+        raise argparse.ArgumentTypeError(f"{word} is no number from 1 on")
+    return int(word)
+
+
+FLAGS = {
+    "--mine": {"dest": "taken", "action": "store_const", "const": "mine"},
+    "--theirs": {"dest": "taken", "action": "store_const", "const": "theirs"},
+    "--over": {"action": "store_true"},
+    "--copy": {"action": "store_true"},
+    "--lepton": {"action": "store_true"},
+}
+WORDS = {
+    "FILE": {"dest": "file", "type": a_name},
+    "FILE...": {"dest": "files", "type": a_name, "nargs": "+"},
+    "[FILE...]": {"dest": "files", "type": a_name, "nargs": "*"},
+    "[N]": {"dest": "count", "type": a_count, "nargs": "?", "default": 1},
+    "[ID...]": {"dest": "ids", "type": int, "nargs": "*"},
+    "SERIAL": {"dest": "serial", "type": int},
+    "STORE": {"dest": "store"},
+    "FOLDER": {"dest": "folder"},
+    "URL": {"dest": "url"},
+}
+
+
+class Command(NamedTuple):
+    """What a command calls, its flags, of which those of one text exclude each other, its words,
+    and whether it asks a server."""
+
+    call: Callable
+    flags: list
+    words: list
+    asks_server: bool = True
+
+
+COMMANDS = {
+    "pull": Command(pull, ["--mine --theirs --over", "--lepton"], ["[FILE...]"]),
+    "push": Command(push, ["--over", "--copy"], ["FILE..."]),
+    "diff": Command(diff, [], ["[FILE...]"]),
+    "undo": Command(undo, [], ["[N]"]),
+    "revert": Command(revert, [], ["STORE", "SERIAL"]),
+    "renumber": Command(renumber, [], []),
+    "sheets": Command(sheets, [], []),
+    "ids": Command(ids, [], ["FILE"]),
+    "copy": Command(copy, [], ["URL"]),
+    "history": Command(history, [], ["STORE", "[ID...]"], False),
+    "backup": Command(backup, [], ["STORE", "FOLDER"], False),
+    "check": Command(check, [], ["STORE"], False),
+}
 
 
 def arguments():
@@ -72,75 +137,51 @@ def arguments():
     commands = parser.add_subparsers(
         dest="command", required=True, metavar="COMMAND", help=argparse.SUPPRESS
     )
-    one = commands.add_parser("pull")
-    whose = one.add_mutually_exclusive_group()
-    whose.add_argument("--mine", dest="taken", action="store_const", const="mine")
-    whose.add_argument("--theirs", dest="taken", action="store_const", const="theirs")
-    whose.add_argument("--over", action="store_true")
-    one.add_argument("sheets", nargs="*", type=a_name, metavar="SHEET")
-    one = commands.add_parser("push")
-    one.add_argument("--over", action="store_true")
-    one.add_argument("files", nargs="+", type=a_name, metavar="FILE")
-    commands.add_parser("diff").add_argument("sheets", nargs="*", type=a_name, metavar="SHEET")
-    commands.add_parser("undo")
-    commands.add_parser("renumber")
-    commands.add_parser("sheets")
-    commands.add_parser("ids").add_argument("sheet", type=a_name, metavar="SHEET")
-    commands.add_parser("copy").add_argument("url", metavar="URL")
-    one = commands.add_parser("history")
-    one.add_argument("store", metavar="STORE")
-    one.add_argument("ids", nargs="*", type=int, metavar="ID")
-    one = commands.add_parser("backup")
-    one.add_argument("store", metavar="STORE")
-    one.add_argument("folder", metavar="FOLDER")
+    for name, command in COMMANDS.items():
+        one = commands.add_parser(name)
+        for flags in command.flags:
+            group = one.add_mutually_exclusive_group()
+            for flag in flags.split():
+                group.add_argument(flag, **FLAGS[flag])
+        for word in command.words:
+            one.add_argument(**WORDS[word], metavar=word.strip("[.]"))
     return parser.parse_args()
 
 
+def a_session(word):
+    """A word as a session may be called."""
+    return re.sub(r"[^A-Za-z0-9_+-]", "_", word)[:100] or "nobody"
+
+
 def login():
-    """The login name, as a session may be called."""
     try:
-        return re.sub(r"[^A-Za-z0-9_+-]", "_", getpass.getuser())[:100] or "nobody"
+        return getpass.getuser()
     except (OSError, KeyError, ImportError):
         return "nobody"
 
 
 def server_of(asked, folder):
     """The server that is asked for, which the folder remembers."""
-    known = folder.load("server")
-    url = asked.server or os.environ.get("GAFD_SERVER") or known
+    url = asked.server or os.environ.get("GAFD_SERVER") or folder.load("server")
     if not url:
         raise Stop("which server? --server URL or GAFD_SERVER names it", 2)
-    session = asked.session or os.environ.get("GAFD_SESSION") or login()
-    if not NAME.fullmatch(session):
-        raise Stop(f"{session} is no name of a session", 2)
+    session = asked.session or os.environ.get("GAFD_SESSION")
     server = Server(url, session)
-    if asked.command in ("pull", "push"):
-        names = (asked.sheets or server.names()) if asked.command == "pull" else asked.files
-        if not asked.over:
-            fronts = [found[0] for name in names if (found := folder.origin(name))]
-            server.front = max([server.front, *fronts])
+    server.session = session or a_session(server.user or login())
+    if not NAME.fullmatch(server.session):
+        raise Stop(f"{server.session} is no name of a session", 2)
+    if asked.command in ("pull", "push") and not asked.over:
+        names = asked.files or server.names()
+        server.front = max([server.front, *map(folder.front, names)])
     return server
-
-
-COMMANDS = {
-    "pull": pull,
-    "push": push,
-    "diff": diff,
-    "undo": undo,
-    "renumber": renumber,
-    "sheets": sheets,
-    "ids": ids,
-    "copy": copy,
-    "history": history,
-    "backup": backup,
-}
 
 
 def main():
     asked, folder, server = arguments(), Folder(), None
+    command = COMMANDS[asked.command]
     try:
-        server = None if asked.command in ("history", "backup") else server_of(asked, folder)
-        status = COMMANDS[asked.command](asked, server, folder)
+        server = server_of(asked, folder) if command.asks_server else None
+        status = command.call(asked, server, folder)
         if asked.command in ("pull", "push"):
             folder.keep("server", server.url)
         return status

@@ -1,26 +1,62 @@
 """What is asked of the server, sheet by sheet or as a whole."""
 import pathlib
 
-from .differences import show_conflicts, show_theirs, show_yours
-from .merge import plan_of
+from .differences import show_conflicts, show_lines, show_symbol_conflict, show_theirs, show_yours
+from .merge import plan_of, who_changed
+from .pushes import GONE
 from .server import GREATEST, Server
 from .sheets import item_of, sheet_of
+from .stack import Stack
 from .words import Refused, Stop, told
 
 
 def diff(asked, server, folder):
-    names = asked.sheets or sorted(path.name for path in pathlib.Path(".").glob("*.sch"))
+    here = sorted(path.name for path in pathlib.Path(".").glob("*.sch"))
+    names = asked.files or sorted({*here, *folder.pulled(".sch")})
+    symbols = {name for name in asked.files or folder.pulled(".sym") if name.endswith(".sym")}
     for name in names:
-        origin, stand = folder.origin(name), server.sheet(name)
-        if stand is None or origin is None:
-            what = "the server has no such sheet" if stand is None else "was not pulled"
-            print(f"{name}: {what}")
+        if name.endswith(".sym"):
             continue
-        plan = plan_of(origin[1], stand.objects, folder.sheet(name).texts)
-        show_yours(name, plan)
-        show_theirs(name, plan, stand.objects)
-        show_conflicts(name, plan, stand.objects)
+        if not folder.has(name):
+            is_there = server.get("/objects/" + name)
+            print(GONE.format(name) if is_there else f"{name}: is neither here nor on the server")
+            continue
+        sheet = folder.sheet(name)
+        symbols |= set(sheet.symbols())
+        diff_sheet(server, folder, name, sheet)
+    for name in sorted(symbols):
+        diff_symbol(server, folder, name)
     return 0
+
+
+def diff_sheet(server, folder, name, sheet):
+    origin, stand = folder.origin(name), server.sheet(name)
+    if stand is None or origin is None:
+        what = "the server has no such sheet" if stand is None else "was not pulled"
+        print(f"{name}: {what}")
+        return
+    plan = plan_of(origin[1], stand.objects, sheet.texts)
+    show_yours(name, plan)
+    show_theirs(name, plan, stand.objects)
+    show_conflicts(name, plan, stand.objects)
+
+
+def diff_symbol(server, folder, name):
+    text = server.symbol(name)
+    if text is None or not folder.has(name):
+        if text is not None or folder.has(name):
+            print(f"{name}: {'is not here' if text else 'the server has no such symbol'}")
+        return
+    mine, origin = folder.sheet(name).text, folder.symbol_origin(name)
+    state = who_changed(origin, text, mine)
+    if state == "you":
+        show_lines(name, "you", text, mine)
+    elif state == "theirs":
+        show_lines(name, "others", mine, text)
+    elif state == "both":
+        show_symbol_conflict(name, origin, text, mine)
+    elif state == "unknown":
+        print(f"{name}: differs from the server's, and it is not known which is newer")
 
 
 def in_order(stands):
@@ -31,6 +67,10 @@ def in_order(stands):
 def renumber(asked, server, folder):
     server.names()
     serial = server.send({"kind": "renumber"}, server.front)["serial"]
+    stack = Stack(folder)
+    stack.begin([])
+    stack.add({"session": server.session, "serial": serial, "name": "", "kind": "renumber"})
+    stack.add({"end": True})
     print(f"renumbered at {serial}; `pull` brings the numbers")
     return 0
 
@@ -42,9 +82,9 @@ def sheets(asked, server, folder):
 
 
 def ids(asked, server, folder):
-    stand = server.sheet(asked.sheet)
+    stand = server.sheet(asked.file)
     if stand is None:
-        raise Stop(f"{asked.sheet}: the server has no such sheet")
+        raise Stop(f"{asked.file}: the server has no such sheet")
     for key, text in stand.objects.items():
         print(key, item_of(text))
     return 0

@@ -1,6 +1,7 @@
 """Differences as lines that are printed."""
 import difflib
 
+from .motions import motions_between, motions_of
 from .sheets import item_of
 
 WHOSE = "`pull --mine {0}` takes yours of these, `--theirs` theirs"
@@ -14,12 +15,23 @@ def lines_between(old, new):
     return [line for line in lines if not line.startswith(("---", "+++", "@@"))]
 
 
+def change_lines(was, text):
+    """What came of an object, in a line or more: where it was moved as a whole, by how much."""
+    if text is None:
+        return ["deleted"]
+    old, new = item_of(was), item_of(text)
+    for is_turned in (False, True):
+        for motion in motions_between(old, new, is_turned):
+            return [str(motion)]
+    return lines_between(was, text)
+
+
 def show_conflicts(name, plan, now):
     for key in plan.conflicts:
         was = plan.known[key]
         print(f"{name}: changed by others and by you: {key}, {item_of(was)}")
         for who, text in (("theirs", now.get(key)), ("yours", plan.replaced.get(key))):
-            for line in lines_between(was, text) if text else ["deleted"]:
+            for line in change_lines(was, text):
                 print(f"    {who:6} {line}")
 
 
@@ -33,19 +45,55 @@ def show_change(name, who, key, was, text):
             print(f"    {line}")
 
 
+def objects_named(keys, items):
+    """A few objects by id and name, many by their count and the first."""
+    first = f"{keys[0]}, {items[keys[0]]}"
+    return first if len(keys) == 1 else f"{len(keys)} objects, the first {first}"
+
+
+def show_changes(name, who, olds, news):
+    """Prints what came of objects that are there before and after; what went by one motion is one
+    line. Both are texts by id."""
+    old_items, new_items = ({key: item_of(it[key]) for key in news} for it in (olds, news))
+    left = dict(news)
+    for motion, keys in motions_of(old_items, new_items):
+        print(f"{name}: {motion} by {who}: {objects_named(keys, old_items)}")
+        for key in keys:
+            del left[key]
+    for key, text in left.items():
+        show_change(name, who, key, olds[key], text)
+
+
 def show_theirs(name, plan, now):
     """Prints what others changed, but for what both did."""
-    for key in plan.theirs:
-        if key not in plan.conflicts:
+    keys = [key for key in plan.theirs if key not in set(plan.conflicts)]
+    changed = [key for key in keys if key in plan.known and key in now]
+    show_changes(name, "others", plan.known, {key: now[key] for key in changed})
+    for key in keys:
+        if key not in plan.known or key not in now:
             show_change(name, "others", key, plan.known.get(key), now.get(key))
 
 
 def show_yours(name, plan):
-    for key, text in plan.replaced.items():
-        if key not in plan.conflicts:
-            show_change(name, "you", key, plan.known[key], text)
+    conflicts = set(plan.conflicts)
+    changed = {key: text for key, text in plan.replaced.items() if key not in conflicts}
+    show_changes(name, "you", plan.known, changed)
     for text in plan.added:
         show_change(name, "you", None, None, text)
     for key in plan.deleted:
-        if key not in plan.conflicts:
+        if key not in conflicts:
             show_change(name, "you", key, plan.known[key], None)
+
+
+def show_lines(name, who, was, text):
+    """Prints how a symbol was changed."""
+    print(f"{name}: changed by {who}")
+    for line in lines_between(was, text):
+        print(f"    {line}")
+
+
+def show_symbol_conflict(name, was, theirs, yours):
+    print(f"{name}: changed by others and by you")
+    for who, text in (("theirs", theirs), ("yours", yours)):
+        for line in lines_between(was, text):
+            print(f"    {who:6} {line}")

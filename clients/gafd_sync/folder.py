@@ -6,6 +6,9 @@ import pathlib
 from .sheets import sheet_of
 from .words import Stop
 
+GAFRC = '(component-library ".")\n(source-library ".")\n'
+LEPTON = "[netlist.hierarchy]\nmangle-net-attribute=false\n"
+
 
 class Folder:
     """The files, and what is known of where they came from."""
@@ -27,10 +30,10 @@ class Folder:
         put(self.known / name, json.dumps(value, ensure_ascii=False, indent=0) + "\n")
 
     def forget(self, name):
-        (self.known / name).unlink(missing_ok=True)
+        (self.known / (name + ".from")).unlink(missing_ok=True)
 
     def origin(self, name):
-        """The objects that a file was made from, by id, and the front that was seen; or None."""
+        """The objects that a sheet was made from, by id, and the front that was seen; or None."""
         found = self.load(name + ".from")
         if not found:
             return None
@@ -39,24 +42,23 @@ class Folder:
     def set_origin(self, name, front, objects):
         self.keep(name + ".from", {"front": front, "objects": objects})
 
-    def add_pushed(self, edit, is_first):
-        """Notes an edit of the last push, or the first one of a new push."""
-        self.known.mkdir(exist_ok=True)
-        with open(self.known / "push", "w" if is_first else "a", encoding="utf-8") as file:
-            file.write(json.dumps(edit) + "\n")
+    def symbol_origin(self, name):
+        """The text that a symbol was made from, or None."""
+        found = self.load(name + ".from")
+        return found["text"] if found else None
 
-    def pushed(self):
-        """The edits of the last push that are not taken back."""
-        try:
-            lines = (self.known / "push").read_text(encoding="utf-8").splitlines()
-            return [json.loads(line) for line in lines]
-        except FileNotFoundError:
-            return []
-        except ValueError:
-            raise Stop(f"{self.known / 'push'} is damaged: undo by hand, and delete it") from None
+    def set_symbol_origin(self, name, front, text):
+        self.keep(name + ".from", {"front": front, "text": text})
 
-    def set_pushed(self, edits):
-        put(self.known / "push", "".join(json.dumps(edit) + "\n" for edit in edits))
+    def front(self, name):
+        """The front that was seen with a file; 0 where none was."""
+        found = self.load(name + ".from")
+        return found["front"] if found else 0
+
+    def pulled(self, ending):
+        """The files of an ending of which it is known what they were made from."""
+        names = (path.name[: -len(".from")] for path in self.known.glob("*" + ending + ".from"))
+        return sorted(names)
 
     def has(self, name):
         return os.path.lexists(name)
@@ -78,8 +80,9 @@ class Folder:
 
     def renew(self, name, text, is_kept):
         """Writes a file where it differs, so that `make` sees what changed, and tells whether it
-        did. What it had is kept beside it where that is asked for."""
-        path = pathlib.Path(os.path.realpath(name))
+        did. What it had is kept beside it where that is asked for. What a link leads to stays: a
+        file takes the link's place."""
+        path = pathlib.Path(name)
         if path.exists():
             old = self.read(name)
             if old == text:
@@ -87,14 +90,33 @@ class Folder:
             if is_kept:
                 put(path.with_name(path.name + ".mine"), old)
                 print(f"{name}: your file is kept as {name}.mine")
+        if path.is_symlink():
+            print(f"{name}: was a link, and is a file now; {os.readlink(path)} stays as it is")
         put(path, text)
         return True
+
+    def add(self, name, text, why):
+        """Writes a file where there is none."""
+        if not self.has(name):
+            put(pathlib.Path(name), text)
+            print(f"{name}: written, {why}")
+
+    def lepton_files(self, is_conf_asked):
+        """What lepton wants beside the sheets: a `gafrc`, and where asked for a `lepton.conf`."""
+        self.add("gafrc", GAFRC, "so that lepton finds the symbols and sheets of this folder")
+        if is_conf_asked:
+            why = "so that lepton-netlist takes names of `net` below as they stand"
+            self.add("lepton.conf", LEPTON, why)
+            line = "mangle-net-attribute=false"
+            if line not in self.read("lepton.conf"):
+                print(f"lepton.conf: stays; its [netlist.hierarchy] wants {line}")
 
 
 def put(path, text):
     """Writes a file beside the old one, and then in its place."""
     new = path.with_name("." + path.name + ".new")
+    new.unlink(missing_ok=True)
     new.write_bytes(text.encode("utf-8"))
-    if path.exists():
+    if path.exists() and not path.is_symlink():
         new.chmod(path.stat().st_mode & 0o777)
     os.replace(new, path)

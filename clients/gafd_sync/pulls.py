@@ -1,12 +1,20 @@
-"""`pull`: the sheets of the server in the folder, put together with what was drawn since."""
-from .differences import WHOSE, show_conflicts, show_theirs
-from .merge import merged, plan_of
+"""`pull`: what the server has, put together in the folder with what was drawn since."""
+from .differences import WHOSE, show_conflicts, show_lines, show_symbol_conflict, show_theirs
+from .merge import merged, plan_of, who_changed
 from .sheets import sheet_of
 
 
+def is_symbol(name):
+    return name.endswith(".sym")
+
+
 def pull(asked, server, folder):
-    stands = {name: server.sheet(name) for name in asked.sheets} or server.all_sheets()
-    status, symbols = 0, set()
+    wanted = [name for name in asked.files if not is_symbol(name)]
+    if asked.files:
+        stands = {name: server.sheet(name) for name in wanted}
+    else:
+        stands = server.all_sheets()
+    status, symbols = 0, set(filter(is_symbol, asked.files or folder.pulled(".sym")))
     for name, stand in stands.items():
         if stand is None:
             print(f"{name}: the server has no such sheet")
@@ -16,6 +24,7 @@ def pull(asked, server, folder):
         symbols |= set(sheet_of(name, stand.text).symbols())
     for name in sorted(symbols):
         status |= pull_symbol(asked, server, folder, name)
+    folder.lepton_files(asked.lepton)
     return status
 
 
@@ -44,16 +53,30 @@ def pull_sheet(asked, folder, name, stand):
 
 
 def pull_symbol(asked, server, folder, name):
-    text = server.symbol(name)
+    text, front = server.symbol(name), server.front
     if text is None:
+        folder.forget(name)
         where = ", and the file here is yours alone" if folder.has(name) else ""
         print(f"{name}: the server has no such symbol{where}")
         return 0
-    if folder.has(name) and folder.sheet(name).text == text:
-        return 0
-    if folder.has(name) and not asked.over:
-        print(f"{name}: differs from the server's, and stays; `pull --over` takes the server's")
+    mine = folder.sheet(name).text if folder.has(name) else None
+    origin = folder.symbol_origin(name)
+    state = "theirs" if mine is None or asked.over else who_changed(origin, text, mine)
+    if state == "unknown":
+        print(
+            f"{name}: differs from the server's, and it is not known which is newer: it stays."
+            f" `pull --over {name}` takes the server's, `push --over {name}` sends yours"
+        )
         return 1
-    folder.renew(name, text, True)
-    print(f"{name}: written")
+    if state == "both" and not asked.taken:
+        show_symbol_conflict(name, origin, text, mine)
+        print(f"{name}: not written; {WHOSE.format(name)}")
+        return 1
+    if mine and origin and origin != text:
+        show_lines(name, "others", origin, text)
+    if state == "theirs" or (state, asked.taken) == ("both", "theirs"):
+        # What is as it was pulled stands in the history still.
+        if folder.renew(name, text, mine != origin):
+            print(f"{name}: written")
+    folder.set_symbol_origin(name, front, text)
     return 0

@@ -1,39 +1,132 @@
 """`push`: what was drawn in the folder, as the fewest edits."""
-from .differences import WHOSE, show_conflicts
-from .merge import plan_of
+from typing import NamedTuple, Optional
+
+from .differences import WHOSE, objects_named, show_conflicts, show_symbol_conflict
+from .merge import plan_of, who_changed
+from .motions import motions_of
 from .server import MOST_IDS
 from .sheets import item_of, sources_of
+from .stack import Stack, mark_of
 from .words import Refused, Stop, told
+
+GONE = (
+    "{0}: is gone here, and stays on the server: no edit removes or renames a sheet. `pull {0}`"
+    " brings it back; a {0} of its version line alone, when pushed, takes its objects out"
+)
+
+
+class Edit(NamedTuple):
+    """An edit, what it is about in words, and the texts that it leaves, by id or by the name of a
+    symbol: None for an object that it deletes, and the key None for the one that it adds. `back` is
+    the edit that does the contrary, where there is one before the edit itself is sent."""
+
+    body: dict
+    what: str
+    texts: dict
+    back: Optional[dict] = None
+
+    def left(self, first_id):
+        return {first_id if key is None else key: text for key, text in self.texts.items()}
+
+
+def in_parts(keys):
+    return (keys[at : at + MOST_IDS] for at in range(0, len(keys), MOST_IDS))
+
+
+def edits_of(name, plan):
+    """The edits of a plan for a sheet. What moved or turned as one goes as one."""
+    olds = {key: item_of(plan.known[key]) for key in plan.replaced}
+    left, edits = dict(plan.replaced), []
+    for motion, keys in motions_of(olds, {key: item_of(text) for key, text in left.items()}):
+        for ids in in_parts(keys):
+            what = f"{motion.way}: {objects_named(ids, olds)}"
+            texts = {key: left.pop(key) for key in ids}
+            edits.append(Edit(motion.edit(ids), what, texts, motion.back(ids)))
+    for key, text in left.items():
+        body = {"kind": "replace", "id": key, "text": text}
+        back = {**body, "text": plan.known[key]}
+        edits.append(Edit(body, f"{key}, {item_of(text)}", {key: text}, back))
+    for text in plan.added:
+        body = {"kind": "add_object", "sheet": name, "text": text}
+        edits.append(Edit(body, str(item_of(text)), {None: text}))
+    for ids in in_parts(plan.deleted):
+        what = "; ".join(f"{key}, {item_of(plan.known[key])}" for key in ids)
+        edits.append(Edit({"kind": "delete", "ids": ids}, what, dict.fromkeys(ids)))
+    return edits
 
 
 class Push:
     """One push: each edit is noted as it is acknowledged, so that `undo` knows it."""
 
-    def __init__(self, asked, server, folder):
-        self.asked, self.server, self.folder = asked, server, folder
-        self.has_sent = False
+    def __init__(self, server, folder, files):
+        self.server, self.folder, self.files = server, folder, files
+        self.stack, self.is_left = Stack(folder), False
 
-    def send(self, name, edit, what, ids, base):
-        """Sends an edit, prints it, and answers the first of its ids."""
-        reply = self.server.send(edit, base)
-        print(f"{name}: {reply['serial']} {edit['kind']} {what}")
-        made = [reply["first_id"]] if edit["kind"] == "add_object" else ids
-        serial = reply["serial"]
-        row = {"serial": serial, "name": name, "kind": edit["kind"], "ids": made}
-        self.folder.add_pushed({"session": self.server.session, **row}, not self.has_sent)
-        self.has_sent = True
-        return reply["first_id"]
+    def send(self, name, edit, base):
+        """Sends an edit, prints it, and answers the first id that is free for it."""
+        reply = self.server.send(edit.body, base)
+        kind, serial, first_id = edit.body["kind"], reply["serial"], reply["first_id"]
+        print(f"{name}: {serial} {kind} {edit.what}")
+        if self.stack.number is None:
+            self.stack.begin(self.files)
+        back = {"kind": "delete", "ids": [first_id]} if kind == "add_object" else edit.back
+        left = {key: mark_of(text) for key, text in edit.left(first_id).items()}
+        row = {"serial": serial, "name": name, "kind": kind, "left": left, "back": back}
+        self.stack.add({"session": self.server.session, **row})
+        return first_id
+
+    def sent_whole(self, name, edit):
+        """Sends an edit that is all of a file, and answers the first id that is free for it."""
+        try:
+            return self.send(name, edit, self.server.front)
+        except Refused as refused:
+            fault = refused.fault
+            if fault.get("fault") == "BadText":
+                raise Stop(f"{name}:{fault['line']}: {fault['read']}") from None
+            raise Stop(f"{name}: {told(fault)}") from None
+
+    def end(self):
+        """Notes where nothing is left to send."""
+        if not self.is_left:
+            self.stack.end(self.files)
+
+    def sent(self, name, plan, base, known):
+        """Sends the edits of a plan, one after the other; `known` grows with each. Whether all
+        went out."""
+        edits, count = edits_of(name, plan), 0
+        try:
+            for edit in edits:
+                known.update(edit.left(self.send(name, edit, base)))
+                count += 1
+        except Refused as refused:
+            self.is_left = True
+            print(f"{name}: refused: {edits[count].body['kind']} {edits[count].what}")
+            left = len(edits) - count
+            print(f"{name}: {count} edits were sent, {left} are left. {told(refused.fault)}")
+        return count == len(edits)
+
+
+class FilePush(Push):
+    """A push of files of the folder."""
+
+    def __init__(self, asked, server, folder):
+        super().__init__(server, folder, asked.files)
+        self.asked, self.missing = asked, set()
 
     def file(self, name):
-        if name.endswith(".sym"):
-            return self.symbol(name)
+        if not self.folder.has(name) and name in self.folder.pulled(""):
+            print(GONE.format(name))
+            return 1
+        return self.symbol(name, True) if name.endswith(".sym") else self.sheet(name)
+
+    def sheet(self, name):
         sheet = self.folder.sheet(name)
         status = 0
         for symbol in sheet.symbols():
-            status |= self.symbol(symbol)
+            status |= self.symbol(symbol, False)
         now, origin = self.server.sheet(name), self.folder.origin(name)
         if now is None:
-            return status | self.whole(name, sheet, origin)
+            return status | self.new_sheet(name, sheet, origin)
         is_known = origin is not None or sorted(sheet.texts) == sorted(now.objects.values())
         if not is_known and not self.asked.over:
             print(
@@ -45,26 +138,66 @@ class Push:
         start = now.objects if self.asked.over or origin is None else origin[1]
         plan = plan_of(start, now.objects, sheet.texts)
         if plan.conflicts:
+            self.is_left = True
             show_conflicts(name, plan, now.objects)
             print(f"{name}: nothing was sent; {WHOSE.format(name)}")
             return 1
-        return status | self.changes(name, plan, now)
+        return status | self.changes(name, plan, now.front)
 
-    def symbol(self, name):
-        """Adds a symbol that the server does not have."""
+    def changes(self, name, plan, base):
+        """Sends what was changed in a sheet, and notes what the file is made from then."""
+        known, is_all = dict(plan.known), False
+        try:
+            is_all = self.sent(name, plan, base, known)
+        finally:
+            objects = {key: text for key, text in known.items() if text is not None}
+            self.folder.set_origin(name, self.server.front, objects)
+        if is_all and plan.is_empty():
+            print(f"{name}: nothing to send")
+        if is_all and plan.theirs:
+            print(f"{name}: others changed {len(plan.theirs)} other objects; `pull` brings them")
+        return 0 if is_all else 1
+
+    def symbol(self, name, is_asked):
+        """Adds a symbol that the server does not have, and sends one that was changed here."""
         text = self.server.symbol(name)
-        if text is None and self.folder.has(name):
-            edit = {"kind": "add_symbol", "name": name, "text": self.folder.read(name)}
-            self.refusable(name, edit, name, [], self.server.front)
-        elif text is None:
-            print(f"{name}: neither the server nor this folder has it; `gafd-bring` brings it")
+        if text is None and not self.folder.has(name):
+            self.missing.add(name)
             return 1
-        elif self.folder.has(name) and self.folder.sheet(name).text != text:
-            print(f"{name}: differs from the server's, which stays: no edit changes a symbol")
-            return 1
+        if not self.folder.has(name):
+            return 0
+        mine, origin = self.folder.sheet(name).text, self.folder.symbol_origin(name)
+        state = "new" if text is None else who_changed(origin, text, mine)
+        if is_asked and self.asked.over and state in ("unknown", "both"):
+            state = "you"
+        if state in ("unknown", "both", "theirs"):
+            return self.symbol_left(name, state, origin, text, mine)
+        if state in ("new", "you"):
+            kind = "add_symbol" if state == "new" else "replace_symbol"
+            body = {"kind": kind, "name": name, "text": self.folder.read(name)}
+            back = {**body, "text": text} if text else None
+            self.sent_whole(name, Edit(body, name, {name: mine} if text else {}, back))
+        elif is_asked:
+            print(f"{name}: nothing to send")
+        self.folder.set_symbol_origin(name, self.server.front, mine)
         return 0
 
-    def whole(self, name, sheet, origin):
+    def symbol_left(self, name, state, origin, text, mine):
+        """Says why a symbol that differs from the server's is not sent."""
+        if state == "theirs":
+            print(f"{name}: others changed it; `pull` brings it")
+            return 0
+        if state == "both":
+            show_symbol_conflict(name, origin, text, mine)
+            print(f"{name}: was not sent; {WHOSE.format(name)}")
+            return 1
+        print(
+            f"{name}: differs from the server's, and it is not known which is newer: it was not"
+            f" sent. `pull --over {name}` takes the server's, `push --over {name}` sends yours"
+        )
+        return 1
+
+    def new_sheet(self, name, sheet, origin):
         """Adds a sheet."""
         if origin is not None and not self.asked.over:
             print(
@@ -72,8 +205,15 @@ class Push:
                 f" another server. `push --over {name}` adds it"
             )
             return 1
-        edit = {"kind": "add_sheet", "name": name, "text": self.folder.read(name)}
-        first = self.refusable(name, edit, f"{len(sheet.items)} objects", [], self.server.front)
+        if not self.asked.copy and (other := self.sheet_with(sheet)):
+            print(
+                f"{name}: has what {other} has, which stays on the server: no edit removes or"
+                f" renames a sheet, so each part would be there twice. Rename the file {other}"
+                f" again; `push --copy {name}` adds it all the same"
+            )
+            return 1
+        body = {"kind": "add_sheet", "name": name, "text": self.folder.read(name)}
+        first = self.sent_whole(name, Edit(body, f"{len(sheet.items)} objects", {}))
         ids = range(first, first + len(sheet.items))
         self.folder.set_origin(name, self.server.front, dict(zip(ids, sheet.texts)))
         for source in sorted(sources_of(self.folder, sheet)):
@@ -81,62 +221,33 @@ class Push:
                 print(f"{name}: leads down to {source}, which the server lacks: push it too")
         return 0
 
-    def refusable(self, name, edit, what, ids, base):
-        try:
-            return self.send(name, edit, what, ids, base)
-        except Refused as refused:
-            fault = refused.fault
-            if fault.get("fault") == "BadText":
-                raise Stop(f"{name}:{fault['line']}: {fault['read']}") from None
-            raise Stop(f"{name}: {told(fault)}") from None
+    def sheet_with(self, sheet):
+        """A sheet of the server that has all objects of this one, where parts are among them."""
+        if not any(item.attribute("refdes") for item in sheet.items if item.letter == "C"):
+            return None
+        wanted = set(sheet.texts)
+        found = (name for name in self.server.names() if wanted <= self.server.texts(name))
+        return next(found, None)
 
-    def changes(self, name, plan, now):
-        """Sends the edits of a plan, one after the other; what is known grows with each."""
-        edits = [
-            ({"kind": "replace", "id": key, "text": text}, f"{key}, {item_of(text)}", [key])
-            for key, text in plan.replaced.items()
-        ]
-        for text in plan.added:
-            edit = {"kind": "add_object", "sheet": name, "text": text}
-            edits.append((edit, str(item_of(text)), []))
-        for at in range(0, len(plan.deleted), MOST_IDS):
-            ids = plan.deleted[at : at + MOST_IDS]
-            what = "; ".join(f"{key}, {item_of(plan.known[key])}" for key in ids)
-            edits.append(({"kind": "delete", "ids": ids}, what, ids))
-        known, count = dict(plan.known), 0
-        try:
-            for edit, what, ids in edits:
-                first = self.send(name, edit, what, ids, now.front)
-                count += 1
-                if edit["kind"] == "add_object":
-                    known[first] = edit["text"]
-                elif edit["kind"] == "replace":
-                    known[edit["id"]] = edit["text"]
-                else:
-                    for key in ids:
-                        del known[key]
-        except Refused as refused:
-            print(f"{name}: refused: {edit['kind']} {what}")
-            return self.stopped(name, refused.fault, count, len(edits) - count)
-        finally:
-            self.folder.set_origin(name, self.server.front, known)
-        if not edits:
-            print(f"{name}: nothing to send")
-        if plan.theirs:
-            print(f"{name}: others changed {len(plan.theirs)} other objects; `pull` brings them")
-        return 0
-
-    def stopped(self, name, fault, sent, left):
-        if fault.get("fault") == "Stale":
-            why = f"Stale: the edit {fault['newer'] - 1} changed it just now. Pull, then push again"
-        else:
-            why = told(fault)
-        print(f"{name}: {sent} edits were sent, {left} are left. {why}")
-        return 1
+    def told_missing(self):
+        """Says in one line which symbols neither the server nor the folder has."""
+        if not self.missing:
+            return
+        sheets = [name for name in self.files if not name.endswith(".sym")]
+        print(
+            f"{', '.join(sorted(self.missing))}: neither the server nor this folder has it;"
+            f" `gafd-bring {(sheets or ['SHEET'])[0]} /usr/share/lepton-eda/sym` brings what is"
+            " there; then push again"
+        )
 
 
 def push(asked, server, folder):
-    running, status = Push(asked, server, folder), 0
+    running, status = FilePush(asked, server, folder), 0
     for name in asked.files:
         status |= running.file(name)
+    running.end()
+    running.told_missing()
+    for name in folder.pulled(".sch"):
+        if not folder.has(name) and name not in asked.files and server.sheet(name) is not None:
+            print(GONE.format(name))
     return status

@@ -3,13 +3,13 @@ import base64
 import http.client
 import json
 import netrc
+import ssl
 import time
 import urllib.parse
 from typing import NamedTuple
 
 from .sheets import sheet_of
 from .words import Refused, Stop
-
 
 MOST_IDS = 1000
 MOST_BYTES = 4_194_304
@@ -54,11 +54,17 @@ class Server:
         is_safe = parts.scheme == "https"
         kind = http.client.HTTPSConnection if is_safe else http.client.HTTPConnection
         self.url = f"{parts.scheme}://{parts.netloc.rpartition('@')[2]}{parts.path}".rstrip("/")
+        self.user, word = password(parts)
         self.session = session
         self.link = kind(parts.hostname, parts.port, timeout=PATIENCE)
         self.path = parts.path.rstrip("/")
-        self.headers = {"Authorization": word} if (word := password(parts)) else {}
+        self.headers = {} if self.user is None else {"Authorization": word}
         self.front, self.number = 0, None
+
+    def edit_as(self, session):
+        """From now on it edits under this session."""
+        if session != self.session:
+            self.session, self.number = session, None
 
     def once(self, method, path, body):
         self.link.request(method, self.path + path, body, self.headers)
@@ -75,17 +81,28 @@ class Server:
                 if reply.status not in (500, 502, 503, 504):
                     break
                 cause = f"{reply.status} {reply.text.strip()[:100]}"
+            except ssl.SSLCertVerificationError as error:
+                why = f"{error.verify_message}; SSL_CERT_FILE=FILE.pem names one to trust"
+                raise Stop(f"{self.url}: its certificate is not trusted: {why}", 3) from None
             except (OSError, http.client.HTTPException) as error:
                 self.link.close()
                 cause = str(error) or type(error).__name__
             if pause is None:
                 raise Stop(f"{self.url}: {cause}", 3)
             time.sleep(pause)
-        if reply.status == 401:
-            raise Stop(f"{self.url} wants a password; ~/.netrc may have it", 3)
+        if reply.status in (401, 403):
+            raise Stop(f"{self.url} {self.kept_out(method)}", 3)
         if reply.front < 0:
             raise Stop(f"{self.url}: {reply.status} {reply.text.strip()[:200]}", 3)
         return reply
+
+    def kept_out(self, method):
+        """Why a proxy in front of the server lets nothing in."""
+        if self.user is None:
+            return "wants a password; ~/.netrc may have it"
+        if method == "POST":
+            return f"takes no edits from {self.user}, who may read alone; who runs it gives rights"
+        return f"refuses the password of {self.user}"
 
     def get(self, path):
         """A report, of a history that holds all that was seen; None where it is not there."""
@@ -126,6 +143,11 @@ class Server:
                 return Stand(text.front, found.head, dict(zip(numbers, found.texts)))
         raise Stop(f"{self.url}: {name} changes faster than it can be read", 3)
 
+    def texts(self, name):
+        """The texts of the objects of a sheet, none where it is not there."""
+        reply = self.get("/sheets/" + name)
+        return set(sheet_of(name, reply.text).texts) if reply else set()
+
     def all_sheets(self):
         """All sheets at one moment, by name."""
         for _ in range(100):
@@ -165,7 +187,7 @@ class Server:
 
 
 def password(parts):
-    """The header for a password in the address, or in ~/.netrc."""
+    """The user in the address, or in ~/.netrc, and the header that tells the password; or None."""
     user, word = parts.username, parts.password
     if user is None:
         try:
@@ -174,5 +196,5 @@ def password(parts):
             found = None
         user, word = (found[0], found[2]) if found else (None, None)
     if user is None:
-        return None
-    return "Basic " + base64.b64encode(f"{user}:{word or ''}".encode()).decode()
+        return None, None
+    return user, "Basic " + base64.b64encode(f"{user}:{word or ''}".encode()).decode()

@@ -1,6 +1,6 @@
 """Sheets and symbols as texts: what an object is, and where one ends."""
 import re
-from typing import NamedTuple
+from typing import NamedTuple, Optional
 
 from .words import NAME, Stop
 
@@ -8,21 +8,51 @@ NUMBER = re.compile(r"-?[0-9]{1,9}")
 LETTERS = "LGBVATNUPHC"
 
 
-class Item(NamedTuple):
-    """An object of a sheet or a symbol: its canonical text, and what is looked for in it."""
+class Shape(NamedTuple):
+    """A line of an object, as its words, with the lines that follow it."""
 
-    text: str
     words: list
     content: list
-    attributes: list
+
+    @property
+    def lines(self):
+        return [" ".join(self.words), *self.content]
+
+
+class Item(NamedTuple):
+    """An object of a sheet or a symbol, with its canonical text."""
+
+    text: str
+    shape: Shape
+    parts: Optional[list]  # the objects of an embedded symbol
+    attached: list  # the attached texts, each as a Shape
 
     @property
     def letter(self):
-        return self.words[0]
+        return self.shape.words[0]
+
+    @property
+    def words(self):
+        return self.shape.words
+
+    @property
+    def content(self):
+        return self.shape.content
+
+    @property
+    def attributes(self):
+        return ["\n".join(shape.content) for shape in self.attached]
 
     def attribute(self, name):
         found = (it[len(name) + 1 :] for it in self.attributes if it.startswith(name + "="))
         return next(found, None)
+
+    @property
+    def place(self):
+        """Its first point; None where it has none, as a path, whose data is not read."""
+        if self.letter == "H" or len(self.words) < 3:
+            return None
+        return int(self.words[1]), int(self.words[2])
 
     @property
     def symbol(self):
@@ -37,6 +67,16 @@ class Item(NamedTuple):
             return f"T {self.content[0]}"
         name = self.attribute("netname")
         return " ".join(self.words[:5]) + (f" {name}" if name else "")
+
+
+def item_from(shape, parts, attached):
+    """The object of a shape, of the objects of its embedded symbol, and of its attached texts."""
+    lines = shape.lines
+    if parts is not None:
+        lines += ["[", *(line for part in parts for line in part.text.split("\n")[:-1]), "]"]
+    if attached:
+        lines += ["{", *(line for text in attached for line in text.lines), "}"]
+    return Item("\n".join(lines) + "\n", shape, parts, attached)
 
 
 class Reader:
@@ -81,15 +121,19 @@ class Reader:
             raise ValueError("no number")
         words = [letter] + [str(int(word)) for word in numbers] + last
         self.at += 1
-        if letter == "T":
-            return words, self.take(int(words[9]))
-        if letter == "H":
-            return words, self.take(int(words[13]))
-        if letter == "G":
-            return words, self.take(1) + (self.data() if words[7] == "1" else [])
         if letter == "C" and len(words) != 7:
             raise ValueError("no component")
-        return words, []
+        return Shape(words, self.following(words))
+
+    def following(self, words):
+        """The lines behind the line of an object that are its own."""
+        if words[0] == "T":
+            return self.take(int(words[9]))
+        if words[0] == "H":
+            return self.take(int(words[13]))
+        if words[0] == "G":
+            return self.take(1) + (self.data() if words[7] == "1" else [])
+        return []
 
     def opens(self, bracket):
         if self.is_over() or self.words() != [bracket]:
@@ -98,27 +142,22 @@ class Reader:
         return True
 
     def block(self):
-        """The attached texts behind an object: the lines of its block, and the contents."""
-        lines, contents = [], []
+        """The attached texts behind an object."""
+        shapes = []
         if self.opens("{"):
             while not self.opens("}"):
-                words, content = self.shape()
-                lines += [" ".join(words), *content]
-                contents.append("\n".join(content))
-        return (["{", *lines, "}"] if lines else []), contents
+                shapes.append(self.shape())
+        return shapes
 
     def item(self):
-        words, content = self.shape()
-        lines = [" ".join(words), *content]
-        if words[0] == "C" and words[6].startswith("EMBEDDED"):
+        shape, parts = self.shape(), None
+        if shape.words[0] == "C" and shape.words[6].startswith("EMBEDDED"):
             if not self.opens("["):
                 raise ValueError("no symbol")
-            lines.append("[")
+            parts = []
             while not self.opens("]"):
-                lines += self.item().text.split("\n")[:-1]
-            lines.append("]")
-        block, attributes = self.block()
-        return Item("\n".join(lines + block) + "\n", words, content, attributes)
+                parts.append(self.item())
+        return item_from(shape, parts, self.block())
 
     def items(self):
         found = []
@@ -166,7 +205,7 @@ def sheet_of(name, text):
 
 
 def values_of(item, free, name):
-    """The attached values of a name, or those that stand free in the symbol where none is attached."""
+    """The attached values of a name, or where there is none those that stand free in the symbol."""
     for texts in (item.attributes, free):
         values = [text[len(name) + 1 :] for text in texts if text.startswith(name + "=")]
         if values:

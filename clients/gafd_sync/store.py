@@ -1,19 +1,20 @@
-"""The rows of a store on the disk: `history` and `backup` ask no server."""
-import itertools
+"""The rows of a store on the disk: these commands ask no server."""
 import json
 import os
 import pathlib
 
-from .folder import put
+from .rows import MOST_ROWS, NoRow, Rows, Unfinished, entry_of, row_name
 from .sheets import item_of, sheet_of
 from .words import Stop
+
+MOST_LINES = 20
 
 
 def history(asked, server, folder):
     wanted, next_id, made = set(asked.ids), 0, {}
-    for serial in range(200_001):
+    for serial in range(MOST_ROWS + 1):
         try:
-            text = (pathlib.Path(asked.store) / f"{serial:010}.json").read_text(encoding="utf-8")
+            text = (pathlib.Path(asked.store) / row_name(serial)).read_text(encoding="utf-8")
         except FileNotFoundError:
             break
         except OSError as error:
@@ -35,26 +36,9 @@ def history(asked, server, folder):
     return 0
 
 
-def backup(asked, server, folder):
-    store, copied = pathlib.Path(asked.store), pathlib.Path(asked.folder)
-    if not store.is_dir():
-        raise Stop(f"{store} is no folder")
-    copied.mkdir(parents=True, exist_ok=True)
-    names = (f"{serial:010}.json" for serial in range(200_001))
-    rows = list(itertools.takewhile(lambda name: (store / name).exists(), names))
-    old = list(itertools.takewhile(lambda name: (copied / name).exists(), rows))
-    if old and (copied / old[-1]).read_bytes() != (store / old[-1]).read_bytes():
-        raise Stop(f"{copied} has the rows of another history: take an empty folder")
-    for name in rows[len(old) :]:
-        put(copied / name, (store / name).read_text(encoding="utf-8"))
-    os.sync()
-    print(f"{len(rows)} rows, of which {len(rows) - len(old)} came now")
-    return 0
-
-
 def shown(edit):
     """What an edit names, in words."""
-    if edit["kind"] in ("add_sheet", "add_symbol"):
+    if edit["kind"] in ("add_sheet", "add_symbol", "replace_symbol"):
         return [edit["name"]]
     keys = ("serial", "sheet", "id", "dx", "dy", "x", "y", "quarter")
     words = [str(edit[key]) for key in keys if key in edit]
@@ -65,3 +49,121 @@ def shown(edit):
     if "text" in edit:
         words.append(str(item_of(edit["text"])))
     return words
+
+
+def backup(asked, server, folder):
+    """Copies rows in their order, and none of a store that lacks one."""
+    rows, copied = Rows(asked.store), pathlib.Path(asked.folder)
+    if rows.missing:
+        raise Stop(
+            f"{asked.store} lacks {row_name(rows.missing[0])}, and has rows behind it: nothing was"
+            f" copied. `gafd_sync check {asked.store}` tells all"
+        )
+    copied.mkdir(parents=True, exist_ok=True)
+    old = next(at for at in range(rows.count + 1) if not (copied / row_name(at)).exists())
+    if old and (copied / row_name(old - 1)).read_bytes() != rows.data(old - 1):
+        raise Stop(f"{copied} has the rows of another history: take an empty folder")
+    count = old
+    for serial in range(old, rows.count):
+        data = rows.data(serial)
+        if not data.endswith(b"\n"):
+            if serial + 1 < rows.count:
+                raise Stop(f"{asked.store}: {row_name(serial)} is cut, and rows are behind it")
+            break
+        put_row(copied / row_name(serial), data)
+        count += 1
+    os.sync()
+    print(f"{count} rows, of which {count - old} came now")
+    return 0
+
+
+def put_row(path, data):
+    new = path.with_name("." + path.name + ".new")
+    new.write_bytes(data)
+    os.replace(new, path)
+
+
+def check(asked, server, folder):
+    """Whether a server can serve a store, and go on with it."""
+    rows = Rows(asked.store)
+    faults = [*folder_faults(rows), *row_faults(rows)]
+    for fault in faults[:MOST_LINES]:
+        print(f"{asked.store}: {fault}")
+    if len(faults) > MOST_LINES:
+        print(f"{asked.store}: {len(faults) - MOST_LINES} faults more")
+    if faults:
+        print(
+            f"{asked.store}: leave it as it is, put a copy of it away, and take what is missing"
+            " from the backup: docs/SERVER.md, \"A store that is damaged\""
+        )
+        return 1
+    last = is_last_cut(rows)
+    count = rows.count - last
+    cut = f"; {row_name(count)} is unfinished and counts as not there" if last else ""
+    print(f"{asked.store}: {count} rows, whole and without a gap{cut}; the next has serial {count}")
+    return 0
+
+
+def is_last_cut(rows):
+    try:
+        return rows.count > 0 and not rows.data(rows.count - 1).endswith(b"\n")
+    except NoRow:
+        return False
+
+
+def folder_faults(rows):
+    """What is wrong with the folder itself, and with names in it."""
+    place, own = rows.store.stat(), os.geteuid()
+    if own and place.st_uid != own:
+        yield f"belongs to the user {place.st_uid}, and this is the user {own}"
+    if not os.access(rows.store, os.R_OK | os.W_OK | os.X_OK):
+        yield "this user may not read it and write into it"
+    if place.st_mode & 0o022:
+        yield f"others may write into it: chmod go-w {rows.store}"
+    for name in sorted(os.listdir(rows.store)):
+        if name.endswith(".json") and not name.startswith(".") and name != row_name_of(name):
+            yield f"{name} is no row, nor any other file of a store"
+
+
+def row_name_of(name):
+    """The name that a row of this number has."""
+    digits = name[: -len(".json")]
+    return row_name(int(digits)) if digits.isascii() and digits.isdigit() else None
+
+
+def row_faults(rows):
+    """What is wrong with the rows, in their order."""
+    owner, missing, last = rows.store.stat().st_uid, set(rows.missing), {}
+    for serial in range(rows.count):
+        name = row_name(serial)
+        if serial in missing:
+            yield f"{name} is missing, and {row_name(rows.count - 1)} is there"
+            continue
+        try:
+            entry = entry_of(rows.data(serial))
+        except Unfinished as why:
+            if serial + 1 < rows.count:
+                yield f"{name} is cut: {why}, and rows are behind it"
+            continue
+        except NoRow as why:
+            yield f"{name} is no row: {why}"
+            continue
+        except OSError as error:
+            yield f"{name}: {error.strerror}"
+            continue
+        if rows.path(serial).stat().st_uid != owner:
+            yield f"{name} belongs to another user than the folder"
+        yield from order_faults(serial, entry, last)
+
+
+def order_faults(serial, entry, last):
+    """What of an entry cannot stand behind those before it; `last` has the numbers by session."""
+    session, due = entry["session"], last.get(entry["session"], 0) + 1
+    if entry["base"] > serial:
+        yield f"{row_name(serial)} has the base {entry['base']}, which is above its serial"
+    if entry["number"] != due:
+        yield (
+            f"{row_name(serial)} has the number {entry['number']} of {session}, and {due} was due:"
+            " rows of two boards in one folder?"
+        )
+    last[session] = entry["number"]

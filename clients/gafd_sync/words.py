@@ -22,15 +22,16 @@ class Refused(Exception):
 
 
 FAULTS = {
-    "SheetExists": "another added a sheet of this name meanwhile: pull it under another name",
+    "SheetExists": "another added a sheet of this name meanwhile: rename yours, and push it so",
     "SymbolExists": "another added a symbol of this name meanwhile: push again",
     "NoSheet": "the sheet is gone: its addition was taken back",
+    "NoSymbol": "the symbol is gone: its addition was taken back",
     "NoObject": "an object is gone: pull, and push again",
     "NumberGap": "another program edits under this session: give each its own --session",
     "NumberReused": "another program edits under this session: give each its own --session",
     "BaseAhead": "the server's history is shorter than it was: it came from an older backup",
     "HistoryFull": "the history is full: begin anew with `gafd_sync copy`",
-    "TooManyObjects": "the board would have more than 100,000 objects",
+    "TooManyObjects": "the board would have more objects than a store takes",
     "ProjectFull": "the board would have more than 1,024 sheets, 8,192 symbols or 64 MiB of text",
     "KeeperFault": "the server could not write to its disk: nothing was changed",
     "TooLarge": "it is more than 4 MiB: split the sheet, or take embedded pictures out of it",
@@ -38,6 +39,7 @@ FAULTS = {
     "UndoneAlready": "it was taken back already",
     "UndoBlocked": "something of it was changed since, by the edit {by}",
     "SheetInUse": "another put the object {id} on the sheet since",
+    "Stale": "somebody changed it just now. Pull, then push again",
 }
 
 
@@ -46,4 +48,8 @@ def told(fault):
     name = str(fault.get("fault"))
     if name == "BadText":
         return f"BadText: {fault.get('read')} in line {fault.get('line')} of its text"
+    if name == "Stale" and "newer" in fault:
+        return f"Stale: the edit {fault['newer'] - 1} changed it just now. Pull, then push again"
+    if name == "BadEdit" and fault.get("pointer") == "/edit/kind":
+        return "BadEdit: the server is older than this edit: it wants a newer gafd"
     return f"{name}: {FAULTS[name].format_map(fault)}" if name in FAULTS else json.dumps(fault)
