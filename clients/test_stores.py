@@ -2,6 +2,8 @@
 import json
 import os
 import pathlib
+import shutil
+import subprocess
 import unittest
 
 from gafd_sync.rows import row_name
@@ -134,3 +136,61 @@ class StoreTest(Laboratory):
         for path in ("/sheets/stereo.sch", "/symbols/res.sym", "/netlist/list", "/drc"):
             self.assertEqual(self.answer(path, other.url), self.answer(path), path)
         self.assertEqual(self.ann("copy", other.url)[0], 1)
+
+
+@unittest.skipUnless(shutil.which("git") and shutil.which("curl"), "there is no git, or no curl")
+class ScriptTest(Laboratory):
+    """The scripts of contrib/ that look at a served board."""
+
+    def setUp(self):
+        super().setUp()
+        client = self.room / "gafd_sync"
+        client.write_text(f'#!/bin/sh\nexec python3 -B "{TOP}/clients/gafd_sync" "$@"\n')
+        client.chmod(0o755)
+        self.log = self.room / "log"
+        self.log.mkdir()
+        self.place = {**os.environ, "GAFD_SYNC": str(client), "HOME": str(self.room)}
+        self.git("init", "-q")
+
+    def run_in_log(self, *words):
+        found = subprocess.run(words, cwd=self.log, env=self.place, capture_output=True, text=True)
+        return found.returncode, found.stdout + found.stderr
+
+    def git(self, *words):
+        status, said = self.run_in_log("git", *words)
+        self.assertEqual(status, 0, said)
+        return said
+
+    def logged(self):
+        words = str(TOP / "contrib/gafd-log"), self.server.store, self.server.url
+        self.assertEqual(self.run_in_log(*words), (0, ""))
+
+    def test_each_new_front_is_a_commit_of_who_edited(self):
+        self.both_start()
+        self.logged()
+        for engineer, old, new in ((self.bob, "1k", "2k"), (self.ann, "10k", "20k")):
+            engineer.draws(f"value={old}\n", f"value={new}\n")
+            engineer("push", "preamp.sch")
+        self.bob.draws("value=1u\n", "value=2u\n")
+        self.bob("push", "preamp.sch")
+        self.logged()
+        self.logged()
+        self.assertEqual(self.git("log", "--format=%an").split(), ["bob", "ann"])
+        said = self.git("log", "-1", "--format=%s%n%b")
+        for line in ("Edits 9 to 11", "9 bob replace", "Co-authored-by: ann", "Front: 12"):
+            self.assertIn(line, said)
+        self.assertEqual((self.log / "preamp.sch").read_text(), self.answer("/sheets/preamp.sch"))
+        self.assertIn("value=2u", self.git("show", "HEAD"))
+        self.assertEqual(self.git("status", "--short"), "?? .gafd_sync/\n")
+
+    def test_what_became_worse_is_told_once(self):
+        self.both_start()
+        words = str(TOP / "contrib/gafd-worse"), "found", self.server.url
+        self.assertEqual(self.run_in_log(*words), (0, ""))
+        self.bob.draws("N 44500 47400 44500 48000 4\n", "")
+        self.bob("push", "preamp.sch")
+        status, said = self.run_in_log(*words)
+        self.assertEqual((status, said), (7, "error UnconnectedPin R1-2\n"))
+        self.assertEqual(self.run_in_log(*words), (0, ""))
+        self.server.stop()
+        self.assertEqual(self.run_in_log(*words)[0], 3)
