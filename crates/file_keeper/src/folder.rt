@@ -64,7 +64,7 @@ pub fn lock_file<R: Files<File = File>>(rt: &R, alloc: Global, path: &str) -> io
 }
 
 /// The serial that the file of this name has, if it is that of a row: ten digits and `.json`.
-fn serial_named(name: &str) -> Option<u64> {
+fn serial_named(name: &str) -> Option<u32> {
     let digits = name.strip_suffix(".json")?;
     if digits.len() != 10 || !digits.as_bytes().iter().all(|byte| byte.is_ascii_digit()) {
         return None;
@@ -73,7 +73,7 @@ fn serial_named(name: &str) -> Option<u64> {
 }
 
 /// The greatest serial that a row file of the folder has.
-pub fn last_serial<R: Files + AllocGlobal>(rt: &R, path: &str) -> io::Result<Option<u64>> {
+pub fn last_serial<R: Files + AllocGlobal>(rt: &R, path: &str) -> io::Result<Option<u32>> {
     let mut last = None;
     for entry in fs::read_dir(&rt, path)? {
         match entry {

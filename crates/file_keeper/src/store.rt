@@ -16,7 +16,7 @@ pub struct Store {
     folder: File,
     node: Node,
     /// The greatest serial of which there was a row file when the folder was taken.
-    last: Option<u64>,
+    last: Option<u32>,
     _lock: File,
 }
 
@@ -43,12 +43,12 @@ impl Store {
 
     /// A row file of a later serial was there when the folder was taken.
     pub fn has_later(&self, serial: u32) -> bool {
-        self.last.is_some_and(|last| u64::from(serial) < last)
+        self.last > Some(serial)
     }
 
     /// A row file of this serial, or of a later one, was there when the folder was taken.
     fn has_row(&self, serial: u32) -> bool {
-        self.last.is_some_and(|last| u64::from(serial) <= last)
+        self.last >= Some(serial)
     }
 
     fn row_path(&self, alloc: Global, serial: u32) -> Result<String, AllocError> {
