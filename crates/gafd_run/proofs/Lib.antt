@@ -8,6 +8,7 @@ mod DeliveryLemmas
 mod AnswerLemmas
 mod ReadingLemmas
 mod NumberingLemmas
+mod NetListLemmas
 mod CircuitLemmas
 mod ServingLemmas
 mod EndingLemmas

@@ -1,4 +1,5 @@
-// What each command answers.
+// What each command answers. The program ends with the answer, so that a net list and a project are
+// left to the system, which takes all memory back at once.
 ghost use Rattle.std.specs.Prelude.{◌≡◌, ◌≢◌, ◌≤◌, ◌-◌, ◌^◌, AllPairs, IfOk, true, false, min, string_bytes};
 ghost use Rattle.pin_matrix.specs.MatrixFiles.{document_of};
 ghost use Rattle.geda_defs.specs.Contents.{KeepsFiles};
@@ -16,6 +17,7 @@ ghost use Rattle.gafd_run.specs.steps.Checking.{MatrixFrom};
 ghost use Rattle.gafd_run.specs.steps.Passing.{AnswerOf, ComesOf, IsOnFiles, Over};
 
 use crate::fault::RunFault;
+use backends::net_text;
 use command_words::Command;
 use drc_rules::{Matrix, MatrixFault};
 use geda_model::{Items, Name};
@@ -25,10 +27,11 @@ use project_files::{
 };
 use project_model::Project;
 use renum_files::{FileText, RenumberedFiles, renumbered_files};
-use reports::{Check, Form, check, net_list, net_report};
+use reports::{Check, Form, check, net_list};
 use spice_out::spice_text;
 use std::alloc::{AllocError, Global};
 use std::marker::Model;
+use std::mem::forget;
 use sym_check::{CheckedFile, has_errors, report_text};
 use symbol_files::checked_files;
 use work_run::work_text;
@@ -76,7 +79,10 @@ impl Answer {
 fn listed(alloc: Global, form: Form, project: &Project) -> Result<Answer, RunFault>
     ensures { ComesOf (ByNetList (listed form) project.now.contents) result }
 {
-    Ok(Answer::done(alloc, net_report(alloc, form, project)?))
+    let nets = net_list(alloc, project)?;
+    let text = net_text(alloc, form, &nets)?;
+    forget(nets);
+    Ok(Answer::done(alloc, text))
 }
 
 /// A project as a circuit for SPICE.
@@ -151,7 +157,9 @@ fn netlist<F: Folder>(
     ensures files { KeepsFiles (F.files folder.old) (F.files folder.new) }
 {
     let project = project_of(alloc, names.as_slice(), folder)?;
-    listed(alloc, form, &project)
+    let answer = listed(alloc, form, &project);
+    forget(project);
+    answer
 }
 
 fn spice<F: Folder>(alloc: Global, names: Items<Name>, folder: &mut F) -> Result<Answer, RunFault>
@@ -211,7 +219,9 @@ fn drc<F: Folder>(
 {
     let matrix = matrix_of(alloc, matrix, folder)?;
     let project = project_of(alloc, names.as_slice(), folder)?;
-    checked(alloc, &matrix, &project)
+    let answer = checked(alloc, &matrix, &project);
+    forget(project);
+    answer
 }
 
 fn export<F: Folder>(alloc: Global, file: Name, folder: &mut F) -> Result<Answer, RunFault>
