@@ -145,16 +145,12 @@ impl<'a, R: Clock + Wait> Served<'a, R> {
     {
         for _ in 0..MOST_WAITS {
             match self.stream.read(room) {
-                Err(fault) if is_to_wait(&fault) => {
-                    if self.is_over(part) {
-                        return Err(fault);
-                    }
-                }
+                Err(fault) if is_to_wait(&fault) && !self.is_over(part) => {}
+                Err(fault) => return Err(fault),
                 Ok(count) => {
                     self.has_moved(count);
                     return Ok(count);
                 }
-                Err(fault) => return Err(fault),
             }
         }
         Err(io::Error::from(io::ErrorKind::TimedOut))
@@ -187,14 +183,11 @@ impl<'a, R: Clock + Wait> Served<'a, R> {
                 Ok(count) => {
                     rest = &rest[count..];
                     self.has_moved(count);
-                    if rest.is_empty() {
-                        return Ok(());
-                    }
                 }
                 Err(fault) if is_to_wait(&fault) => {}
                 Err(fault) => return Err(fault),
             }
-            if self.is_over(Part::Body) {
+            if !rest.is_empty() && self.is_over(Part::Body) {
                 break;
             }
         }

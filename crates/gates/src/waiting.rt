@@ -143,19 +143,18 @@ impl Waiting {
     // Drops bytes that have come.
     fn drain(mut self, room: &mut [u8]) -> Outlook {
         for _ in 0..MOST_READS {
-            match self.stream.read(room) {
+            let count = match self.stream.read(room) {
                 Ok(0) => return Outlook::Close,
-                Ok(count) => {
-                    self.dropped = self.dropped.saturating_add(count);
-                    if self.dropped > MOST_DROPPED {
-                        return Outlook::Close;
-                    }
-                    if count < room.len() {
-                        return Outlook::Wait(self);
-                    }
-                }
+                Ok(count) => count,
                 Err(fault) if is_to_wait(&fault) => return Outlook::Wait(self),
                 Err(_) => return Outlook::Close,
+            };
+            self.dropped = self.dropped.saturating_add(count);
+            if self.dropped > MOST_DROPPED {
+                return Outlook::Close;
+            }
+            if count < room.len() {
+                return Outlook::Wait(self);
             }
         }
         Outlook::Close
