@@ -38,7 +38,7 @@ class FolderBoard:
     def look(self):
         if time.monotonic() - self.looked < EVERY:
             return
-        before = self.files.files
+        before = dict(self.files.files)
         if self.files.look():
             self.number, self.reports = self.number + 1, {}
             for name, file in self.files.files.items():

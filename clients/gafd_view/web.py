@@ -2,7 +2,7 @@
 
 A page from elsewhere that a browser shows can reach the loopback too. So a request is answered under
 the names of this address alone, and an edit has to come from this page, as JSON. Each connection has
-a thread and ends behind its answer.
+a thread of its own, and ends soon.
 """
 import json
 import re
@@ -20,7 +20,8 @@ BOARD = re.compile("/board/" + READING)
 PAST = re.compile("/at/([0-9]{1,7})/" + READING)
 MOST_BYTES = 4_194_304
 MOST_READERS = 100
-PATIENCE = 60
+# A connection that is silent for so many seconds ends.
+IDLE = 5
 LONGEST_WATCH = 30
 EVERY = 0.25
 POLICY = ("default-src 'self'; img-src 'self' data:; base-uri 'none'; form-action 'none'; "
@@ -69,7 +70,7 @@ class Handler(BaseHTTPRequestHandler):
     """One request. `server` is the View."""
 
     protocol_version = "HTTP/1.1"
-    timeout = PATIENCE
+    timeout = IDLE
 
     def do_GET(self):
         if not self.is_asked_here():
@@ -166,14 +167,17 @@ class Handler(BaseHTTPRequestHandler):
         found = page_files.read(name)
         if found is None:
             return self.answer(fault(404, "NoRoute"), JSON)
-        return self.answer(Answer(200, None, found[0]), found[1])
+        return self.answer(Answer(200, None, found[0]), found[1], is_last=False)
 
-    def answer(self, answer, kind):
-        self.close_connection = True
+    def answer(self, answer, kind, is_last=True):
+        """Sends an answer. The connection ends behind it, but behind a file of the page, of which a
+        browser asks for many at once."""
+        self.close_connection = self.close_connection or is_last
         self.send_response(answer.status)
-        headers = {"Content-Type": kind, "Content-Length": len(answer.body), "Connection": "close",
-                   "Cache-Control": "no-store", "Content-Security-Policy": POLICY,
+        headers = {"Content-Type": kind, "Content-Length": len(answer.body), "Cache-Control": "no-store", "Content-Security-Policy": POLICY,
                    "X-Content-Type-Options": "nosniff", "Referrer-Policy": "no-referrer"}
+        if self.close_connection:
+            headers["Connection"] = "close"
         if answer.front is not None:
             headers["Front"] = answer.front
         for name, value in headers.items():

@@ -46,6 +46,7 @@ export class Board {
     this.stale = new Set();
     this.symbols = new Map();
     this.symbolTexts = new Map();
+    this.symbolReadings = new Map();
     this.list = readNetList("parts 0\nnets 0\n");
     this.findings = [];
     this.listFront = -1;
@@ -87,11 +88,7 @@ export class Board {
   async markChanged() {
     const told = this.front < 0 ? null : await askView(`changed?from=${this.front}`);
     for (const name of told?.sheets || this.names) if (this.counts.has(name)) this.stale.add(name);
-    for (const name of told?.symbols || []) {
-      this.symbols.delete(name);
-      this.symbolTexts.delete(name);
-    }
-    this.changedSymbols = told?.symbols || [];
+    this.changedSymbols = told ? told.symbols.filter((it) => this.symbolTexts.has(it)) : null;
     return Boolean(told?.sheets);
   }
 
@@ -114,7 +111,7 @@ export class Board {
       return this.refuse(name, error.message);
     }
     if (!read.objects) return this.dropSheet(name);
-    const hasSymbols = await this.readSymbols(symbolNames(read.objects).filter((it) => !this.symbols.has(it)));
+    const hasSymbols = await this.readSymbols(symbolNames(read.objects).filter((it) => !this.symbolTexts.get(it)));
     const before = this.sheets.get(name);
     this.sheets.set(name, read.objects);
     this.fronts.set(name, read.front);
@@ -133,15 +130,24 @@ export class Board {
   async readSymbols(names) {
     let isOther = false;
     await forEachAtOnce(names, async (name) => {
-      const { status, text } = await askBoard(`symbols/${encodeURIComponent(name)}`);
-      const now = status === 200 ? text : null;
-      if ((this.symbolTexts.get(name) ?? null) === now) return;
-      isOther = true;
-      this.symbolTexts.set(name, now);
-      if (now === null) this.symbols.delete(name);
-      else this.symbols.set(name, readObjects(now));
+      // Sheets that are read at once ask for a symbol once.
+      if (!this.symbolReadings.has(name)) {
+        this.symbolReadings.set(name, this.readSymbol(name).finally(() => this.symbolReadings.delete(name)));
+      }
+      isOther = (await this.symbolReadings.get(name)) || isOther;
     });
     return isOther;
+  }
+
+  async readSymbol(name) {
+    const { status, text } = await askBoard(`symbols/${encodeURIComponent(name)}`);
+    const now = status === 200 ? text : null;
+    const before = this.symbolTexts.get(name) ?? null;
+    this.symbolTexts.set(name, now);
+    if (now === before) return false;
+    if (now === null) this.symbols.delete(name);
+    else this.symbols.set(name, readObjects(now));
+    return true;
   }
 
   /** Reads the sheets that are stale, and were asked for; the changes of each are told. */

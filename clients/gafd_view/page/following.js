@@ -13,6 +13,7 @@ import { changeWords, label } from "./words.js";
 
 const EVERY = 2000;
 const MOST_LOGGED = 200;
+const MOST_WAITED_FOR = 20;
 const RAILS_AT_ONCE = 10;
 const FRAMED = 6;
 
@@ -67,12 +68,15 @@ async function readBoard() {
   const isKnown = await board.markChanged();
   await board.readStale(takes, (name) => name === shown.at?.sheet);
   if (isFirst && shown.at) requestAnimationFrame(() => setTimeout(() => performance.mark("pictured")));
-  await readSymbolsAnew(isKnown);
-  await board.readHistory(front);
-  if (await board.readLists(front)) board.front = front;
+  const [isOfFront] = await Promise.all([
+    board.readLists(front),
+    board.readHistory(front),
+    readSymbolsAnew(),
+    // What nobody looks at is read when it is asked for; but at first, and where it is known to be another.
+    board.readStale(takes, (name) => isKnown || !board.sheets.has(name)),
+  ]);
+  if (isOfFront) board.front = front;
   else isAskedAgain = true;
-  // What nobody looks at is read when it is asked for; but at first, and where it is known to be another.
-  await board.readStale(takes, (name) => isKnown || !board.sheets.has(name));
   board.arrange();
   if (!shown.at || !board.sheets.has(shown.at.sheet)) leaveLostSheet();
   if (!shown.at) return undefined;
@@ -82,19 +86,19 @@ async function readBoard() {
   return findRails();
 }
 
-/** Reads the symbols of the shown sheet again, where they may be others than before. */
-async function readSymbolsAnew(isKnown) {
-  if (!shown.at || board.front < 0) return;
-  const names = symbolNames(shownObjects());
-  const asked = isKnown ? names.filter((it) => board.changedSymbols.includes(it)) : names;
-  if (await board.readSymbols(asked)) drawAll();
+/** Reads the symbols again that changed; where nobody tells which, those of the shown sheet. */
+async function readSymbolsAnew() {
+  if (board.front < 0) return;
+  const isOther = await board.readSymbols(board.changedSymbols || symbolNames(shownObjects()));
+  if (isOther && shown.at) drawAll();
 }
 
-/** The sheet that the address names, or the only one; else it is chosen once all are read. */
+/** The sheet that the address names, the only one, or the first of many; else it is chosen once all are read. */
 function firstSheet() {
   const asked = addressed();
   if (asked && board.counts.has(asked.sheet)) return asked;
-  return board.counts.size === 1 ? { sheet: board.names[0], path: "" } : null;
+  const { size } = board.counts;
+  return size === 1 || size > MOST_WAITED_FOR ? { sheet: board.names[0], path: "" } : null;
 }
 
 function leaveLostSheet() {

@@ -63,9 +63,12 @@ class Writer:
         kind = "add_symbol" if path.suffix == ".sym" else "add_sheet"
         self.edit(kind=kind, name=path.name, text=text or path.read_text())
 
+    def objects(self, name):
+        return read_objects(self.sheet(name))
+
     def id_of(self, name, refdes):
         """The id of the component of a sheet that has this refdes."""
-        objects = zip(self.ids(name), read_objects(self.sheet(name)))
+        objects = zip(self.ids(name), self.objects(name))
         return next(number for number, it in objects if it.letter == "C" and refdes in it.values("refdes"))
 
 

@@ -26,9 +26,14 @@ except ImportError:
     webdriver = None
 
 
+def binary():
+    """Chromium; the one without windows of its own, where it is installed, starts sooner."""
+    return shutil.which("chromium-headless-shell") or shutil.which("chromium")
+
+
 def missing():
     """What is missing for these tests, in words, or None."""
-    wanted = {"chromium": shutil.which("chromium"), "chromium-driver": shutil.which("chromedriver"),
+    wanted = {"chromium": binary(), "chromium-driver": shutil.which("chromedriver"),
               "python3-selenium": webdriver}
     return ", ".join(name for name, found in wanted.items() if not found) or None
 
@@ -39,7 +44,7 @@ def browser():
     options = webdriver.ChromeOptions()
     for word in ("--headless=new", "--no-sandbox", "--disable-gpu"):
         options.add_argument(word)
-    options.binary_location = shutil.which("chromium")
+    options.binary_location = binary()
     options.set_capability("goog:loggingPrefs", {"browser": "ALL"})
     driver = webdriver.Chrome(options=options, service=Service(shutil.which("chromedriver")))
     atexit.register(driver.quit)

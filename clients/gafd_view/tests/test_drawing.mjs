@@ -3,10 +3,12 @@
 
 import assert from "node:assert/strict";
 import test from "node:test";
+import { changesOf, netListChanges } from "../page/changes.js";
+import { cuesOf } from "../page/cues.js";
 import { drawSheet } from "../page/drawing.js";
-import { readFindings } from "../page/findings.js";
+import { addRails, findingsAt, railsThatMeet, readFindings } from "../page/findings.js";
 import { instancesOf, placesOf } from "../page/instances.js";
-import { netsIn, readNetList } from "../page/nets.js";
+import { globalNames, netsIn, readNetList } from "../page/nets.js";
 import { readObjects } from "../page/objects.js";
 
 const HEAD = "v 20130925 2\n";
@@ -188,4 +190,63 @@ test("a port is no part, and a loop ends", () => {
 test("findings have a level, a name and words", () => {
   assert.deepEqual(readFindings("findings 1\nerror Conflict n out out\nerrors 1 warnings 0\n"),
     [{ level: "error", name: "Conflict", words: ["n", "out", "out"] }]);
+});
+
+const rail = (x, name) => `C ${x} 0 1 0 0 ${name}.sym\n`;
+const RAILS = new Map([
+  ...PARTS,
+  ...["GND", "+5V"].map((name) => [`${name}.sym`, readObjects(`${HEAD}T 0 0 8 10 0 0 0 0 1\nnet=${name}:1\n${pin(0, 100, 1, "1")}`)]),
+]);
+
+test("rails that meet are found, on one sheet and over several", () => {
+  const list = readNetList("parts 0\nnets 0\n+5V\tR1-1\nGND\tR1-2\n");
+  const instance = { sheet: "a.sch", path: "", above: null, parent: null };
+  const rails = (lines) => {
+    const { groups } = netsIn(instance, sheetOf(lines), RAILS, list);
+    return railsThatMeet(addRails(new Map(), groups, RAILS)).map(({ name, words }) => [name, ...words]);
+  };
+  const apart = part(0, "R1") + rail(0, "+5V") + rail(300, "GND");
+  assert.deepEqual(rails(apart), []);
+  assert.deepEqual(rails(`${apart}${wire(600, 900)}${rail(600, "GND")}${rail(900, "+5V")}`),
+    [["RailsMeet", "GND", "+5V", "GND"]]);
+  const met = "+5V\tR1-1 R1-2";
+  const joined = netsIn(instance, sheetOf(apart + wire(0, 300)), RAILS, readNetList(`parts 0\nnets 0\n${met}\n`));
+  assert.deepEqual(railsThatMeet(addRails(new Map(), joined.groups, RAILS)),
+    [{ level: "error", name: "RailsMeet", words: ["+5V", "+5V", "GND"] }]);
+});
+
+test("an attached `net` takes its numbers from the inherited ones", () => {
+  const [component] = sheetOf(`C 0 0 1 0 0 GND.sym\n${attached("net=VEE:1,2")}`);
+  assert.deepEqual(globalNames(component, "1", RAILS), ["VEE"]);
+  assert.deepEqual(globalNames(component, "2", RAILS), ["VEE"]);
+  assert.deepEqual(globalNames(component, "3", RAILS), []);
+});
+
+test("findings stand at parts, pins, wires, ids and symbols", () => {
+  const objects = sheetOf(part(0, "R1") + wire(300, 600, "X") + rail(900, "none"));
+  const instance = { sheet: "a.sch", path: "", above: null, parent: null };
+  const list = readNetList("parts 1\nR1\t-\t-\t-\nnets 2\nX\tR1-2\nunconnected_pin-1\tR1-1\n");
+  const { groups } = netsIn(instance, objects, RAILS, list);
+  const places = placesOf([instance], new Map([["a.sch", objects]]), RAILS);
+  const findings = readFindings("findings 6\nerror Unnumbered R1\nerror UnconnectedPin R1-1\nwarning OnePin X\n"
+    + "error NoRefdes a.sch 2\nerror NoRefdes b.sch 1\nerror MissingSymbol a.sch none.sym\n");
+  const found = findingsAt(findings, list.names, { instance, objects, places, groups, symbols: RAILS });
+  assert.deepEqual([...found].map(([spot, all]) => [spot, all.map((it) => it.name).join()]), [
+    ["0", "Unnumbered"], ["0.0", "UnconnectedPin"], ["0.1", "OnePin"], ["2", "NoRefdes,MissingSymbol"],
+  ]);
+});
+
+test("what changed is told by ids, and of net lists without the numbers of unnamed nets", () => {
+  const [before, now] = [sheetOf("N 0 0 1 0 4\nN 0 0 2 0 4\n"), sheetOf("N 0 0 1 0 4\nN 0 0 3 0 4\nN 0 0 4 0 4\n")];
+  const { changed, added, gone } = changesOf(before, now);
+  assert.deepEqual([changed.map(([was, is]) => [was.x2, is.x2]), added.map((it) => it.id), gone], [[[2, 3]], [2], []]);
+  const lists = ["A\tR1-1\nunnamed_net1\tR1-2 R2-1\n", "unnamed_net7\tR1-2 R2-1\nB\tR1-1\n"]
+    .map((it) => readNetList(`parts 1\nR1\t-\t1k\t-\nnets 2\n${it}`));
+  assert.deepEqual(netListChanges(...lists), { gone: [["net", "A", "R1-1"]], added: [["net", "B", "R1-1"]] });
+  assert.deepEqual(netListChanges(lists[0], lists[0]), { gone: [], added: [] });
+});
+
+test("open ends are those of wires and pins that nothing touches", () => {
+  const { open } = cuesOf(sheetOf(part(0, "R1") + wire(300, 600)), PARTS);
+  assert.deepEqual(open, [[0, 0], [600, 0]]);
 });

@@ -12,12 +12,14 @@ import pathlib
 import random
 import re
 import sys
+import time
 import unittest
 
 from boards import EXAMPLES, LONGEST, Case, FolderCase, ask, served
 from browsers import By, Keys, Page, missing
 
 WIRES = 5000
+SHEETS, PARTS = 200, 10_000
 
 
 class PageCase(Case):
@@ -27,10 +29,36 @@ class PageCase(Case):
         return page
 
 
-class Looking(PageCase):
+class SharedCase(Case):
+    """A board that all tests of a class look at, and none changes."""
+
+    @classmethod
+    def setUpClass(cls):
+        cls.board = cls("runTest")
+        super().setUp(cls.board)
+        cls.addClassCleanup(cls.board.doCleanups)
+
+    def setUp(self):
+        self.view, self.ann, self.server = self.board.view, self.board.ann, self.board.server
+
+    def runTest(self):
+        pass
+
+    page = PageCase.page
+
+
+class Looking(SharedCase):
+    @classmethod
+    def setUpClass(cls):
+        super().setUpClass()
+        evil = "T 44000 41000 9 10 1 0 0 0 1\n<img src=x onerror=alert(1)><b>&amp;\n"
+        for text in ("C 44000 43000 1 0 0 res.sym\n", "N 44000 42000 45000 42000 4\n",
+                     "N 45000 42000 46000 42000 4\n", evil):
+            cls.board.ann.edit(kind="add_object", sheet="stereo.sch", text=text)
+
     def test_a_sheet_is_drawn_and_its_nets_are_lit(self):
         page = self.page()
-        self.assertEqual(len(page.all("#drawn > .o")), 48)
+        self.assertEqual(len(page.all("#drawn > .o")), 52)
         self.assertEqual(page.text("trail"), "stereo.sch")
         page.follow("net:+12V")
         self.assertEqual(len(page.all("#drawn .lit")), 11)
@@ -53,8 +81,6 @@ class Looking(PageCase):
         self.assertIn("OWER", page.driver.execute_script("return getSelection().toString()"))
 
     def test_what_touches_is_lit_where_it_has_no_net(self):
-        for x in (44000, 45000):
-            self.ann.edit(kind="add_object", sheet="stereo.sch", text=f"N {x} 42000 {x + 1000} 42000 4\n")
         page = self.page()
         self.assertEqual(len(page.all("#drawn .lit")), 0)
         page.act().move_to_element(page.all("#drawn .N path")[-1]).click().perform()
@@ -71,7 +97,6 @@ class Looking(PageCase):
         self.assertNotIn("LEFT/R1\n", page.text("list"))
 
     def test_a_finding_leads_to_its_part(self):
-        self.ann.edit(kind="add_object", sheet="stereo.sch", text="C 44000 42000 1 0 0 res.sym\n")
         page = self.page()
         page.tab("findings")
         self.assertIn("Unnumbered R?", page.text("list"))
@@ -87,10 +112,8 @@ class Looking(PageCase):
         page.until(lambda: "dark" in page.driver.find_element(By.TAG_NAME, "body").get_attribute("class"))
 
     def test_what_is_written_on_a_sheet_is_text(self):
-        evil = "T 44000 42000 9 10 1 0 0 0 1\n<img src=x onerror=alert(1)><b>&amp;\n"
-        self.ann.edit(kind="add_object", sheet="stereo.sch", text=evil)
         page = self.page()
-        self.assertEqual(len(page.all("img, b")), 0)
+        self.assertEqual(len(page.all("#sheet img, #sheet b")), 0)
         self.assertIn("<img src=x", page.text("sheet"))
 
 
@@ -100,11 +123,11 @@ class Editing(PageCase):
         c1 = self.ann.id_of("stereo.sch", "C1")
         field = ann.field(c1, "value")
         field.send_keys(Keys.CONTROL + "a" + Keys.NULL + "220n" + Keys.ENTER)
-        bob.until(lambda: "220n" in bob.drawn(c1).text, 5)
-        bob.until(lambda: "ann: C1 changed: value=100n → value=220n" in bob.text("log"), 5)
+        bob.until(lambda: "220n" in bob.drawn(c1).text)
+        bob.until(lambda: "ann: C1 changed: value=100n → value=220n" in bob.text("log"))
         self.assertIn("changed", bob.drawn(c1).get_attribute("class"))
         ann.driver.find_element(By.ID, "undo").click()
-        bob.until(lambda: "100n" in bob.drawn(c1).text, 5)
+        bob.until(lambda: "100n" in bob.drawn(c1).text)
 
     def test_a_part_is_moved_turned_and_deleted(self):
         page = self.page("ann")
@@ -138,9 +161,9 @@ class Editing(PageCase):
         field = page.field(c1, "value")
         field.click()
         bob.edit(kind="set_attr", id=c1, name="value", value="470n")
-        page.until(lambda: "470n" in page.drawn(c1).text, 5)
+        page.until(lambda: "470n" in page.drawn(c1).text)
         field.send_keys(Keys.CONTROL + "a" + Keys.NULL + "1u" + Keys.ENTER)
-        page.until(lambda: "bob changed C1 meanwhile" in page.text("notice"), 5)
+        page.until(lambda: "bob changed C1 meanwhile" in page.text("notice"))
         self.assertIn("value=470n", self.ann.sheet("stereo.sch"))
         self.assertIn("470n", page.drawn(c1).text)
         self.assertEqual(page.all('[data-attribute="value"]')[0].get_attribute("value"), "470n")
@@ -149,6 +172,172 @@ class Editing(PageCase):
         page = self.page("")
         page.driver.find_element(By.ID, "renumber").click()
         self.assertIn("write your name", page.text("notice"))
+
+
+class Marking(PageCase):
+    def test_findings_are_marked_where_they_are(self):
+        self.ann.edit(kind="add_object", sheet="stereo.sch", text="C 44000 43000 1 0 0 res.sym\n")
+        page = self.page()
+        marks = page.all("#findings .finding")
+        self.assertEqual(sorted(it.get_attribute("data-finding") for it in marks),
+                         ["UnconnectedPin R?-1", "UnconnectedPin R?-2", "Unnumbered R?"])
+        page.script("document.querySelector('#findings .finding').dispatchEvent("
+                    "new MouseEvent('click', {bubbles: true}))")
+        self.assertEqual(len(page.all("#list tr.on")), 1)
+        self.assertIn("check 3", page.text("tabs"))
+
+    def test_rails_that_meet_are_told_and_marked(self):
+        page = self.page()
+        self.assertNotIn("RailsMeet", page.text("list"))
+        points = {it.basename: it.text.split()[1:3] for it in self.ann.objects("stereo.sch")
+                  if it.letter == "C" and it.basename in ("gnd.sym", "plus12.sym")}
+        (x1, y1), (x2, y2) = points["gnd.sym"], points["plus12.sym"]
+        self.ann.edit(kind="add_object", sheet="stereo.sch", text=f"N {x1} {y1} {x2} {y2} 4\n")
+        page.tab("findings")
+        page.until(lambda: "RailsMeet" in page.text("list"))
+        row = next(it.text for it in page.all("#list tr.error") if "RailsMeet" in it.text)
+        self.assertEqual(row.split()[2:], ["+12V", "GND"])
+        self.assertTrue(page.all('#findings [data-finding^="RailsMeet"]'))
+
+    def test_a_symbol_that_changes_is_drawn_anew(self):
+        self.ann.edit(kind="add_object", sheet="stereo.sch", text="C 44000 43000 1 0 0 own.sym\n")
+        page = self.page()
+        self.assertIn("own.sym", page.text("sheet"))
+        serial = self.ann.edit(kind="add_symbol", name="own.sym", text="v 20130925 2\nT 0 0 9 10 1 0 0 0 1\nfirst\n")
+        page.until(lambda: "first" in page.text("sheet"))
+        self.ann.edit(kind="undo", serial=serial)
+        page.until(lambda: "own.sym" in page.text("sheet"))
+        self.ann.edit(kind="add_symbol", name="own.sym", text="v 20130925 2\nT 0 0 9 10 1 0 0 0 1\nsecond\n")
+        page.until(lambda: "second" in page.text("sheet"))
+
+
+class Comparing(PageCase):
+    def test_two_fronts_stand_beside_each_other(self):
+        c1, c2 = (self.ann.id_of("stereo.sch", it) for it in ("C1", "C2"))
+        bob = self.bob()
+        bob.edit(kind="set_attr", id=c1, name="value", value="220n")
+        bob.edit(kind="delete", ids=[c2])
+        bob.edit(kind="add_object", sheet="stereo.sch", text="N 44000 42000 45000 42000 4\n")
+        page = self.page()
+        page.tab("history")
+        page.script("document.querySelector('[data-compare=\"12\"]').click()")
+        page.until(lambda: page.all(".comparing"), 60)
+        [added] = page.all("#drawn .is-added")
+        self.assertEqual(added.get_attribute("data-id"), str(self.ann.ids("stereo.sch")[-1]))
+        self.assertEqual([it.get_attribute("data-id") for it in page.all("#drawn .is-changed")], [str(c1)])
+        self.assertEqual(len(page.all("#past .is-gone")), 1)
+        self.assertIn("10u", page.one("#past .is-gone").text)
+        self.assertIn("changed C1 changed: value=100n → value=220n", page.text("list"))
+        self.assertIn("part C2", page.text("list"))
+        page.keys(Keys.ESCAPE)
+        self.assertEqual(len(page.all(".comparing, #past > *, #drawn .is-added")), 0)
+        self.assertEqual(page.faults(), [])
+
+
+class Drawing(PageCase):
+    def newest(self):
+        return self.ann.objects("stereo.sch")[-1].text
+
+    def draws(self, page, count):
+        page.until(lambda: page.text("status") == f"{count} edits")
+        return self.newest()
+
+    def test_a_wire_a_component_and_a_text_are_drawn_by_the_keys(self):
+        page = self.page("ann")
+        page.keys("w", Keys.ENTER, *[Keys.ARROW_RIGHT] * 3, Keys.ENTER)
+        wire = self.draws(page, 13).split()
+        self.assertEqual((wire[0], int(wire[3]) - int(wire[1]), wire[4]), ("N", 300, wire[2]))
+        page.keys(Keys.ESCAPE, "c")
+        page.one("#component-name").send_keys("res.sym" + Keys.ENTER)
+        page.keys(Keys.ARROW_DOWN, Keys.ENTER)
+        part = self.draws(page, 14)
+        self.assertRegex(part, r"^C -?\d+00 -?\d+00 1 0 0 res\.sym\n\{\n(.*\n)*refdes=R\?\n\}\n$")
+        page.keys(Keys.ESCAPE, "t")
+        page.one("#text-name").send_keys("a note" + Keys.ENTER)
+        page.keys(Keys.ENTER)
+        self.assertRegex(self.draws(page, 15), r"^T \S+ \S+ 9 10 1 0 0 0 1\na note\n$")
+        page.keys(Keys.ESCAPE)
+        self.assertEqual(page.faults(), [])
+
+    def test_a_wire_is_drawn_by_two_clicks(self):
+        page = self.page("ann")
+        page.one("#draw-wire").click()
+        sheet = page.one("#sheet")
+        page.act().move_to_element_with_offset(sheet, -300, -300).click().perform()
+        page.act().move_to_element_with_offset(sheet, -200, -300).click().perform()
+        wire = self.draws(page, 13).split()
+        self.assertEqual(wire[0], "N")
+        self.assertEqual([int(it) % 100 for it in wire[1:5]], [0] * 4)
+
+    def test_a_text_is_written_anew(self):
+        self.ann.edit(kind="add_object", sheet="stereo.sch", text="T 44000 43000 9 10 1 0 90 3 1\nold\n")
+        page = self.page("ann")
+        number = self.ann.ids("stereo.sch")[-1]
+        page.act().move_to_element(page.drawn(number).find_element(By.CSS_SELECTOR, "text")).click().perform()
+        page.tab("object")
+        field = page.one("[data-text]")
+        field.send_keys(Keys.CONTROL + "a" + Keys.NULL + "new" + Keys.ENTER + "lines")
+        page.one("#session").click()
+        self.assertEqual(self.draws(page, 14), "T 44000 43000 9 10 1 0 90 3 2\nnew\nlines\n")
+
+    def test_what_comes_loose_is_ringed(self):
+        page = self.page("ann")
+        c1 = self.ann.id_of("stereo.sch", "C1")
+        page.press(c1)
+        page.keys(Keys.SHIFT + Keys.ARROW_RIGHT)
+        page.until(lambda: page.text("status") == "13 edits")
+        page.until(lambda: page.all("#marks .loose"))
+
+
+class ByKeys(SharedCase):
+    def test_all_is_reached_by_the_keyboard(self):
+        page = self.page()
+        page.keys("n", "n")
+        self.assertEqual([it.get_attribute("data-id") for it in page.all("#drawn .chosen")],
+                         [str(self.ann.ids("stereo.sch")[1])])
+        page.keys("3")
+        self.assertIn("C1", page.text("list"))
+        page.script("document.querySelector('#list [data-link]').focus()")
+        page.act().send_keys(Keys.ENTER).perform()
+        page.until(lambda: len(page.all("#marks .here")) == 1)
+        page.keys("/")
+        page.act().send_keys("LEFT/R2" + Keys.ENTER).perform()
+        page.until(lambda: page.text("trail") == "stereo.sch / LEFT")
+        page.keys(Keys.ESCAPE, Keys.BACKSPACE)
+        page.until(lambda: page.text("trail") == "stereo.sch")
+        page.keys("?")
+        self.assertTrue(page.one("#help").is_displayed())
+
+    def test_a_phone_shows_sheet_and_lists(self):
+        page = self.page(width=390, height=800)
+        wide = page.script("return document.documentElement.scrollWidth")
+        self.assertLessEqual(wide, page.script("return innerWidth"))
+        for name in ("sheet", "list"):
+            size = page.one(f"#{name}").rect
+            self.assertGreater(size["height"], 120)
+            self.assertGreater(size["width"], 300)
+
+
+class Files(FolderCase):
+    def test_a_folder_is_shown_and_followed(self):
+        page = Page(self.viewed(self.folder).url)
+        self.addCleanup(page.close)
+        self.assertEqual(page.text("trail"), "stereo.sch")
+        self.assertEqual(len(page.all("#drawn > .o")), 48)
+        self.assertFalse(page.one("#edit").is_displayed())
+        page.follow("net:+12V")
+        self.assertEqual(len(page.all("#drawn .lit")), 11)
+        path = self.folder / "stereo.sch"
+        text = path.read_text()
+        path.write_text(text.replace("value=100n", "value=330n", 1))
+        page.until(lambda: "330n" in page.text("sheet"))
+        page.until(lambda: "value=100n → value=330n" in page.text("log"))
+        path.write_text(text + "N 0 0 x 0 4\n")
+        page.tab("findings")
+        page.until(lambda: "BadNumber" in page.text("list"))
+        self.assertEqual(len(page.all("#drawn > .o")), 48)
+        path.write_text(text)
+        page.until(lambda: "BadNumber" not in page.text("list"))
 
 
 class Following(PageCase):
@@ -204,40 +393,82 @@ class Far(PageCase):
     def test_a_server_that_goes_away_comes_back(self):
         page = self.page()
         self.server.stop()
-        page.until(lambda: "the server is away since" in page.text("status"), 10)
+        page.until(lambda: "the server is away since" in page.text("status"))
         self.assertEqual(len(page.all("#drawn > .o")), 48)
         self.server.start()
         self.ann.edit(kind="add_object", sheet="stereo.sch", text="N 44000 42000 45000 42000 4\n")
-        page.until(lambda: page.text("status") == "13 edits", 10)
+        page.until(lambda: page.text("status") == "13 edits")
         self.assertEqual(len(page.all("#drawn > .o")), 49)
 
 
 class Large(PageCase):
     files = ["res.sym"]
 
-    def test_a_large_sheet_is_there_within_a_second(self):
+    def sheet_of(self, count, wires=4, prefix="R"):
+        """A sheet of parts with two texts each, and wires; so many objects a part and its wires are."""
         rows = ["v 20130925 2"]
-        for at in range(WIRES // 5):
+        for at in range(count):
             x, y = 1000 * (at % 40), 1000 * (at // 40)
             rows += [f"C {x} {y} 1 0 0 res.sym", "{"]
-            rows += [f"T {x} {y + 200} 5 10 1 1 0 0 1", f"refdes=R{at}"]
+            rows += [f"T {x} {y + 200} 5 10 1 1 0 0 1", f"refdes={prefix}{at}"]
             rows += [f"T {x} {y - 200} 5 10 1 1 0 0 1", "value=10k", "}"]
-            rows += [f"N {x + 100 * one} {y + 500} {x + 100 * one} {y + 700} 4" for one in range(4)]
-        self.ann.add(pathlib.Path("large.sch"), "\n".join(rows) + "\n")
-        best = min(self.first_picture() for _ in range(3))
+            rows += [f"N {x + 100 * one} {y + 500} {x + 100 * one} {y + 700} 4" for one in range(wires)]
+        return "\n".join(rows) + "\n"
+
+    def tell(self, what, milliseconds):
         load = os.getloadavg()[0] / os.cpu_count()
-        print(f"{WIRES} objects: first picture after {best:.0f} ms, load {load:.1f}", flush=True)
+        print(f"{what}: {milliseconds:.0f} ms, load {load:.1f}", flush=True)
         if load < 1:
-            self.assertLess(best, 1000)
+            self.assertLess(milliseconds, 1000)
+
+    def test_a_large_sheet_is_there_within_a_second(self):
+        self.ann.add(pathlib.Path("large.sch"), self.sheet_of(WIRES // 5))
+        self.tell(f"{WIRES} objects: first picture after", min(self.first_picture() for _ in range(3)))
 
     def first_picture(self):
         page = Page(self.view.url)
         try:
             self.assertEqual(len(page.all("#drawn > .o")), WIRES)
-            asked = "return performance.getEntriesByName('pictured')[0].startTime"
-            return page.driver.execute_script(asked)
+            return page.script("return performance.getEntriesByName('pictured')[0].startTime")
         finally:
             page.close()
+
+    def test_a_board_of_many_sheets_is_quick(self):
+        for at in range(SHEETS):
+            self.ann.add(pathlib.Path(f"s{at:03}.sch"), self.sheet_of(PARTS // SHEETS, 1, f"R{at:03}_"))
+        page = self.page("ann")
+        page.until(lambda: f"parts {PARTS}" in page.text("tabs"), 60)
+        number = self.ann.ids("s000.sch")[0]
+        page.press(number)
+        times = []
+        for _ in range(3):
+            before = page.drawn(number).find_element(By.CSS_SELECTOR, "path").get_attribute("d")
+            page.script(f"""
+                window.edited = null;
+                const began = performance.now();
+                new MutationObserver((_, observer) => {{
+                  const path = document.querySelector('#drawn [data-id="{number}"] path');
+                  if (!path || path.getAttribute('d') === '{before}') return;
+                  observer.disconnect();
+                  requestAnimationFrame(() => {{ window.edited = performance.now() - began; }});
+                }}).observe(document.getElementById('drawn'), {{ childList: true, subtree: true }});
+                document.getElementById('sheet').dispatchEvent(new KeyboardEvent('keydown',
+                  {{ key: 'ArrowRight', shiftKey: true, bubbles: true }}));
+                """)
+            page.until(lambda: page.script("return window.edited"), 60)
+            times.append(page.script("return window.edited"))
+        page.until(lambda: page.text("status") == f"{SHEETS + 4} edits", 60)
+        self.tell(f"{SHEETS} sheets, {PARTS} parts: from edit to picture", min(times))
+        self.is_idle(page)
+
+    def is_idle(self, page):
+        """Nothing but the list of sheets is asked for, each two seconds."""
+        page.until(lambda: not page.all("#marks > g"), 60)
+        asked = page.script("performance.clearResourceTimings(); return 0")
+        time.sleep(10)
+        asked = page.script("return performance.getEntriesByType('resource').map(it => it.name)")
+        self.assertEqual({it.rsplit("/", 1)[1] for it in asked}, {"sheets"})
+        self.assertLessEqual(len(asked), 6)
 
 
 if __name__ == "__main__":
