@@ -25,9 +25,11 @@ import time
 
 sys.dont_write_bytecode = True
 
+import paths
+from built import built
 from drawing import VERSION, component, numbered, symbol, wire
+from served import Served
 from writers import Writer
-from served import Served, program
 
 MEMORY = pathlib.Path("/dev/shm")
 LIBRARY = "part.sym"
@@ -141,8 +143,7 @@ def main():
     parser = argparse.ArgumentParser(description=__doc__.split("\n")[0])
     parser.add_argument("--runs", type=int, default=11)
     asked = parser.parse_args()
-    if not program():
-        sys.exit("no program is built: GAFD names one")
+    built()
     many_components()
     for count in (10_000, 95_000):
         one_sheet(count, asked.runs)
