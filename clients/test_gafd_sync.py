@@ -23,7 +23,7 @@ from gafd_sync.sheets import item_of, sheet_of
 from laboratory import SHEET, WIRE, Engineer, Laboratory
 from served import TOP, bounded, program
 
-sys.path.append(str(TOP / "bench"))
+sys.path.append(str(TOP / "told"))
 
 import geda_files
 from random_files import random_file
@@ -403,7 +403,7 @@ class ClientTest(Laboratory):
 
 class TextTest(unittest.TestCase):
     def test_texts_are_canonical(self):
-        """Random files, as the grammar that is told again under bench/ reads and writes them."""
+        """Random files, as the grammar that is told again under told/ reads and writes them."""
         count = 0
         for number in range(500):
             data = random_file("1", number)
