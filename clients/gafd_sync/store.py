@@ -93,8 +93,8 @@ def check(asked, server, folder):
         print(f"{asked.store}: {len(faults) - MOST_LINES} faults more")
     if faults:
         print(
-            f"{asked.store}: leave it as it is, put a copy of it away, and take what is missing"
-            " from the backup: docs/SERVER.md, \"A store that is damaged\""
+            f"{asked.store}: put a copy of it away, and take what is missing from the backup:"
+            ' SERVER.md, "A store that is damaged"'
         )
         return 1
     last = is_last_cut(rows)
@@ -153,15 +153,15 @@ def row_faults(rows):
             continue
         if rows.path(serial).stat().st_uid != owner:
             yield f"{name} belongs to another user than the folder"
-        yield from order_faults(serial, entry, last)
+        yield from order_faults(serial, entry, last, not missing)
 
 
-def order_faults(serial, entry, last):
+def order_faults(serial, entry, last, is_counted):
     """What of an entry cannot stand behind those before it; `last` has the numbers by session."""
     session, due = entry["session"], last.get(entry["session"], 0) + 1
     if entry["base"] > serial:
         yield f"{row_name(serial)} has the base {entry['base']}, which is above its serial"
-    if entry["number"] != due:
+    if is_counted and entry["number"] != due:
         yield (
             f"{row_name(serial)} has the number {entry['number']} of {session}, and {due} was due:"
             " rows of two boards in one folder?"
