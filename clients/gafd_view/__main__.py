@@ -16,9 +16,10 @@ to others too. --look hands on no edits. --host is one more name under which the
 behind a proxy.
 
 Nobody is asked who they are: let people in by ssh or by nginx. The program is that which GAFD names,
-else `gafd` on the PATH, else that of this checkout.
+else `gafd` on the PATH, else that beside this one.
 """
 import argparse
+import os
 import pathlib
 import signal
 import sys
@@ -74,6 +75,8 @@ def server_view(asked):
     if len(asked.shown) > 1:
         sys.exit("gafd_view: name one server")
     history = past = None
+    if asked.store and not os.access(asked.store, os.R_OK | os.X_OK):
+        sys.exit(f"gafd_view: {asked.store}: no store that can be read")
     if asked.store:
         history, past = History(asked.store), PastBoards(asked.store, program())
     board = ServedBoard(asked.shown[0])

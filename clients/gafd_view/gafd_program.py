@@ -5,13 +5,14 @@ import random
 import shutil
 import socket
 
+# The checkout, or the folder below which all is installed.
 TOP = pathlib.Path(__file__).resolve().parent.parent.parent
 
 
 def program():
-    """The program that GAFD names, else `gafd` on the PATH, else that of this checkout, else None."""
+    """The program that GAFD names, else `gafd` on the PATH, else that beside this one, else None."""
     found = [os.environ.get("GAFD"), shutil.which("gafd"), TOP / "crates/gafd/out/gafd",
-             TOP / "out/gafd", TOP / "gafd"]
+             TOP / "out/gafd", TOP / "gafd", TOP / "bin/gafd"]
     paths = (pathlib.Path(it).resolve() for it in found if it)
     return next((str(it) for it in paths if it.is_file() and os.access(it, os.X_OK)), None)
 

@@ -39,7 +39,10 @@ class History:
         return self.length
 
     def count_all(self):
-        names = {it.name for it in self.store.iterdir() if ROW.fullmatch(it.name)}
+        try:
+            names = {it.name for it in self.store.iterdir() if ROW.fullmatch(it.name)}
+        except OSError:
+            return 0
         return next(n for n in range(len(names) + 1) if self.path(n).name not in names)
 
     def path(self, serial):

@@ -55,7 +55,7 @@ function showState(state) {
 /** Reads what changed since the last reading: the shown sheet first, and all else behind it. */
 async function readBoard() {
   const front = await board.look();
-  if (front === board.front) return;
+  if (front === board.front) return readRest();
   if (front < board.front) return location.reload();
   const since = board.front;
   const told = [];
@@ -72,8 +72,8 @@ async function readBoard() {
     board.readLists(front),
     board.readHistory(front),
     readSymbolsAnew(),
-    // What nobody looks at is read when it is asked for; but at first, and where it is known to be another.
-    board.readStale(takes, (name) => isKnown || !board.sheets.has(name)),
+    // Where nobody tells what changed, a sheet that is not shown is read when it is asked for.
+    board.readStale(takes, (name) => !shown.at || (isKnown && board.sheets.has(name))),
   ]);
   if (isOfFront) board.front = front;
   else isAskedAgain = true;
@@ -83,7 +83,21 @@ async function readBoard() {
   for (const [name, changes] of told) tell(name, changes, since);
   showNets();
   showTrail();
-  return findRails();
+  isRestRead = false;
+  return readRest();
+}
+
+let isRestRead = false;
+let restReading = null;
+
+/** Reads the sheets that were never read, and looks for rails on all; others are not kept waiting. */
+function readRest() {
+  if (isRestRead || !shown.at) return;
+  isRestRead = true;
+  const isUnread = (name) => !board.sheets.has(name);
+  restReading ||= freshen(isUnread).then(findRails)
+    .catch(() => { isRestRead = false; })
+    .finally(() => { restReading = null; });
 }
 
 /** Reads the symbols again that changed; where nobody tells which, those of the shown sheet. */

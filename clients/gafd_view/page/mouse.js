@@ -8,7 +8,8 @@ import { board, byId, isEditing, notice, shown, shownInstance } from "./state.js
 import { pan, placeOf, zoom } from "./viewport.js";
 import { toolClicked, toolMoved } from "./tools.js";
 
-const NEAR = [[0, 0], [3, 0], [-3, 0], [0, 3], [0, -3], [5, 5], [-5, 5], [5, -5], [-5, -5]];
+// A wire is hardly more than a pixel wide.
+const NEAR = [0, 1, 2, 3, 4].flatMap((it) => [[it, 0], [-it, 0], [0, it], [0, -it]]);
 const FAR = 4;
 
 /** The wire or pin, and the object, at the mouse or a little beside it. */

@@ -13,6 +13,7 @@ import { bringIn, fit } from "./viewport.js";
 const MOST_PATCHED = 200;
 const FRAME = 60;
 const FLAG = 110;
+const MOST_FLAGS = 500;
 let openEnds = null;
 
 /** Draws the whole sheet. */
@@ -108,13 +109,16 @@ export function drawFindings() {
   const spots = findingsAt([...board.findings, ...shown.rails], board.list.names,
     { instance, objects, places, groups: shown.nets.groups, symbols: board.symbols });
   const points = pointsOfKeys();
-  byId("findings").innerHTML = [...spots].map(([spot, found]) => {
+  byId("findings").innerHTML = [...spots].slice(0, MOST_FLAGS).map(([spot, found]) => {
     const box = points.has(spot) ? null : elementOf(spot)?.getBBox();
-    const [x, y] = points.get(spot) || (box ? [box.x, box.y] : [null]);
-    if (x === null) return "";
-    const level = found.some((it) => it.level === "error") ? "error" : "warning";
-    const words = escapeText(found.map(findingText).join("\n"));
-    return `<g class="finding ${level}" data-finding="${escapeText(findingText(found[0]))}"><title>${words}</title>`
-      + `<path d="M${x} ${y}l${FLAG / 2} ${-FLAG}h${-FLAG}z"/></g>`;
+    const point = points.get(spot) || (box ? [box.x, box.y] : null);
+    return point ? drawFlag(point, found) : "";
   }).join("");
+}
+
+function drawFlag([x, y], found) {
+  const level = found.some((it) => it.level === "error") ? "error" : "warning";
+  const words = escapeText(found.map(findingText).join("\n"));
+  return `<g class="finding ${level}" data-finding="${escapeText(findingText(found[0]))}"><title>${words}</title>`
+    + `<path d="M${x} ${y}l${FLAG / 2} ${-FLAG}h${-FLAG}z"/></g>`;
 }

@@ -126,7 +126,10 @@ class Page:
         return self.driver.execute_script(text)
 
     def faults(self):
-        return [it for it in self.driver.get_log("browser") if "502" not in it["message"]]
+        """What the browser complains of, but a server that is away, and edits that are refused."""
+        expected = ("502 (Bad Gateway)", "/board/edits")
+        log = self.driver.get_log("browser")
+        return [it for it in log if not any(one in it["message"] for one in expected)]
 
     def close(self):
         self.driver.close()

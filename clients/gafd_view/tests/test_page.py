@@ -284,7 +284,7 @@ class Drawing(PageCase):
         page = self.page("ann")
         c1 = self.ann.id_of("stereo.sch", "C1")
         page.press(c1)
-        page.keys(Keys.SHIFT + Keys.ARROW_RIGHT)
+        page.act().key_down(Keys.SHIFT).send_keys(Keys.ARROW_RIGHT).key_up(Keys.SHIFT).perform()
         page.until(lambda: page.text("status") == "13 edits")
         page.until(lambda: page.all("#marks .loose"))
 
