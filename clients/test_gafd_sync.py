@@ -10,6 +10,7 @@ import os
 import pathlib
 import random
 import signal
+import ssl
 import subprocess
 import sys
 import unittest
@@ -18,9 +19,9 @@ from unittest import mock
 
 sys.dont_write_bytecode = True
 
-from gafd_sync.server import Server
+from gafd_sync.server import Reply, Server
 from gafd_sync.sheets import item_of, sheet_of
-from laboratory import SHEET, WIRE, Engineer, Laboratory
+from laboratory import SHEET, WIRE, Engineer, Laboratory, asked
 from served import TOP, bounded, program
 
 sys.path.append(str(TOP / "told"))
@@ -278,6 +279,61 @@ class ClientTest(Laboratory):
         with mock.patch("gafd_sync.server.PAUSES", ()):
             status, said = self.ann("pull")
         self.assertEqual((status, "refused" in said), (3, True), said)
+
+    def test_who_is_kept_out_is_told_why(self):
+        self.both_start()
+        self.bob.draws("value=1k\n", "value=3k\n")
+        once, netrc = Server.once, self.room / ".netrc"
+
+        def proxy(refused):
+            def answer(server, method, path, body):
+                if refused in (method, "both"):
+                    return Reply(401, -1, "")
+                return once(server, method, path, body)
+
+            return mock.patch.object(Server, "once", answer)
+
+        cases = [
+            ("", "both", "wants a password; ~/.netrc may have it"),
+            ("machine 127.0.0.1 login bob password b\n", "both", "refuses the password of bob"),
+            ("machine 127.0.0.1 login bob password b\n", "POST", "bob, who may read alone"),
+        ]
+        for text, refused, wanted in cases:
+            with self.subTest(wanted), mock.patch.dict(os.environ, {"HOME": str(self.room)}):
+                netrc.write_text(text)
+                netrc.chmod(0o600)
+                with proxy(refused):
+                    status, said = self.bob("push", "preamp.sch")
+                self.assertEqual((status, wanted in said), (3, True), said)
+
+    def test_the_session_is_the_user_of_netrc_where_none_is_named(self):
+        netrc = self.room / ".netrc"
+        netrc.write_text("machine 127.0.0.1 login carol@lab password c\n")
+        netrc.chmod(0o600)
+        with mock.patch.dict(os.environ, {"HOME": str(self.room)}):
+            self.assertEqual(asked(self.ann.folder, "--server", self.server.url, "renumber")[0], 0)
+            netrc.unlink()
+            with mock.patch("getpass.getuser", lambda: "dave"):
+                asked(self.ann.folder, "--server", self.server.url, "renumber")
+        said = asked(self.room, "history", self.server.store)[1]
+        self.assertEqual(said, "0 carol_lab 1 renumber\n1 dave 1 renumber\n")
+
+    def test_a_certificate_that_is_not_trusted_is_told_at_once(self):
+        error = ssl.SSLCertVerificationError(1, "certificate verify failed")
+        error.verify_message = "self-signed certificate"
+        with mock.patch.object(Server, "once", side_effect=error):
+            status, said = self.ann("pull")
+        self.assertEqual((status, "SSL_CERT_FILE=FILE.pem names" in said), (3, True), said)
+
+    def test_it_runs_as_one_file_and_as_a_folder(self):
+        prefix = self.room / "prefix"
+        place = {**os.environ, "GAFD": program()}
+        words = [str(TOP / "contrib/install"), str(prefix)]
+        subprocess.run(words, env=place, check=True, timeout=60)
+        for call in ([prefix / "bin/gafd_sync"], [sys.executable, "-B", TOP / "clients/gafd_sync"]):
+            words = [*map(str, call), "--server", self.server.url, "sheets"]
+            found = subprocess.run(words, cwd=self.room, capture_output=True, timeout=60)
+            self.assertEqual((found.returncode, found.stdout), (0, b""), found.stderr)
 
     def test_an_engineer_goes_on_after_the_server_was_killed(self):
         self.both_start()

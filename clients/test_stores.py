@@ -27,6 +27,9 @@ class StoreTest(Laboratory):
         self.assertEqual(status, 0)
         first, then = "8 ann 9 add_sheet preamp.sch", "9 bob 1 replace 30 C R3 res.sym"
         self.assertEqual(said.splitlines(), [first, then, "10 bob 2 undo 9"])
+        self.row(10).write_bytes(self.row(10).read_bytes()[:20])
+        said = asked(self.room, "history", self.server.store, "30")[1]
+        self.assertEqual(said.splitlines(), [first, then])
 
     def test_a_backup_takes_what_came_and_is_served(self):
         self.both_start()

@@ -8,7 +8,6 @@ import stat
 from .words import NAME, Stop
 
 ROW = re.compile(r"([0-9]{10})\.json")
-MOST_ROWS = 200_000
 LARGEST = 4_294_967_295
 SHEET, TURN = 200_000, 400_000
 
@@ -125,10 +124,7 @@ class Rows:
     def path(self, serial):
         return self.store / row_name(serial)
 
-    def is_file(self, serial):
-        return stat.S_ISREG(self.path(serial).lstat().st_mode)
-
     def data(self, serial):
-        if not self.is_file(serial):
+        if not stat.S_ISREG(self.path(serial).lstat().st_mode):
             raise NoRow("it is no file")
         return self.path(serial).read_bytes()

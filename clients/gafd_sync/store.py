@@ -1,9 +1,8 @@
 """The rows of a store on the disk: these commands ask no server."""
-import json
 import os
 import pathlib
 
-from .rows import MOST_ROWS, NoRow, Rows, Unfinished, entry_of, row_name
+from .rows import NoRow, Rows, Unfinished, entry_of, row_name
 from .sheets import item_of, sheet_of
 from .words import Stop
 
@@ -12,14 +11,7 @@ MOST_LINES = 20
 
 def history(asked, server, folder):
     wanted, next_id, made = set(asked.ids), 0, {}
-    for serial in range(MOST_ROWS + 1):
-        try:
-            text = (pathlib.Path(asked.store) / row_name(serial)).read_text(encoding="utf-8")
-        except FileNotFoundError:
-            break
-        except OSError as error:
-            raise Stop(f"{asked.store}: {error.strerror}") from None
-        row = json.loads(text)
+    for serial, row in enumerate(entries(Rows(asked.store))):
         edit = row["edit"]
         kind = edit["kind"]
         ids = set(edit.get("ids", [])) | ({edit["id"]} if "id" in edit else set())
@@ -34,6 +26,17 @@ def history(asked, server, folder):
         if not wanted or ids & wanted or kind == "renumber":
             print(serial, row["session"], row["number"], kind, *shown(edit))
     return 0
+
+
+def entries(rows):
+    """The entries of a store up to the first that is not there."""
+    for serial in range(rows.count):
+        try:
+            yield entry_of(rows.data(serial))
+        except (FileNotFoundError, Unfinished):
+            return
+        except NoRow as why:
+            raise Stop(f"{rows.path(serial)} is no row: {why}") from None
 
 
 def shown(edit):
@@ -61,11 +64,11 @@ def backup(asked, server, folder):
         )
     copied.mkdir(parents=True, exist_ok=True)
     old = next(at for at in range(rows.count + 1) if not (copied / row_name(at)).exists())
-    if old and (copied / row_name(old - 1)).read_bytes() != rows.data(old - 1):
+    if old and (copied / row_name(old - 1)).read_bytes() != data_of(rows, old - 1):
         raise Stop(f"{copied} has the rows of another history: take an empty folder")
     count = old
     for serial in range(old, rows.count):
-        data = rows.data(serial)
+        data = data_of(rows, serial)
         if not data.endswith(b"\n"):
             if serial + 1 < rows.count:
                 raise Stop(f"{asked.store}: {row_name(serial)} is cut, and rows are behind it")
@@ -75,6 +78,13 @@ def backup(asked, server, folder):
     os.sync()
     print(f"{count} rows, of which {count - old} came now")
     return 0
+
+
+def data_of(rows, serial):
+    try:
+        return rows.data(serial)
+    except NoRow as why:
+        raise Stop(f"{rows.path(serial)}: {why}") from None
 
 
 def put_row(path, data):
