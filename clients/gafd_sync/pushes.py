@@ -112,6 +112,8 @@ class FilePush(Push):
     def __init__(self, asked, server, folder):
         super().__init__(server, folder, asked.files)
         self.asked, self.missing = asked, set()
+        # Of the sheets of the server, by name.
+        self.texts = {}
 
     def file(self, name):
         if not self.folder.has(name) and name in self.folder.pulled(""):
@@ -226,8 +228,10 @@ class FilePush(Push):
         if not any(item.attribute("refdes") for item in sheet.items if item.letter == "C"):
             return None
         wanted = set(sheet.texts)
-        found = (name for name in self.server.names() if wanted <= self.server.texts(name))
-        return next(found, None)
+        for name in self.server.names():
+            if name not in self.texts:
+                self.texts[name] = self.server.texts(name)
+        return next((name for name, texts in self.texts.items() if wanted <= texts), None)
 
     def told_missing(self):
         """Says in one line which symbols neither the server nor the folder has."""

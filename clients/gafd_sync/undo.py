@@ -12,13 +12,15 @@ def undo(asked, server, folder):
         raise Stop("nothing was pushed from this folder, or it is taken back")
     server.names()
     undone = []
-    for rows in reversed(pushes[-asked.count :]):
-        status = taken_back(server, rows)
-        undone += [row for row in rows if row.get("undone")]
+    try:
+        for rows in reversed(pushes[-asked.count :]):
+            status = taken_back(server, rows)
+            undone += [row for row in rows if row.get("undone")]
+            if status:
+                break
+    finally:
         # What is noted here is looked at again, should the server not answer now.
         stack.set(pushes)
-        if status:
-            break
     for name in sorted({row["name"] for row in undone if row["name"]}):
         rows = [row for row in undone if row["name"] == name]
         restored(server, folder, name, {int(key) for row in rows for key in ids_of(row)})
