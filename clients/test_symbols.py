@@ -88,6 +88,15 @@ class SymbolTest(Laboratory):
         self.assertEqual((status, self.kinds(said)), (0, ["replace_symbol"]))
         self.assertIn("device=OTHER\n", self.answer("/symbols/res.sym"))
 
+    def test_over_sends_what_others_changed_too(self):
+        self.both_start()
+        self.changed(self.ann)
+        self.ann("push", "res.sym")
+        self.assertEqual(self.kinds_of(self.bob, "res.sym")[:2], (0, []))
+        status, said = self.bob("push", "--over", "res.sym")
+        self.assertEqual((status, self.kinds(said)), (0, ["replace_symbol"]))
+        self.assertIn("device=RESISTOR\n", self.answer("/symbols/res.sym"))
+
     def test_over_takes_a_symbol_and_no_sheet(self):
         self.both_start()
         self.changed(self.bob)

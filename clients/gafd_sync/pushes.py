@@ -170,7 +170,7 @@ class FilePush(Push):
             return 0
         mine, origin = self.folder.sheet(name).text, self.folder.symbol_origin(name)
         state = "new" if text is None else who_changed(origin, text, mine)
-        if is_asked and self.asked.over and state in ("unknown", "both"):
+        if is_asked and self.asked.over and state in ("unknown", "both", "theirs"):
             state = "you"
         if state in ("unknown", "both", "theirs"):
             return self.symbol_left(name, state, origin, text, mine)
@@ -210,7 +210,7 @@ class FilePush(Push):
         if not self.asked.copy and (other := self.sheet_with(sheet)):
             print(
                 f"{name}: has what {other} has, which stays on the server: no edit removes or"
-                f" renames a sheet, so each part would be there twice. Rename the file {other}"
+                f" renames a sheet, so each part would be there twice. Call the file {other}"
                 f" again; `push --copy {name}` adds it all the same"
             )
             return 1
@@ -239,7 +239,8 @@ class FilePush(Push):
             return
         sheets = [name for name in self.files if not name.endswith(".sym")]
         print(
-            f"{', '.join(sorted(self.missing))}: neither the server nor this folder has it;"
+            f"{', '.join(sorted(self.missing))}: neither the server nor this folder has"
+            f" {'it' if len(self.missing) == 1 else 'them'};"
             f" `gafd-bring {(sheets or ['SHEET'])[0]} /usr/share/lepton-eda/sym` brings what is"
             " there; then push again"
         )
