@@ -5,6 +5,7 @@ import random
 from unittest import mock
 
 from gafd_sync.motions import Motion
+from gafd_sync.pushes import Push
 from gafd_sync.rows import row_name
 from gafd_sync.server import Server
 from gafd_sync.sheets import item_of, sheet_of
@@ -316,6 +317,25 @@ class RevertTest(Laboratory):
         self.assertEqual((status, "changed since: 30, C R3 res.sym" in said), (1, True), said)
         self.assertIn("value=4k\n", self.answer("/sheets/preamp.sch"))
         self.assertEqual(self.reverted(99)[0], 1)
+
+    def test_a_change_between_reading_and_sending_is_stale(self):
+        self.both_start()
+        self.bob.draws("value=1k\n", "value=3k\n")
+        self.bob("push", "preamp.sch")
+        sent, calls = Push.sent, []
+
+        def late(push, *words):
+            if not calls:
+                calls.append(words)
+                self.bob.draws("value=3k\n", "value=4k\n")
+                self.assertEqual(self.bob("push", "preamp.sch")[0], 0)
+                push.server.names()
+            return sent(push, *words)
+
+        with mock.patch.object(Push, "sent", late):
+            status, said = self.reverted(9)
+        self.assertEqual((status, "Stale: the edit 10 changed it" in said), (1, True), said)
+        self.assertIn("value=4k\n", self.answer("/sheets/preamp.sch"))
 
     def test_moves_symbols_and_sheets(self):
         self.both_start()

@@ -75,10 +75,10 @@ class Push:
         self.stack.add({"session": self.server.session, **row})
         return first_id
 
-    def sent_whole(self, name, edit):
+    def sent_whole(self, name, edit, base):
         """Sends an edit that is all of a file, and answers the first id that is free for it."""
         try:
-            return self.send(name, edit, self.server.front)
+            return self.send(name, edit, base)
         except Refused as refused:
             fault = refused.fault
             if fault.get("fault") == "BadText":
@@ -162,7 +162,7 @@ class FilePush(Push):
 
     def symbol(self, name, is_asked):
         """Adds a symbol that the server does not have, and sends one that was changed here."""
-        text = self.server.symbol(name)
+        text, base = self.server.symbol(name), self.server.front
         if text is None and not self.folder.has(name):
             self.missing.add(name)
             return 1
@@ -178,7 +178,8 @@ class FilePush(Push):
             kind = "add_symbol" if state == "new" else "replace_symbol"
             body = {"kind": kind, "name": name, "text": self.folder.read(name)}
             back = {**body, "text": text} if text else None
-            self.sent_whole(name, Edit(body, name, {name: mine} if text else {}, back))
+            edit = Edit(body, name, {name: mine} if text else {}, back)
+            self.sent_whole(name, edit, base)
         elif is_asked:
             print(f"{name}: nothing to send")
         self.folder.set_symbol_origin(name, self.server.front, mine)
@@ -215,7 +216,8 @@ class FilePush(Push):
             )
             return 1
         body = {"kind": "add_sheet", "name": name, "text": self.folder.read(name)}
-        first = self.sent_whole(name, Edit(body, f"{len(sheet.items)} objects", {}))
+        edit = Edit(body, f"{len(sheet.items)} objects", {})
+        first = self.sent_whole(name, edit, self.server.front)
         ids = range(first, first + len(sheet.items))
         self.folder.set_origin(name, self.server.front, dict(zip(ids, sheet.texts)))
         for source in sorted(sources_of(self.folder, sheet)):

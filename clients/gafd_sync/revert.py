@@ -47,10 +47,11 @@ def revert(asked, server, folder):
         print(f"nothing was sent: something of the edit {asked.serial} was changed since")
         return 1
     push, is_all = Push(server, folder, []), True
-    for name, edit in whole:
-        push.sent_whole(name, edit)
+    # The base of each is the front at which that file was read.
+    for name, edit, base in whole:
+        push.sent_whole(name, edit, base)
     for name, plan in plans.items():
-        is_all = is_all and push.sent(name, plan, server.front, dict(plan.known))
+        is_all = is_all and push.sent(name, plan, now[name].front, dict(plan.known))
     push.end()
     print("\n".join(kept or ["`pull` brings it"] if plans or whole else ["nothing of it stands"]))
     return 0 if is_all else 1
@@ -105,8 +106,8 @@ def board_of(store, named):
 
 
 def files_back(server, before, after, now):
-    """The edits that bring symbols and sheets back, lines on what no edit takes away, and on what
-    was changed since."""
+    """The edits that bring symbols and sheets back, each with its base; lines on what no edit takes
+    away, and on what was changed since."""
     edits, kept, lines = [], [], []
     for name in sorted(before.symbols.keys() | after.symbols.keys()):
         old, new, text = before.symbols.get(name), after.symbols.get(name), server.symbol(name)
@@ -120,12 +121,13 @@ def files_back(server, before, after, now):
             kind = "add_symbol" if text is None else "replace_symbol"
             body = {"kind": kind, "name": name, "text": old}
             back = {**body, "text": new} if text else None
-            edits.append((name, Edit(body, name, {name: old} if text else {}, back)))
+            edit = Edit(body, name, {name: old} if text else {}, back)
+            edits.append((name, edit, server.front))
     for name in sorted(before.names() ^ after.names()):
         if name in before.sheets and name not in now:
             old = before.sheets[name]
             body = {"kind": "add_sheet", "name": name, "text": old.text}
-            edits.append((name, Edit(body, f"{len(old.objects)} objects", {})))
+            edits.append((name, Edit(body, f"{len(old.objects)} objects", {}), server.front))
         elif name in after.sheets and name in now:
             kept.append(f"{name}: stays without these objects: no edit removes a sheet")
     return edits, kept, lines
