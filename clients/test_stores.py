@@ -109,6 +109,14 @@ class StoreTest(Laboratory):
         row.write_bytes(data)
         self.assertEqual(self.checked()[0], 0)
 
+    def test_a_row_far_behind_the_end_is_a_gap(self):
+        self.both_start()
+        self.row(9_999_999_999).write_bytes(self.row(4).read_bytes())
+        wanted = "store: 0000000009.json is missing, and 9999999999.json is there"
+        status, said = self.checked()
+        self.assertEqual((status, said.splitlines()[0]), (1, wanted))
+        self.assertEqual(asked(self.room, "backup", "store", "copied")[0], 1)
+
     def test_owner_and_rights_are_looked_at(self):
         self.both_start()
         store = pathlib.Path(self.server.store)

@@ -8,6 +8,7 @@ import stat
 from .words import NAME, Stop
 
 ROW = re.compile(r"([0-9]{10})\.json")
+MOST_ROWS = 200_000
 LARGEST = 4_294_967_295
 SHEET, TURN = 200_000, 400_000
 
@@ -107,7 +108,7 @@ def entry_of(data):
 
 
 class Rows:
-    """The row files of a store, by their serials."""
+    """The row files of a store, by their serials. `missing` has those with a row behind them."""
 
     def __init__(self, store):
         self.store = pathlib.Path(store)
@@ -115,11 +116,15 @@ class Rows:
             names = os.listdir(self.store)
         except OSError as error:
             raise Stop(f"{store}: {error.strerror}") from None
-        found = sorted(int(match[1]) for name in names if (match := ROW.fullmatch(name)))
+        serials = sorted(int(match[1]) for name in names if (match := ROW.fullmatch(name)))
+        found = [serial for serial in serials if serial < MOST_ROWS]
         self.count = found[-1] + 1 if found else 0
+        self.greatest = serials[-1] if serials else None
         # Who lists a folder while rows come may miss one that is there.
         missing = sorted({*range(self.count)} - {*found})
         self.missing = [serial for serial in missing if not self.path(serial).exists()]
+        if len(serials) > len(found):
+            self.missing.append(self.count)
 
     def path(self, serial):
         return self.store / row_name(serial)

@@ -142,12 +142,13 @@ def row_name_of(name):
 
 
 def row_faults(rows):
-    """What is wrong with the rows, in their order."""
+    """What is wrong with the rows: those that are missing, and then each in its order."""
     owner, missing, last = rows.store.stat().st_uid, set(rows.missing), {}
+    for serial in rows.missing:
+        yield f"{row_name(serial)} is missing, and {row_name(rows.greatest)} is there"
     for serial in range(rows.count):
         name = row_name(serial)
         if serial in missing:
-            yield f"{name} is missing, and {row_name(rows.count - 1)} is there"
             continue
         try:
             entry = entry_of(rows.data(serial))
