@@ -3,13 +3,14 @@
 
   pictures.py [--most SHEETS] [--keep FOLDER] [FOLDER]...
 
-The sheets are those below the FOLDERs: of lepton-eda's own examples and of this repository, where none
-is named. Both pictures have one font, Liberation Sans, and are shown by one Chromium at one scale. Ink
-that has no ink of the other picture within two pixels is counted, both ways; so are the sides of the
-boxes round all ink. --keep leaves both pictures of each sheet in a folder.
+The sheets are those below the FOLDERs: of lepton-eda's own examples and of this repository, where
+none is named. Both pictures have one font, Liberation Sans, and are shown by one Chromium at one
+scale. Ink that has no ink of the other picture within two pixels is counted, both ways; so are the
+sides of the boxes round all ink. --keep leaves both pictures of each sheet in a folder.
 
-It wants lepton-eda, fonts-liberation, chromium, chromium-driver and python3-selenium; GAFD names the
-program. A sheet takes some seconds. Nothing claims that the two agree: it shows how near they are.
+It wants lepton-eda, fonts-liberation, chromium, chromium-driver and python3-selenium; GAFD names
+the program. A sheet takes some seconds. Nothing claims that the two agree: it shows how near they
+are.
 """
 import argparse
 import base64
@@ -79,11 +80,13 @@ function alone(one, other) {
   for (let y = 0; y < one.height; y++) for (let x = 0; x < one.width; x++) {
     if (!one.ink[y * one.width + x]) continue;
     all++;
-    box.splice(0, 4, Math.min(box[0], x), Math.min(box[1], y), Math.max(box[2], x), Math.max(box[3], y));
+    box.splice(0, 4, Math.min(box[0], x), Math.min(box[1], y), Math.max(box[2], x),
+               Math.max(box[3], y));
     let near = 0;
     for (let dy = -2; dy <= 2 && !near; dy++) for (let dx = -2; dx <= 2 && !near; dx++) {
       const [a, b] = [x + dx, y + dy];
-      if (a >= 0 && b >= 0 && a < other.width && b < other.height) near = other.ink[b * other.width + a];
+      if (a >= 0 && b >= 0 && a < other.width && b < other.height) near = other.ink[b * other.width
+                                                                                    + a];
     }
     if (!near) count++;
   }
@@ -103,7 +106,8 @@ class Files(BaseHTTPRequestHandler):
     """The files of the page, and the page that compares."""
 
     def do_GET(self):
-        found = (HELPERS.encode(), "text/html") if self.path == "/" else page_files.read(self.path[1:])
+        found = (HELPERS.encode(),
+                 "text/html") if self.path == "/" else page_files.read(self.path[1:])
         self.send_response(200 if found else 404)
         self.send_header("Content-Type", found[1] if found else "text/plain")
         self.end_headers()
@@ -146,7 +150,8 @@ def compared(driver, sheet, files, keep):
     width, height = round(wide * scale), round(high * scale)
     box = [-left / factor, -top / factor, wide / factor, high / factor]
     symbols = {it: files.files[it].text for it in files.symbols}
-    count = driver.execute_script("return drawOurs(...arguments)", files.files[sheet].text, symbols, box,
+    count = driver.execute_script("return drawOurs(...arguments)", files.files[sheet].text, symbols,
+                                  box,
                                   width, height)
     ours = picture(driver, width, height)
     driver.execute_script("drawLepton(...arguments)", svg, width, height)

@@ -1,5 +1,6 @@
 #!/usr/bin/env python3
-"""Makes the pictures of docs/pictures anew, of the page of gafd_view over this repository's examples.
+"""Makes the pictures of docs/pictures anew, of the page of gafd_view over this repository's
+examples.
 
 It wants chromium, chromium-driver, python3-selenium and fonts-liberation; GAFD names the program.
 """
@@ -22,7 +23,8 @@ MOST_BYTES = 200_000
 
 def save(page, name):
     # The notice of a click would stand before the sheet.
-    page.script("document.getElementById('notice').hidden = true; document.getElementById('marks').innerHTML = ''")
+    page.script(
+        "document.getElementById('notice').hidden = true; document.getElementById('marks').innerHTML = ''")
     path = PICTURES / name
     path.write_bytes(page.driver.get_screenshot_as_png())
     size = path.stat().st_size

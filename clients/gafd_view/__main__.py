@@ -11,12 +11,12 @@ Symbols that do not lie beside the sheets are looked for below the folders that 
 below those of lepton-eda and gEDA.
 
 Of a SERVER, as http://127.0.0.1:8080, it shows what that keeps, and hands edits on. --store names
-the server's store where it can be read here; then the page has the history, and who did what is told
-to others too. --look hands on no edits. --host is one more name under which the page is called, as
-behind a proxy.
+the server's store where it can be read here; then the page has the history, and who did what is
+told to others too. --look hands on no edits. --host is one more name under which the page is
+called, as behind a proxy.
 
-Nobody is asked who they are: let people in by ssh or by nginx. The program is that which GAFD names,
-else `gafd` on the PATH, else that beside this one.
+Nobody is asked who they are: let people in by ssh or by nginx. The program is that which GAFD
+names, else `gafd` on the PATH, else that beside this one.
 """
 import argparse
 import os
@@ -39,7 +39,8 @@ def arguments():
     parser.add_argument("--port", type=int, default=8090, help="of the page; 0 takes a free one")
     parser.add_argument("--symbols", action="append", default=[], metavar="FOLDER",
                         help="where symbols are looked for that do not lie beside the sheets")
-    parser.add_argument("--store", metavar="FOLDER", help="the store of the server, for the history")
+    parser.add_argument("--store", metavar="FOLDER",
+                        help="the store of the server, for the history")
     parser.add_argument("--look", action="store_true", help="hands on no edits")
     parser.add_argument("--host", action="append", default=[], metavar="NAME",
                         help="one more name under which the page is called")

@@ -1,8 +1,8 @@
 """The files of a board: the sheets that are asked for, the sheets below them, and their symbols, in
 the order in which `gafd` reads them (docs/RULES.md, "The project of the files").
 
-They are brought together as links in a folder of this program's own, in which `gafd` runs: so symbols
-of libraries are found too, and nothing is written beside the sheets.
+They are brought together as links in a folder of this program's own, in which `gafd` runs: so
+symbols of libraries are found too, and nothing is written beside the sheets.
 """
 import concurrent.futures
 import pathlib
@@ -30,7 +30,8 @@ class File(NamedTuple):
 
 
 class BoardFiles:
-    """The files of a board. `sheets` has the names of its sheets in order, `symbols` those of its symbols."""
+    """The files of a board. `sheets` has the names of its sheets in order, `symbols` those of its
+    symbols."""
 
     def __init__(self, folder, names, libraries, run):
         self.folder, self.names, self.run = pathlib.Path(folder).resolve(), names, run
@@ -61,7 +62,8 @@ class BoardFiles:
         return found
 
     def contents(self):
-        return [(it, self.files[it].text, self.files[it].refusal) for it in self.sheets + self.symbols]
+        return [(it, self.files[it].text, self.files[it].refusal) for it in self.sheets
+                + self.symbols]
 
     def gather(self):
         """Reads what changed, sheet after sheet: each one may name further sheets and symbols."""
@@ -90,13 +92,15 @@ class BoardFiles:
         return [value for it in symbol if it.letter == "T" for value in it.values("source")]
 
     def symbol_path(self, basename):
-        """Where the file of a symbol lies: beside the sheets, else below the first library that has it."""
+        """Where the file of a symbol lies: beside the sheets, else below the first library that has
+        it."""
         if not NAME.fullmatch(basename) or basename.startswith("EMBEDDED"):
             return None
         if (self.folder / basename).is_file():
             return self.folder / basename
         if self.library is None:
-            paths = [it for one in reversed(self.libraries) for it in pathlib.Path(one).rglob("*.sym")]
+            paths = [it for one in reversed(self.libraries)
+                     for it in pathlib.Path(one).rglob("*.sym")]
             self.library = {it.name: it for it in paths}
         return self.library.get(basename)
 
@@ -123,9 +127,11 @@ class BoardFiles:
         return before._replace(stamp=stamp, refusal=refusal)
 
     def call(self, *words):
-        """The status of a call of `gafd`, what it printed, and the line that tells what went wrong."""
+        """The status of a call of `gafd`, what it printed, and the line that tells what went wrong.
+        The status of a call of `gafd`, what it printed, and the line that tells what went wrong."""
         try:
-            done = subprocess.run([self.run, *words], cwd=self.room, capture_output=True, timeout=LONGEST)
+            done = subprocess.run([self.run, *words], cwd=self.room, capture_output=True,
+                                  timeout=LONGEST)
         except (OSError, subprocess.TimeoutExpired) as error:
             return 71, "", f"gafd: {error}"
         refusal = done.stderr.decode(errors="replace").strip()

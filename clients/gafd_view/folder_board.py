@@ -1,7 +1,7 @@
 """A board of files: sheets of a folder, with what `gafd netlist` and `gafd drc` say of them.
 
-It answers what a server answers, with a front that rises each time a file changed. Ids stay with the
-objects as far as these can be known again.
+It answers what a server answers, with a front that rises each time a file changed. Ids stay with
+the objects as far as these can be known again.
 """
 import collections
 import threading
@@ -61,7 +61,8 @@ class FolderBoard:
         with self.lock:
             self.look()
             if path == "sheets":
-                rows = [f"{it} {len(self.files.files[it].objects)}\n" for it in sorted(self.files.sheets)]
+                rows = [f"{it} {len(self.files.files[it].objects)}\n"
+                        for it in sorted(self.files.sheets)]
                 return self.text("".join(rows))
             if kind in ("sheets", "objects", "symbols"):
                 return self.file_answer(kind, name)
@@ -80,7 +81,8 @@ class FolderBoard:
         if file.refusal and kind != "objects":
             return fault(422, "Refused", self.number, line=file.refusal)
         if kind == "objects":
-            rows = [f"{number} {it.letter}\n" for number, it in zip(self.ids.of[name], file.objects)]
+            rows = [f"{number} {it.letter}\n" for number,
+                    it in zip(self.ids.of[name], file.objects)]
             return self.text("".join(rows))
         return self.text(file.text)
 
@@ -88,7 +90,8 @@ class FolderBoard:
         if path not in REPORTS:
             return fault(404, "NoRoute", self.number)
         if not self.files.sheets:
-            return self.text({"netlist/list": "parts 0\nnets 0\n", "drc": "findings 0\n"}.get(path, ""))
+            return self.text({"netlist/list": "parts 0\nnets 0\n", "drc": "findings 0\n"}.get(path,
+                                                                                              ""))
         status, text, refusal = self.files.call(*REPORTS[path], "--", *self.files.sheets)
         if status not in (0, ERRORS_FOUND):
             return fault(422, "Refused", self.number, line=refusal)
@@ -105,8 +108,11 @@ class FolderBoard:
 
 
 class Ids:
-    """The ids of the objects of each sheet: an object that stands as it was keeps its id, and so does
-    one that is the only one left with its letter and name or place."""
+    """The ids of the objects of each sheet.
+
+    An object that stands as it was keeps its id, and so does one that changed, and is known again by
+    its letter and its name or place.
+    """
 
     def __init__(self):
         self.next, self.of, self.objects = 0, {}, {}
@@ -131,6 +137,7 @@ class Ids:
 
 
 def known_by(one):
-    """What an object is known by when it has changed: its refdes or netname, else where it begins."""
+    """What an object is known by when it has changed: its refdes or netname, else where it begins.
+    What an object is known by when it has changed: its refdes or netname, else where it begins."""
     names = one.values("refdes") or one.values("netname")
     return one.letter, names[0] if names else tuple(one.text.split("\n")[0].split(" ")[1:3])

@@ -49,7 +49,8 @@ class History:
         return self.store / f"{serial:010}.json"
 
     def entry(self, serial):
-        """A row as it stands, and the time of its file; None where it is not there, or not whole."""
+        """A row as it stands, and the time of its file; None where it is not there, or not whole.
+        A row as it stands, and the time of its file; None where it is not there, or not whole."""
         try:
             text = self.path(serial).read_text(encoding="utf-8")
             entry = json.loads(text) if text.endswith("\n") else None
@@ -88,10 +89,12 @@ class History:
         with self.lock:
             last, numbering = self.touched.last.get(number), self.touched.numbering
             is_later = numbering is not None and (last is None or numbering > last)
-            return [None if it is None else self.row(it) for it in (last, numbering if is_later else None)]
+            return [None if it is None else self.row(it)
+                    for it in (last, numbering if is_later else None)]
 
     def changed(self, serial):
-        """The sheets and the symbols that the rows from a serial on changed; None for all sheets."""
+        """The sheets and the symbols that the rows from a serial on changed; None for all sheets.
+        The sheets and the symbols that the rows from a serial on changed; None for all sheets."""
         self.catch_up()
         with self.lock:
             rows = self.touched.rows[serial:]
@@ -100,7 +103,8 @@ class History:
         return None if is_any else sheets, set().union(*(it.symbols for it in rows))
 
     def catch_up(self):
-        """Reads the rows that were not read yet, some at once, so that others are answered meanwhile."""
+        """Reads the rows that were not read yet, some at once, so that others are answered
+        meanwhile."""
         is_more = True
         while is_more:
             with self.lock:
@@ -115,7 +119,8 @@ class History:
 
 
 class Row(NamedTuple):
-    """What an edit changed: ids of objects, names of sheets, or None for any sheet, and of symbols."""
+    """What an edit changed: ids of objects, names of sheets, or None for any sheet, and of symbols.
+    What an edit changed: ids of objects, names of sheets, or None for any sheet, and of symbols."""
 
     ids: Sequence[int] = ()
     sheets: Optional[frozenset] = frozenset()
@@ -144,7 +149,8 @@ class Touched:
     def row_of(self, edit):
         kind = edit["kind"]
         if kind in ("add_sheet", "add_object"):
-            return self.added(edit["name" if kind == "add_sheet" else "sheet"], edit["text"], kind == "add_sheet")
+            return self.added(edit["name" if kind == "add_sheet" else "sheet"], edit["text"],
+                              kind == "add_sheet")
         if kind in ("add_symbol", "replace_symbol"):
             return Row(symbols=frozenset([edit["name"]]))
         if kind == "renumber":

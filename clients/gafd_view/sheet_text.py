@@ -1,5 +1,6 @@
 """Sheets and symbols as texts (docs/FORMATS.md, "Sheets and symbols"), as far as a page needs them:
-their objects, the symbols and sheets that these name, and their attributes. Nothing is refused here."""
+their objects, the symbols and sheets that these name, and their attributes. Nothing is refused
+here."""
 from typing import NamedTuple
 
 
@@ -17,7 +18,8 @@ class SheetObject(NamedTuple):
 
 
 class Lines:
-    """The lines of a text, which are taken one after the other. Blank ones do not count before objects."""
+    """The lines of a text, which are taken one after the other. Blank ones do not count before
+    objects."""
 
     def __init__(self, text):
         self.lines, self.at = text.split("\n"), 0

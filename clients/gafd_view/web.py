@@ -1,8 +1,8 @@
 """What the page asks for, over HTTP on the loopback: its own files, the board, and the history.
 
-A page from elsewhere that a browser shows can reach the loopback too. So a request is answered under
-the names of this address alone, and an edit has to come from this page, as JSON. Each connection has
-a thread of its own, and ends soon.
+A page from elsewhere that a browser shows can reach the loopback too. So a request is answered
+under the names of this address alone, and an edit has to come from this page, as JSON. Each
+connection has a thread of its own, and ends soon.
 """
 import json
 import re
@@ -125,7 +125,8 @@ class Handler(BaseHTTPRequestHandler):
         if self.server.history is None or serial is None:
             return self.refuse(serial)
         rows = self.server.history.since(serial)
-        body = "".join(json.dumps(it, ensure_ascii=False, separators=(",", ":")) + "\n" for it in rows)
+        body = "".join(json.dumps(it, ensure_ascii=False, separators=(",", ":")) + "\n"
+                       for it in rows)
         return self.answer(Answer(200, None, body.encode()), LINES)
 
     def who(self, query):
@@ -137,13 +138,15 @@ class Handler(BaseHTTPRequestHandler):
         return self.json({"row": row, "numbering": numbering})
 
     def changed(self, query):
-        """The sheets and symbols that changed since a front, where the history or the files tell it."""
+        """The sheets and symbols that changed since a front, where the history or the files tell
+        it."""
         serial = number_in(query, "from")
         teller = self.server.history or self.server.board
         if serial is None or not hasattr(teller, "changed"):
             return self.refuse(serial)
         sheets, symbols = teller.changed(serial)
-        return self.json({"sheets": None if sheets is None else sorted(sheets), "symbols": sorted(symbols)})
+        return self.json({"sheets": None if sheets is None else sorted(sheets),
+                          "symbols": sorted(symbols)})
 
     def watch(self, query):
         """Waits until there are more edits than so many, half a minute at most; tells the front."""
@@ -174,7 +177,8 @@ class Handler(BaseHTTPRequestHandler):
         browser asks for many at once."""
         self.close_connection = self.close_connection or is_last
         self.send_response(answer.status)
-        headers = {"Content-Type": kind, "Content-Length": len(answer.body), "Cache-Control": "no-store", "Content-Security-Policy": POLICY,
+        headers = {"Content-Type": kind, "Content-Length": len(answer.body),
+                   "Cache-Control": "no-store", "Content-Security-Policy": POLICY,
                    "X-Content-Type-Options": "nosniff", "Referrer-Policy": "no-referrer"}
         if self.close_connection:
             headers["Connection"] = "close"

@@ -13,7 +13,8 @@ const knownAttributes = new WeakMap();
 /** The names and values of the attributes among some texts. */
 export function attributesAmong(texts) {
   if (!knownAttributes.has(texts)) {
-    knownAttributes.set(texts, texts.filter((it) => it.letter === "T").map(splitAttribute).filter((it) => it));
+    knownAttributes.set(texts, texts.filter((it) => it.letter === "T").map(splitAttribute)
+      .filter((it) => it));
   }
   return knownAttributes.get(texts);
 }
@@ -49,7 +50,8 @@ export function isDirective(component, symbols) {
 /** The sheets below a component; a graphical component and a directive have none. */
 export function sourcesOf(object, symbols) {
   if (object.letter !== "C" || attributeValue(object, "graphical", symbols) === "1") return [];
-  return isDirective(object, symbols) ? [] : [...new Set(attributeValues(object, "source", symbols))];
+  return isDirective(object, symbols) ? []
+    : [...new Set(attributeValues(object, "source", symbols))];
 }
 
 /** The numbers that a component's slot gives to its pins, by `pinseq` from 1; null without. */
@@ -61,6 +63,7 @@ export function slotNumbers(component, symbols) {
   const found = attributeValues(component, "slotdef", symbols)
     .find((it) => it.includes(":") && small(it.split(":")[0]) === slot);
   if (!found) return null;
-  const numbers = found.slice(found.indexOf(":") + 1).split(",").map((it) => it.replace(/^ +| +$/g, ""));
+  const numbers = found.slice(found.indexOf(":") + 1).split(",")
+    .map((it) => it.replace(/^ +| +$/g, ""));
   return numbers.every((it) => it !== "" && !/[\s\x00-\x1f]/.test(it)) ? numbers : null;
 }

@@ -1,5 +1,5 @@
-// The board as the server has it. Nothing here is guessed: what is kept is what was answered, with the
-// front at which it stood (docs/SERVER.md).
+// The board as the server has it. Nothing here is guessed: what is kept is what was answered, with
+// the front at which it stood (docs/SERVER.md).
 
 import { changesOf } from "./changes.js";
 import { readFindings } from "./findings.js";
@@ -14,7 +14,9 @@ const MOST_HISTORY = 200;
 /** A sheet that the server has, but cannot show: a file that is refused. */
 export class Refused extends Error {}
 
-/** The objects of a sheet with their ids, text and ids of one moment; null where it is not there. */
+/**
+ * The objects of a sheet with their ids, text and ids of one moment; null where it is not there.
+ */
 export async function readSheetBy(ask, name) {
   for (let tries = 0; tries < TRIES; tries++) {
     const [text, ids] = await Promise.all([ask(`sheets/${name}`), ask(`objects/${name}`)]);
@@ -31,7 +33,8 @@ export async function readSheetBy(ask, name) {
 
 /** The names of the library symbols that objects name. */
 export function symbolNames(objects) {
-  return [...new Set(objects.filter((it) => it.letter === "C" && !it.parts).map((it) => it.basename))];
+  return [...new Set(objects.filter((it) => it.letter === "C" && !it.parts)
+    .map((it) => it.basename))];
 }
 
 export class Board {
@@ -71,7 +74,9 @@ export class Board {
     this.about = (await askView("about")) || this.about;
   }
 
-  /** The length of the history. The sheets that came, or whose number of objects changed, are stale. */
+  /**
+   * The length of the history. The sheets that came, or whose number of objects changed, are stale.
+   */
   async look() {
     const { front, text } = await askBoard("sheets");
     const counts = new Map(text.split("\n").filter((it) => it).map((it) => it.split(" ")));
@@ -111,7 +116,8 @@ export class Board {
       return this.refuse(name, error.message);
     }
     if (!read.objects) return this.dropSheet(name);
-    const hasSymbols = await this.readSymbols(symbolNames(read.objects).filter((it) => !this.symbolTexts.get(it)));
+    const hasSymbols = await this.readSymbols(symbolNames(read.objects)
+      .filter((it) => !this.symbolTexts.get(it)));
     const before = this.sheets.get(name);
     this.sheets.set(name, read.objects);
     this.fronts.set(name, read.front);
@@ -123,7 +129,8 @@ export class Board {
   refuse(name, line) {
     this.refusals.set(name, line);
     if (!this.sheets.has(name)) this.sheets.set(name, []);
-    return { changed: [], added: [], gone: [], isNew: this.sheets.get(name).length === 0, hasSymbols: false };
+    return { changed: [], added: [], gone: [], isNew: this.sheets.get(name).length === 0,
+      hasSymbols: false };
   }
 
   /** Reads library symbols; whether one of them is another than before. */
@@ -132,7 +139,8 @@ export class Board {
     await forEachAtOnce(names, async (name) => {
       // Sheets that are read at once ask for a symbol once.
       if (!this.symbolReadings.has(name)) {
-        this.symbolReadings.set(name, this.readSymbol(name).finally(() => this.symbolReadings.delete(name)));
+        this.symbolReadings.set(name,
+          this.readSymbol(name).finally(() => this.symbolReadings.delete(name)));
       }
       isOther = (await this.symbolReadings.get(name)) || isOther;
     });
@@ -168,7 +176,8 @@ export class Board {
    * one moment and have to be read again.
    */
   async readLists(front) {
-    const [list, findings] = await Promise.all([askBoard(`netlist/list?min=${front}`), askBoard(`drc?min=${front}`)]);
+    const [list, findings] = await Promise.all([askBoard(`netlist/list?min=${front}`),
+      askBoard(`drc?min=${front}`)]);
     if (list.front !== front || findings.front !== front) return false;
     this.listFault = null;
     if (list.status !== 200 || findings.status !== 200) {

@@ -7,7 +7,8 @@ export function changesOf(before, objects) {
   const old = new Map(before.map((it) => [it.id, it]));
   const now = new Set(objects.map((it) => it.id));
   const added = objects.filter((it) => !old.has(it.id));
-  const changed = objects.map((it) => [old.get(it.id), it]).filter(([was, is]) => was && was.text !== is.text);
+  const changed = objects.map((it) => [old.get(it.id), it])
+    .filter(([was, is]) => was && was.text !== is.text);
   return { changed, added, gone: before.filter((it) => !now.has(it.id)) };
 }
 
@@ -26,6 +27,7 @@ function maskedLines({ parts, nets }) {
 export function netListChanges(old, now) {
   const keyed = (list) => new Map(maskedLines(list).map((it) => [it.join("\t"), it]));
   const [before, after] = [keyed(old), keyed(now)];
-  const only = (one, other) => [...one].filter(([key]) => !other.has(key)).map(([, line]) => line).sort();
+  const only = (one, other) => [...one].filter(([key]) => !other.has(key))
+    .map(([, line]) => line).sort();
   return { gone: only(before, after), added: only(after, before) };
 }

@@ -1,5 +1,5 @@
-// Two fronts beside each other: what was added to the shown sheet since an earlier front, what is gone,
-// and what changed, in three colours; and what the net lists differ in.
+// Two fronts beside each other: what was added to the shown sheet since an earlier front, what is
+// gone, and what changed, in three colours; and what the net lists differ in.
 
 import { readSheetBy, symbolNames } from "./board.js";
 import { newCanvas } from "./canvas.js";
@@ -56,7 +56,9 @@ export function endComparison() {
   showList();
 }
 
-/** Shows the comparison with what the sheet is now; one of another sheet is ended, or begun anew. */
+/**
+ * Shows the comparison with what the sheet is now; one of another sheet is ended, or begun anew.
+ */
 export function showComparison() {
   const { comparison } = shown;
   if (!comparison) return undefined;
@@ -66,9 +68,12 @@ export function showComparison() {
   }
   const { changed, added, gone } = changesOf(comparison.objects, shownObjects());
   const canvas = newCanvas(comparison.symbols, shown.sizes);
-  byId("past").innerHTML = [...gone.map((it) => [it, "is-gone"]), ...changed.map(([was]) => [was, "was"])]
-    .map(([object, kind]) => `<g class="${kind}">${drawObject({ ...object, id: `past${object.id}` }, canvas)}</g>`)
-    .join("");
+  const draw = (object, kind) => {
+    const drawn = drawObject({ ...object, id: `past${object.id}` }, canvas);
+    return `<g class="${kind}">${drawn}</g>`;
+  };
+  const past = changed.map(([was]) => draw(was, "was"));
+  byId("past").innerHTML = [...gone.map((it) => draw(it, "is-gone")), ...past].join("");
   for (const object of added) elementOf(object.id)?.classList.add("is-added");
   for (const [, object] of changed) elementOf(object.id)?.classList.add("is-changed");
   document.body.classList.add("comparing");
@@ -90,12 +95,14 @@ function listChanges({ front, sheet, list }, { changed, added, gone }) {
   ];
   const nets = list ? netListChanges(list, board.list) : { gone: [], added: [] };
   const lines = [...nets.gone.map((it) => ["<", it]), ...nets.added.map((it) => [">", it])]
-    .map(([sign, [kind, name, rest]]) => `<tr><td>${escapeText(sign)}</td><td>${kind} ${escapeText(name)} `
+    .map(([sign, [kind, name,
+      rest]]) => `<tr><td>${escapeText(sign)}</td><td>${kind} ${escapeText(name)} `
       + `<small>${escapeText(rest)}</small></td></tr>`);
   byId("list").innerHTML = `<p><b>${escapeText(sheet)}</b> since edit ${front} `
     + '<button id="end-comparison">end</button></p>'
     + `<p><button data-compare="${Math.max(0, front - STEP)}">one earlier</button> `
     + `<button data-compare="${front + STEP}">one later</button></p>`
     + `<table>${rows.join("") || "<tr><td>nothing changed on it</td></tr>"}</table>`
-    + `<p>parts and nets of the board</p><table>${lines.join("") || "<tr><td>nothing changed</td></tr>"}</table>`;
+    + "<p>parts and nets of the board</p>"
+    + `<table>${lines.join("") || "<tr><td>nothing changed</td></tr>"}</table>`;
 }

@@ -28,11 +28,15 @@ function endKind(piece, x, y, ends) {
   const across = ends.across(x, y)
     .filter((it) => it !== piece && (it.isBus === piece.isBus || piece.letter === "N"));
   const isBus = [piece, ...across].some((it) => it.isBus);
-  if (across.length || (piece.letter === "N" && others.length > 1)) return { isJunction: true, isBus };
+  if (across.length || (piece.letter === "N" && others.length > 1)) {
+    return { isJunction: true, isBus };
+  }
   return { isOpen: !others.length && piece.letter !== "U" };
 }
 
-/** The junctions of a sheet as x, y and whether it is a bus's, and its open ends as x and y; y up. */
+/**
+ * The junctions of a sheet as x, y and whether it is a bus's, and its open ends as x and y; y up.
+ */
 export function cuesOf(objects, symbols) {
   const pieces = cuePieces(objects, symbols);
   const ends = new Ends(pieces);

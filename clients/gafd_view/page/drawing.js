@@ -1,14 +1,17 @@
-// Sheets as SVG, in the shapes, sizes and places of lepton-schematic's own output. No browser is needed.
-// Coordinates are mils with y up in a sheet, and down in SVG: each y is written negated.
+// Sheets as SVG, in the shapes, sizes and places of lepton-schematic's own output. No browser is
+// needed. Coordinates are mils with y up in a sheet, and down in SVG: each y is written negated.
 
-import { attributeValue, slotNumbers, sourcesOf, splitAttribute, symbolParts } from "./attributes.js";
+import { attributeValue, slotNumbers, sourcesOf, splitAttribute,
+  symbolParts } from "./attributes.js";
 import { EM, NAME_LOOK, DETACHED, guessedSizes, newCanvas, widenBox } from "./canvas.js";
 import { drawCues } from "./cues.js";
 import { pinsOf, placedPart } from "./placing.js";
 import { drawShape } from "./shapes.js";
 import { drawText } from "./texts.js";
 
-/** The drawing of a sheet: the SVG of each object by its id, of the cues, and the box around all. */
+/**
+ * The drawing of a sheet: the SVG of each object by its id, of the cues, and the box around all.
+ */
 export function drawSheet(objects, symbols, sizes = guessedSizes) {
   const canvas = newCanvas(symbols, sizes);
   const drawn = new Map(objects.map((it) => [it.id, drawObject(it, canvas)]));
@@ -38,18 +41,21 @@ function drawComponent(component, canvas) {
   const hasSlot = slotNumbers(component, canvas.symbols) !== null;
   return parts.map((part) => {
     // Attributes of a library symbol are shown where they are attached to the component.
-    if (part.letter === "T" && (!part.visible || (!component.parts && splitAttribute(part)))) return "";
+    const isInherited = part.letter === "T" && !component.parts && splitAttribute(part);
+    if (isInherited || (part.letter === "T" && !part.visible)) return "";
     const pin = pins.get(part);
     const texts = part.attached.filter((it) => it.visible)
       .map((it) => placedPart(pin && hasSlot ? slotText(it, pin.number) : it, component));
-    const inner = drawShape(placedPart(part, component), canvas) + texts.map((it) => drawText(it, canvas)).join("");
+    const inner = drawShape(placedPart(part, component), canvas)
+      + texts.map((it) => drawText(it, canvas)).join("");
     if (!pin || pin.place === null) return inner;
     return `<g class="pin" data-key="${component.id}.${pin.place}">${inner}</g>`;
   }).join("");
 }
 
 function slotText(text, number) {
-  return (splitAttribute(text) || [])[0] === "pinnumber" ? { ...text, content: `pinnumber=${number}` } : text;
+  return (splitAttribute(text) || [])[0] === "pinnumber"
+    ? { ...text, content: `pinnumber=${number}` } : text;
 }
 
 /** What stands for a component whose symbol is not there. */
@@ -58,6 +64,8 @@ function drawPlaceholder({ x, y, basename }, canvas) {
   const lines = [[-30, 30, 30, -30], [-30, -30, 50, 50], [50, 50, 50, 210], [50, 50, right, 50]]
     .map(([a, b, c, d]) => `M${x + a} ${-y - b}L${x + c} ${-y - d}`);
   widenBox(canvas, x - 30, y - 30, x + right, y + 210);
-  const name = { letter: "T", x: x + 100, y: y + 100, color: DETACHED, ...NAME_LOOK, content: basename };
-  return `<path class="k${DETACHED}" stroke-width="10" d="${lines.join("")}"/>` + drawText(name, canvas);
+  const name = { letter: "T", x: x + 100, y: y + 100, color: DETACHED, ...NAME_LOOK,
+    content: basename };
+  return `<path class="k${DETACHED}" stroke-width="10" d="${lines.join("")}"/>`
+    + drawText(name, canvas);
 }

@@ -1,6 +1,6 @@
 // Light edits: each is one entry, on what is shown. Nothing is drawn before the server has it.
 
-import { refresh } from "./following.js";
+import { redrawShown, refresh } from "./following.js";
 import { anchorOf } from "./placing.js";
 import { board, byId, entries, notice, objectOf, shown } from "./state.js";
 import { faultWords } from "./words.js";
@@ -36,6 +36,7 @@ async function send(edit, ids, base) {
   }
   isSending = false;
   document.body.classList.remove("sending");
+  if (!answer.fault) await redrawShown().catch(() => {});
   await refresh();
   if (answer.fault) notice(faultWords(answer, ids), 15);
   return !answer.fault;
@@ -86,14 +87,17 @@ export function addObject(text) {
 export function replaceText(object, content, base) {
   const fields = object.text.split("\n")[0].split(" ");
   fields[fields.length - 1] = String(content.split("\n").length);
-  return send({ kind: "replace", id: object.id, text: `${fields.join(" ")}\n${content}\n` }, [object.id], base);
+  return send({ kind: "replace", id: object.id, text: `${fields.join(" ")}\n${content}\n` },
+    [object.id], base);
 }
 
 export function renumber() {
   return send({ kind: "renumber" }, [], shownFront());
 }
 
-/** Takes back one's own last edit that stands; of a page that was loaded anew the history tells it. */
+/**
+ * Takes back one's own last edit that stands; of a page that was loaded anew the history tells it.
+ */
 export function undo() {
   const serial = entries.own.length ? entries.own[entries.own.length - 1] : lastOwn();
   if (serial === undefined) return notice("there is nothing of yours to take back");
@@ -101,7 +105,9 @@ export function undo() {
 }
 
 function lastOwn() {
-  const undone = new Set(board.history.filter((it) => it.edit.kind === "undo").map((it) => it.edit.serial));
-  return board.history.findLast(({ serial, session: by, edit }) => by === byId("session").value.trim()
+  const undone = new Set(board.history.filter((it) => it.edit.kind === "undo")
+    .map((it) => it.edit.serial));
+  return board.history.findLast(({ serial, session: by,
+    edit }) => by === byId("session").value.trim()
     && edit.kind !== "undo" && !undone.has(serial))?.serial;
 }

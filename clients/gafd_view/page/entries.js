@@ -1,4 +1,5 @@
-// Edits as entries (docs/FORMATS.md, "Entries as JSON"): each is sent once, under its session's number.
+// Edits as entries (docs/FORMATS.md, "Entries as JSON"): each is sent once, under its session's
+// number.
 
 import { request } from "./server.js";
 

@@ -35,7 +35,8 @@ function toPaper() {
 
 /** Takes ground and session as the browser remembers them. */
 export function recall() {
-  const isDark = localStorage.getItem("dark") ?? String(matchMedia("(prefers-color-scheme: dark)").matches);
+  const isDark = localStorage.getItem("dark")
+    ?? String(matchMedia("(prefers-color-scheme: dark)").matches);
   document.body.classList.toggle("dark", isDark === "true");
   byId("session").value = localStorage.getItem("session") || "";
 }

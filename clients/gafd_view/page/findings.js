@@ -1,5 +1,5 @@
-// The report of the check (docs/FORMATS.md, "Report"), where its findings stand, and the page's own:
-// rails that meet.
+// The report of the check (docs/FORMATS.md, "Report"), where its findings stand, and the page's
+// own: rails that meet.
 
 import { globalNames } from "./nets.js";
 
@@ -14,7 +14,10 @@ export function readFindings(text) {
 const OF_NETS = ["Conflict", "OnePin", "NotDriven", "NoConnection", "RailsMeet"];
 const OF_PINS = ["UnknownPintype", "UnconnectedPin", "PinOnTwoNets"];
 
-/** Where a finding leads to: `net:GND`, `pin:R4-1`, `part:R4`, `id:SHEET:ID`, `symbol:..` or `sheet:..`. */
+/**
+ * Where a finding leads to: `net:GND`, `pin:R4-1`, `part:R4`, `id:SHEET:ID`, `symbol:..` or
+ * `sheet:..`.
+ */
 export function linkOf({ name, words }, netNames) {
   if (name === "NoRefdes" || name === "BadNet") return `id:${words[0]}:${words[1]}`;
   if (name === "MissingSymbol") return `symbol:${words[0]}:${words.slice(1).join(" ")}`;
@@ -30,11 +33,15 @@ export function findingText({ name, words }) {
   return `${name} ${words.join(" ")}`;
 }
 
-/** The key of the first pin, or else wire, of each group of a net; of rails that meet, of each such pin. */
+/**
+ * The key of the first pin, or else wire, of each group of a net; of rails that meet, of each such
+ * pin.
+ */
 function keysOfNet(net, groups, finding, symbols) {
   const conductors = groups.filter((it) => it.net === net).map((it) => it.conductors);
   if (finding.name === "RailsMeet") {
-    return conductors.flat().filter((it) => it.pin && globalNames(it.object, it.pin.number, symbols).length)
+    return conductors.flat().filter((it) => it.pin
+      && globalNames(it.object, it.pin.number, symbols).length)
       .map((it) => it.key);
   }
   return conductors.slice(0, 1).map((it) => (it.find((one) => one.pin) || it[0]).key);
@@ -58,7 +65,9 @@ function spotsOf(finding, link, { instance, objects, places, groups, symbols }) 
   return objects.filter((it) => it.letter === "C" && it.basename === name).map((it) => `${it.id}`);
 }
 
-/** The findings of what is shown by their spots: `ID` for an object, `ID.PLACE` for a pin or a wire. */
+/**
+ * The findings of what is shown by their spots: `ID` for an object, `ID.PLACE` for a pin or a wire.
+ */
 export function findingsAt(findings, netNames, shown) {
   const found = new Map();
   for (const finding of findings) {
@@ -79,8 +88,11 @@ export function addRails(rails, groups, symbols) {
   return rails;
 }
 
-/** Nets on which two global names and more meet, as findings. The report of the check has none such. */
+/**
+ * Nets on which two global names and more meet, as findings. The report of the check has none such.
+ */
 export function railsThatMeet(rails) {
   return [...rails].filter(([, names]) => names.size > 1)
-    .map(([net, names]) => ({ level: "error", name: "RailsMeet", words: [net, ...[...names].sort()] }));
+    .map(([net, names]) => ({ level: "error", name: "RailsMeet",
+      words: [net, ...[...names].sort()] }));
 }

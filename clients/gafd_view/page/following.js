@@ -4,10 +4,12 @@ import { addRails, railsThatMeet } from "./findings.js";
 import { showList, showTrail } from "./lists.js";
 import { netsIn } from "./nets.js";
 import { addressed, open } from "./navigation.js";
-import { drawAll, drawChanges, drawFindings, elementOf, frame, light, markLooseEnds } from "./picture.js";
+import { drawAll, drawChanges, drawFindings, elementOf, frame, light,
+  markLooseEnds } from "./picture.js";
 import { symbolNames } from "./board.js";
 import { Away } from "./server.js";
-import { board, byId, instanceOf, notice, sheetOf, shown, shownInstance, shownObjects } from "./state.js";
+import { board, byId, instanceOf, notice, sheetOf, shown, shownInstance,
+  shownObjects } from "./state.js";
 import { escapeText } from "./texts.js";
 import { changeWords, label } from "./words.js";
 
@@ -37,10 +39,24 @@ async function readUntilDone() {
       showState("");
     } catch (error) {
       showState("away");
-      if (!(error instanceof Away)) notice(`the page did not understand what it read: ${error.message}`);
+      if (error instanceof Away) continue;
+      notice(`the page did not understand what it read: ${error.message}`);
     }
     if (isAskedAgain) await pause(200);
   }
+}
+
+// What was read and drawn, and is told with the next reading.
+const untold = [];
+
+/** Reads and draws the shown sheet at once, as after one's own edit. */
+export async function redrawShown() {
+  const { sheet } = shown.at;
+  board.stale.add(sheet);
+  await board.readStale((name, changes) => {
+    untold.push([name, changes]);
+    if (name === shown.at.sheet && board.sheets.has(name)) drawChanges(changes);
+  }, (name) => name === sheet);
 }
 
 let awaySince = null;
@@ -48,8 +64,10 @@ let awaySince = null;
 function showState(state) {
   awaySince = state === "away" ? awaySince || new Date() : null;
   byId("status").className = state;
-  const count = board.about.kind === "folder" ? `${board.name || board.about.name}` : `${board.front} edits`;
-  byId("status").textContent = awaySince ? `the server is away since ${awaySince.toLocaleTimeString()}` : count;
+  const count = board.about.kind === "folder" ? `${board.name || board.about.name}`
+    : `${board.front} edits`;
+  byId("status").textContent = awaySince
+    ? `the server is away since ${awaySince.toLocaleTimeString()}` : count;
 }
 
 /** Reads what changed since the last reading: the shown sheet first, and all else behind it. */
@@ -58,7 +76,7 @@ async function readBoard() {
   if (front === board.front) return readRest();
   if (front < board.front) return location.reload();
   const since = board.front;
-  const told = [];
+  const told = untold.splice(0);
   const isFirst = !shown.at;
   if (isFirst) shown.at = firstSheet();
   const takes = (name, changes) => {
@@ -67,7 +85,7 @@ async function readBoard() {
   };
   const isKnown = await board.markChanged();
   await board.readStale(takes, (name) => name === shown.at?.sheet);
-  if (isFirst && shown.at) requestAnimationFrame(() => setTimeout(() => performance.mark("pictured")));
+  if (isFirst && shown.at) markPictured();
   const [isOfFront] = await Promise.all([
     board.readLists(front),
     board.readHistory(front),
@@ -90,7 +108,9 @@ async function readBoard() {
 let isRestRead = false;
 let restReading = null;
 
-/** Reads the sheets that were never read, and looks for rails on all; others are not kept waiting. */
+/**
+ * Reads the sheets that were never read, and looks for rails on all; others are not kept waiting.
+ */
 function readRest() {
   if (isRestRead || !shown.at) return;
   isRestRead = true;
@@ -100,6 +120,11 @@ function readRest() {
     .finally(() => { restReading = null; });
 }
 
+/** Notes for measurements when the first picture is there. */
+function markPictured() {
+  requestAnimationFrame(() => setTimeout(() => performance.mark("pictured")));
+}
+
 /** Reads the symbols again that changed; where nobody tells which, those of the shown sheet. */
 async function readSymbolsAnew() {
   if (board.front < 0) return;
@@ -107,7 +132,10 @@ async function readSymbolsAnew() {
   if (isOther && shown.at) drawAll();
 }
 
-/** The sheet that the address names, the only one, or the first of many; else it is chosen once all are read. */
+/**
+ * The sheet that the address names, the only one, or the first of many; else it is chosen once all
+ * are read.
+ */
 function firstSheet() {
   const asked = addressed();
   if (asked && board.counts.has(asked.sheet)) return asked;
@@ -118,7 +146,8 @@ function firstSheet() {
 function leaveLostSheet() {
   shown.at = board.instances[0] || (board.counts.size ? instanceOf(board.names[0]) : null);
   if (shown.at) return open(shown.at, true);
-  for (const name of ["drawn", "cues", "marks", "findings", "sheets", "trail"]) byId(name).innerHTML = "";
+  const shownNames = ["drawn", "cues", "marks", "findings", "sheets", "trail"];
+  for (const name of shownNames) byId(name).innerHTML = "";
   return showList();
 }
 
@@ -153,7 +182,8 @@ async function findRails() {
   for (const [place, instance] of board.instances.entries()) {
     if (place % RAILS_AT_ONCE === RAILS_AT_ONCE - 1) await pause(0);
     if (railsFront !== front) return;
-    const { groups } = netsIn(instance, board.sheets.get(instance.sheet) || [], board.symbols, board.list);
+    const { groups } = netsIn(instance, board.sheets.get(instance.sheet) || [], board.symbols,
+      board.list);
     addRails(rails, groups, board.symbols);
   }
   shown.rails = railsThatMeet(rails);
@@ -172,7 +202,8 @@ function tell(name, { changed, added, gone, isNew }, since) {
   for (const object of added) log(object.id, name, `${label(object, at)} came on ${name}`, since);
   for (const object of gone) log(object.id, name, `${label(object, at)} went from ${name}`, since);
   if (name !== shown.at.sheet) return;
-  const elements = [...changed.map(([, is]) => is), ...added].map((it) => elementOf(it.id)).filter((it) => it);
+  const elements = [...changed.map(([, is]) => is), ...added].map((it) => elementOf(it.id))
+    .filter((it) => it);
   for (const one of elements) one.classList.add("changed");
   setTimeout(() => elements.forEach((it) => it.classList.remove("changed")), FRAMED * 1000);
   frame(elements.map((it) => it.getBBox()), "", FRAMED);

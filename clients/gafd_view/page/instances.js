@@ -1,5 +1,5 @@
-// The instances of the sheets, and where a printed refdes or pin stands (docs/RULES.md, "Instances",
-// "Ports", "Packages").
+// The instances of the sheets, and where a printed refdes or pin stands (docs/RULES.md,
+// "Instances", "Ports", "Packages").
 
 import { attributeValue, isDirective, sourcesOf } from "./attributes.js";
 import { pinsOf } from "./placing.js";
@@ -36,7 +36,8 @@ export function instancesOf(sheets, symbols) {
     for (const { component, source } of below.get(sheet)) {
       const refdes = attributeValue(component, "refdes", symbols);
       if (refdes === undefined || names.includes(source) || names.length > MOST_DEPTH) continue;
-      if (found.length < MOST_INSTANCES) enter(source, pathBelow(path, refdes), component, instance);
+      if (found.length >= MOST_INSTANCES) return;
+      enter(source, pathBelow(path, refdes), component, instance);
     }
   };
   for (const name of [...sheets.keys()].sort()) if (!named.has(name)) enter(name, "", null, null);
@@ -57,7 +58,8 @@ export function refdesIn(component, instance, symbols) {
 
 /** Whether the net list has the component's pins: it is no sheet, no port and no picture. */
 export function isListed(component, instance, symbols) {
-  if (attributeValue(component, "graphical", symbols) === "1" || isDirective(component, symbols)) return false;
+  if (attributeValue(component, "graphical", symbols) === "1"
+    || isDirective(component, symbols)) return false;
   if (sourcesOf(component, symbols).length) return false;
   const refdes = attributeValue(component, "refdes", symbols);
   if (refdes === undefined || refdes.includes("\n")) return false;
@@ -65,10 +67,14 @@ export function isListed(component, instance, symbols) {
   return !ports.includes(refdes);
 }
 
-/** Where each printed refdes and each printed pin stands: lists of instance, id and place of the pin. */
+/**
+ * Where each printed refdes and each printed pin stands: lists of instance, id and place of the
+ * pin.
+ */
 export function placesOf(instances, sheets, symbols) {
   const [parts, pins] = [new Map(), new Map()];
-  const add = (map, name, place) => (map.has(name) ? map.get(name).push(place) : map.set(name, [place]));
+  const add = (map, name, place) => (map.has(name) ? map.get(name).push(place)
+    : map.set(name, [place]));
   for (const instance of instances) {
     for (const object of sheets.get(instance.sheet)) {
       const refdes = object.letter === "C" ? refdesIn(object, instance, symbols) : null;

@@ -84,7 +84,8 @@ function actionOf(event) {
 
 function pressed(event) {
   const { target } = event;
-  if (/INPUT|SELECT|TEXTAREA|DIALOG/.test(target.tagName) || event.altKey || event.metaKey || !shown.at) return;
+  if (/INPUT|SELECT|TEXTAREA|DIALOG/.test(target.tagName) || event.altKey || event.metaKey
+    || !shown.at) return;
   if (event.key === "Enter" && target.closest("button, [data-link], [data-compare]")) {
     if (target.tagName !== "BUTTON") target.click();
     return;

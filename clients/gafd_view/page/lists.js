@@ -1,5 +1,5 @@
-// The lists beside the sheet: nets, findings, parts, the chosen object, and the history; and the trail
-// down to the shown instance.
+// The lists beside the sheet: nets, findings, parts, the chosen object, and the history; and the
+// trail down to the shown instance.
 
 import { attributesAmong, symbolParts } from "./attributes.js";
 import { findingText, linkOf } from "./findings.js";
@@ -13,7 +13,8 @@ const MOST_ROWS = 500;
 const MOST_MEMBERS = 30;
 
 function table(list, row) {
-  const more = list.length > MOST_ROWS ? `<p><small>and ${list.length - MOST_ROWS} more</small></p>` : "";
+  const more = list.length > MOST_ROWS
+    ? `<p><small>and ${list.length - MOST_ROWS} more</small></p>` : "";
   return `<table>${list.slice(0, MOST_ROWS).map(row).join("")}</table>${more}`;
 }
 
@@ -29,10 +30,12 @@ function anchor(link, text) {
 }
 
 function netRow({ name, members }) {
-  const some = members.length > MOST_MEMBERS && name !== shown.net ? members.slice(0, MOST_MEMBERS) : members;
+  const some = members.length > MOST_MEMBERS && name !== shown.net ? members.slice(0, MOST_MEMBERS)
+    : members;
   const more = some.length < members.length ? ` and ${members.length - some.length} more` : "";
   const pins = some.map((it) => anchor(`pin:${it}`, it)).join(" ") + more;
-  return row(`net:${name}`, [escapeText(name), `<small>${pins}</small>`], name === shown.net ? "on" : "");
+  return row(`net:${name}`, [escapeText(name), `<small>${pins}</small>`], name === shown.net ? "on"
+    : "");
 }
 
 function partRow({ refdes, device, value, footprint }) {
@@ -61,22 +64,26 @@ function findingTable() {
 /** The chosen object with its attributes, of which the attached ones can be changed. */
 function objectTable() {
   const object = shown.chosen.size === 1 && objectOf([...shown.chosen][0]);
-  if (!object) return `<p>${shown.chosen.size ? `${shown.chosen.size} objects` : "nothing is chosen"}</p>`;
+  const { size } = shown.chosen;
+  if (!object) return `<p>${size ? `${size} objects` : "nothing is chosen"}</p>`;
   const own = attributesAmong(object.attached);
-  const inherited = attributesAmong((object.letter === "C" && symbolParts(object, board.symbols)) || [])
+  const inherited = attributesAmong((object.letter === "C" && symbolParts(object, board.symbols))
+    || [])
     .filter(([name]) => !own.some((it) => it[0] === name));
   const rows = object.letter === "T" ? textField(object)
     : own.map((it) => attributeField(object, it)).join("") + newField(object);
   const given = inherited.map(([name, text]) => `<tr><td><small>${escapeText(name)}</small></td>`
     + `<td><small>${escapeText(text)}</small></td></tr>`);
   return `<p><b>${escapeText(label(object))}</b> <small>${object.letter} ${object.id} `
-    + `${escapeText(object.basename || "")}</small></p><table>${rows}${given.join("")}</table>${pinTable(object)}`;
+    + `${escapeText(object.basename || "")}</small></p>`
+    + `<table>${rows}${given.join("")}</table>${pinTable(object)}`;
 }
 
 function attributeField({ id }, [name, value]) {
   const [shownName, shownValue] = [escapeText(name), escapeText(value)];
   return `<tr><td>${shownName}</td><td><input data-of="${id}" data-attribute="${shownName}" `
-    + `aria-label="${shownName}" value="${shownValue}"> <button class="only-edit drop" data-of="${id}" `
+    + `aria-label="${shownName}" value="${shownValue}"> `
+    + `<button class="only-edit drop" data-of="${id}" `
     + `data-drop="${shownName}" title="take ${shownName} away">×</button></td></tr>`;
 }
 
@@ -86,7 +93,8 @@ function newField({ id }) {
 }
 
 function textField({ id, content }) {
-  return `<tr><td colspan="2"><textarea data-of="${id}" data-text="" aria-label="the text" rows="4">`
+  return '<tr><td colspan="2">'
+    + `<textarea data-of="${id}" data-text="" aria-label="the text" rows="4">`
     + `\n${escapeText(content)}</textarea></td></tr>`;
 }
 
@@ -104,11 +112,13 @@ function netLine(net) {
 }
 
 function historyRow({ serial, session, time, edit }) {
-  const digits = { month: "2-digit", day: "2-digit", hour: "2-digit", minute: "2-digit", hour12: false };
+  const digits = { month: "2-digit", day: "2-digit", hour: "2-digit", minute: "2-digit",
+    hour12: false };
   const first = (edit.ids || [edit.id])[0];
   const compare = board.about.past ? ` <a data-compare="${serial}" tabindex="0" role="link" `
     + 'title="show what changed since before this edit">compare</a>' : "";
-  return row(first === undefined ? "" : `id::${first}`, [serial, escapeText(session), escapeText(editWords(edit)),
+  return row(first === undefined ? "" : `id::${first}`,
+    [serial, escapeText(session), escapeText(editWords(edit)),
     `<small>${new Date(time).toLocaleString([], digits)}${compare}</small>`]);
 }
 
@@ -121,9 +131,12 @@ function historyTable() {
 function found(asked) {
   const has = (...texts) => texts.some((it) => it && it.toLowerCase().includes(asked));
   const texts = shownObjects().filter((it) => it.letter === "T" && has(it.content))
-    .map((it) => row(`id:${shown.at.sheet}:${it.id}`, ["text", escapeText(it.content.slice(0, 80))]));
-  return table(board.list.parts.filter((it) => has(it.refdes, it.value, it.device, it.footprint)), partRow)
-    + table(board.list.nets.filter((it) => has(it.name) || it.members.some((one) => has(one))), netRow)
+    .map((it) => row(`id:${shown.at.sheet}:${it.id}`,
+      ["text", escapeText(it.content.slice(0, 80))]));
+  const parts = board.list.parts
+    .filter((it) => has(it.refdes, it.value, it.device, it.footprint));
+  const nets = board.list.nets.filter((it) => has(it.name) || it.members.some((one) => has(one)));
+  return table(parts, partRow) + table(nets, netRow)
     + `<table>${texts.slice(0, MOST_ROWS).join("")}</table>`;
 }
 
@@ -146,7 +159,8 @@ export function showList() {
   if (isTypedIn() || shown.comparison) return;
   const asked = byId("search").value.trim().toLowerCase();
   const scrolled = byId("list").scrollTop;
-  const focused = byId("list").contains(document.activeElement) && document.activeElement.dataset.link;
+  const focused = byId("list").contains(document.activeElement)
+    && document.activeElement.dataset.link;
   byId("list").innerHTML = asked ? found(asked) : TABS[shown.tab]();
   byId("list").scrollTop = scrolled;
   // Who goes through a list by keyboard stays at the row.
@@ -177,15 +191,19 @@ export function showTab(tab) {
 
 /** Shows the instances to choose from, and the trail down to this one. */
 export function showTrail() {
-  const options = board.instances.map((it) => [it.path ? `${it.path} (${it.sheet})` : it.sheet, it]);
+  const options = board.instances
+    .map((it) => [it.path ? `${it.path} (${it.sheet})` : it.sheet, it]);
   const reached = new Set(board.instances.map((it) => it.sheet));
-  for (const name of board.names) if (!reached.has(name)) options.push([name, { sheet: name, path: "" }]);
+  const unreached = board.names.filter((it) => !reached.has(it));
+  options.push(...unreached.map((it) => [it, { sheet: it, path: "" }]));
   const isHere = (it) => it.sheet === shown.at.sheet && it.path === shown.at.path;
-  byId("sheets").innerHTML = options.map(([text, it]) => `<option value="${escapeText(`${it.sheet}@${it.path}`)}"`
+  byId("sheets").innerHTML = options
+    .map(([text, it]) => `<option value="${escapeText(`${it.sheet}@${it.path}`)}"`
     + `${isHere(it) ? " selected" : ""}>${escapeText(text)}</option>`).join("");
   const trail = [];
   for (let it = shownInstance(); it; it = it.parent) trail.unshift(it);
   const name = (it) => (it.path ? printed(it.path.split("/").pop()) : it.sheet);
-  byId("trail").innerHTML = trail.map((it) => anchor(`at:${it.sheet}@${it.path}`, name(it))).join(" / ");
+  byId("trail").innerHTML = trail.map((it) => anchor(`at:${it.sheet}@${it.path}`, name(it)))
+    .join(" / ");
   document.title = `${shown.at.path || shown.at.sheet} - gafd`;
 }

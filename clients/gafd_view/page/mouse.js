@@ -40,7 +40,8 @@ function pressed(event) {
   const isMove = isEditing() && !shown.tool && !isMiddle && picked.id !== null;
   if (isMove && !shown.chosen.has(picked.id)) choose([picked.id], event.shiftKey);
   // While nothing is edited, a text is there to be marked and copied.
-  const isText = !isEditing() && !isMiddle && event.pointerType === "mouse" && event.target.closest("text");
+  const isText = !isEditing() && !isMiddle && event.pointerType === "mouse"
+    && event.target.closest("text");
   const base = shown.at && editing.shownFront();
   drag = { x: event.clientX, y: event.clientY, from: placeOf(event), isMove, isText, base };
   if (!isText) byId("sheet").setPointerCapture(event.pointerId);
@@ -101,7 +102,8 @@ function showNetOf(key) {
   setNet(net, shown.nets.groupOf.get(key));
   light();
   showList();
-  notice(net ? `net ${net}` : "no net: no part's pin is on it, or one that stands in several nets", 3);
+  notice(net ? `net ${net}` : "no net: no part's pin is on it, or one that stands in several nets",
+    3);
 }
 
 function doubleClicked(event) {

@@ -1,5 +1,5 @@
-// Opening instances, and leading to what a list names: `net:GND`, `part:R4`, `pin:R4-1`, `id:SHEET:12`,
-// `symbol:SHEET:res.sym`, `sheet:SHEET` or `at:SHEET@PATH`.
+// Opening instances, and leading to what a list names: `net:GND`, `part:R4`, `pin:R4-1`,
+// `id:SHEET:12`, `symbol:SHEET:res.sym`, `sheet:SHEET` or `at:SHEET@PATH`.
 
 import { freshen, showNets } from "./following.js";
 import { showList, showTrail } from "./lists.js";
@@ -21,7 +21,8 @@ export async function open(at, isBack = false) {
   shown.chosen.clear();
   shown.group = null;
   for (const name of ["marks", "findings"]) byId(name).innerHTML = "";
-  if (!isBack) history.pushState(null, "", `#${encodeURIComponent(`${shown.at.sheet}@${shown.at.path}`)}`);
+  if (!isBack) history.pushState(null, "",
+    `#${encodeURIComponent(`${shown.at.sheet}@${shown.at.path}`)}`);
   drawAll(true);
   showNets();
   showTrail();
@@ -84,7 +85,8 @@ async function goToPrinted(kind, name) {
 
 const LINKS = {
   at: (text) => open(namedInstance(text)),
-  sheet: (sheet) => (board.counts.has(sheet) ? open(instanceOf(sheet)) : notice("there is no such sheet")),
+  sheet: (sheet) => (board.counts.has(sheet) ? open(instanceOf(sheet))
+    : notice("there is no such sheet")),
   net: lightNet,
   part: (refdes) => goToPrinted("parts", refdes),
   pin: (pin) => goToPrinted("pins", pin),

@@ -1,7 +1,9 @@
-// The net list as it is printed, and the net of each wire and pin of a sheet (docs/RULES.md, "Nets",
-// "Names of nets"). The page finds what touches, and takes the name from a pin that the list has.
+// The net list as it is printed, and the net of each wire and pin of a sheet (docs/RULES.md,
+// "Nets", "Names of nets"). The page finds what touches, and takes the name from a pin that the
+// list has.
 
-import { attributeValue, attributeValues, attributesAmong, isDirective, symbolParts } from "./attributes.js";
+import { attributeValue, attributeValues, attributesAmong, isDirective,
+  symbolParts } from "./attributes.js";
 import { isListed, pathBelow, printed, refdesIn } from "./instances.js";
 import { conductorsOf, touchingGroups } from "./touching.js";
 
@@ -24,12 +26,17 @@ export function readNetList(text) {
   return { parts, nets, netsOf, names: new Set(nets.map((it) => it.name)) };
 }
 
-/** The global names that `net` gives to a pin number of a component (docs/RULES.md, "Values of `net`"). */
+/**
+ * The global names that `net` gives to a pin number of a component (docs/RULES.md, "Values of
+ * `net`").
+ */
 export function globalNames(component, number, symbols) {
   if (isDirective(component, symbols)) return [];
-  const cut = (texts) => attributesAmong(texts).filter(([name]) => name === "net").map(([, value]) => {
+  const cut = (texts) => attributesAmong(texts).filter(([name]) => name === "net")
+    .map(([, value]) => {
     const at = value.indexOf(":");
-    return [value.slice(0, at), at > 0 ? value.slice(at + 1).split(",").map((it) => it.trim()) : []];
+    return [value.slice(0, at), at > 0 ? value.slice(at + 1).split(",").map((it) => it.trim())
+      : []];
   });
   const attached = cut(component.attached).filter(([, numbers]) => numbers.includes(number));
   // An attached value takes its numbers from the inherited ones.
@@ -41,7 +48,8 @@ export function globalNames(component, number, symbols) {
 /** The names that a wire or a pin brings: netnames, and global names. */
 function namesAt({ object, pin }, instance, symbols) {
   if (pin) return globalNames(object, pin.number, symbols);
-  return attributeValues(object, "netname", symbols).map((it) => printed(pathBelow(instance.path, it)));
+  return attributeValues(object, "netname", symbols)
+    .map((it) => printed(pathBelow(instance.path, it)));
 }
 
 /** The groups of what touches on a sheet, without the pins of pictures. */
@@ -53,12 +61,15 @@ export function groupsOn(objects, symbols) {
 
 /** The net of one group by its listed pins; `candidates` are the nets that all of these have. */
 function netByPins(pins, list, disagreements) {
-  for (const pin of pins) if (!list.netsOf.has(pin)) disagreements.push(`${pin} is in no net of the list`);
+  const unlisted = pins.filter((it) => !list.netsOf.has(it));
+  disagreements.push(...unlisted.map((it) => `${it} is in no net of the list`));
   // A pair of refdes and number may stand in several nets; what all pins have in common counts.
   const known = pins.map((it) => list.netsOf.get(it)).filter((it) => it);
-  const candidates = known.length ? known.reduce((one, other) => one.filter((it) => other.includes(it))) : [];
+  const candidates = known.length
+    ? known.reduce((one, other) => one.filter((it) => other.includes(it))) : [];
   if (known.length && !candidates.length) {
-    disagreements.push(`${pins.join(" ")} touch, and are in several nets: ${known.flat().join(" ")}`);
+    disagreements.push(
+      `${pins.join(" ")} touch, and are in several nets: ${known.flat().join(" ")}`);
   }
   return { isKnown: known.length > 0, net: candidates.length === 1 ? candidates[0] : null };
 }
@@ -77,7 +88,8 @@ export function netsIn(instance, objects, symbols, list) {
       .map((it) => `${listed.get(it.object)}-${printed(it.pin.number)}`);
     const { isKnown, net } = netByPins(pins, list, disagreements);
     const names = conductors.flatMap((it) => namesAt(it, instance, symbols));
-    return { conductors, names, isKnown, net: isKnown ? net : names.find((it) => list.names.has(it)) || null };
+    const named = isKnown ? net : names.find((it) => list.names.has(it)) || null;
+    return { conductors, names, isKnown, net: named };
   });
   nameByOthers(groups);
   const [netOf, groupOf] = [new Map(), new Map()];

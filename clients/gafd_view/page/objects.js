@@ -1,5 +1,5 @@
-// Sheets and symbols as texts (docs/FORMATS.md, "Sheets and symbols"). What comes here is canonical, so
-// that nothing is refused.
+// Sheets and symbols as texts (docs/FORMATS.md, "Sheets and symbols"). What comes here is
+// canonical, so that nothing is refused.
 
 const STROKE = "width cap dash length space";
 const FILL = "fill fillWidth angle1 pitch1 angle2 pitch2";
@@ -32,7 +32,8 @@ function readObject(reader) {
   const words = reader.lines[reader.at++].split(" ");
   const object = { letter: words[0], attached: [], parts: null };
   FIELDS[object.letter].forEach((name, place) => {
-    object[name] = name === "basename" ? words.slice(place + 1).join(" ") : Number(words[place + 1]);
+    object[name] = name === "basename" ? words.slice(place + 1).join(" ")
+      : Number(words[place + 1]);
   });
   if (object.letter === "T" || object.letter === "H") {
     object.content = take(reader, object.lines).join("\n");

@@ -54,14 +54,16 @@ export function light() {
   const { net, group, nets: { netOf, groupOf } } = shown;
   for (const one of byId("drawn").querySelectorAll("[data-key]")) {
     const { key } = one.dataset;
-    one.classList.toggle("lit", net ? netOf.get(key) === net : group !== null && groupOf.get(key) === group);
+    one.classList.toggle("lit", net ? netOf.get(key) === net : group !== null
+      && groupOf.get(key) === group);
   }
   for (const one of byId("drawn").querySelectorAll(".chosen")) one.classList.remove("chosen");
   for (const id of shown.chosen) elementOf(id)?.classList.add("chosen");
 }
 
 function framePath({ x, y, width, height }) {
-  return `M${x - FRAME} ${y - FRAME}h${width + 2 * FRAME}v${height + 2 * FRAME}h${-width - 2 * FRAME}z`;
+  const [wide, high] = [width + 2 * FRAME, height + 2 * FRAME];
+  return `M${x - FRAME} ${y - FRAME}h${wide}v${high}h${-wide}z`;
 }
 
 /** Frames round boxes, which go after some seconds. */
@@ -74,7 +76,8 @@ export function frame(boxes, kind, seconds) {
 
 /** Frames of what is dragged, where it would come to stand. */
 export function frameDragged(dx, dy) {
-  const paths = boxesOf([...shown.chosen]).map((it) => `<path d="${framePath({ ...it, x: it.x + dx, y: it.y + dy })}"/>`);
+  const paths = boxesOf([...shown.chosen])
+    .map((it) => `<path d="${framePath({ ...it, x: it.x + dx, y: it.y + dy })}"/>`);
   byId("marks").innerHTML = paths.join("");
 }
 
@@ -91,7 +94,8 @@ export function markLooseEnds() {
   const open = new Map(cuesOf(shownObjects(), board.symbols).open.map((it) => [it.join(), it]));
   const loose = openEnds ? [...open].filter(([key]) => !openEnds.has(key)).map(([, it]) => it) : [];
   openEnds = open;
-  const boxes = loose.map(([x, y]) => ({ x: x - FRAME, y: -y - FRAME, width: 2 * FRAME, height: 2 * FRAME }));
+  const boxes = loose.map(([x, y]) => ({ x: x - FRAME, y: -y - FRAME, width: 2 * FRAME,
+    height: 2 * FRAME }));
   if (boxes.length) frame(boxes, "loose", 8);
 }
 
@@ -119,6 +123,7 @@ export function drawFindings() {
 function drawFlag([x, y], found) {
   const level = found.some((it) => it.level === "error") ? "error" : "warning";
   const words = escapeText(found.map(findingText).join("\n"));
-  return `<g class="finding ${level}" data-finding="${escapeText(findingText(found[0]))}"><title>${words}</title>`
+  const first = escapeText(findingText(found[0]));
+  return `<g class="finding ${level}" data-finding="${first}"><title>${words}</title>`
     + `<path d="M${x} ${y}l${FLAG / 2} ${-FLAG}h${-FLAG}z"/></g>`;
 }

@@ -1,4 +1,5 @@
-// What goes over the wire: the routes of the server below board/ (docs/SERVER.md), and those of gafd_view.
+// What goes over the wire: the routes of the server below board/ (docs/SERVER.md), and those of
+// gafd_view.
 
 const PATIENCE = 20000;
 const AWAY = [500, 502, 503, 504];
@@ -9,7 +10,8 @@ export class Away extends Error {}
 /** The answer to a request: its status, its front, and its text. */
 export async function request(path, options) {
   try {
-    const reply = await fetch(path, { cache: "no-store", signal: AbortSignal.timeout(PATIENCE), ...options });
+    const reply = await fetch(path, { cache: "no-store", signal: AbortSignal.timeout(PATIENCE),
+      ...options });
     const text = await reply.text();
     if (AWAY.includes(reply.status)) throw new Away(`status ${reply.status}`);
     return { status: reply.status, front: Number(reply.headers.get("Front") ?? -1), text };

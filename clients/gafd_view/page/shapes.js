@@ -28,7 +28,8 @@ function fillLook(object) {
   const width = Math.max(object.fillWidth, LEAST_WIDTH);
   // Equal hatches share one name, and whichever stands first in the page is taken.
   const named = sides.filter((it) => it[1] > 0)
-    .map(([angle, pitch]) => [`hatch_${colourClass(object)}_${width}_${angle}_${pitch}`, angle, pitch]);
+    .map(([angle, pitch]) => [`hatch_${colourClass(object)}_${width}_${angle}_${pitch}`, angle,
+      pitch]);
   const made = named.map(([name, angle, pitch]) =>
     `<pattern id="${name}" patternUnits="userSpaceOnUse" width="${pitch}" height="${pitch}"`
     + ` patternTransform="rotate(${-angle})"><path class="${colourClass(object)}" stroke-width="${width}"`
@@ -39,9 +40,11 @@ function fillLook(object) {
 /** A closed shape: once for each direction of its hatches, and then its outline. */
 function drawClosed(object, path, matrix = "") {
   const [patterns, fills] = fillLook(object);
-  const one = (fill, look) => `<path class="${colourClass(object)}"${fill}${look}${matrix} d="${path}"/>`;
+  const one = (fill,
+    look) => `<path class="${colourClass(object)}"${fill}${look}${matrix} d="${path}"/>`;
   if (!Array.isArray(fills)) return one(fills, strokeLook(object));
-  return patterns + fills.map((it) => one(it, ' stroke="none"')).join("") + one("", strokeLook(object));
+  return patterns + fills.map((it) => one(it, ' stroke="none"')).join("")
+    + one("", strokeLook(object));
 }
 
 function drawLine(object, canvas, look) {
@@ -89,7 +92,8 @@ function drawArc(object, canvas) {
     const put = `${+px.toFixed(2)} ${+(-py).toFixed(2)}`;
     path += step ? `A${radius} ${radius} 0 0 ${sweep > 0 ? 0 : 1} ${put}` : `M${put}`;
   }
-  return turned ? `<path class="${colourClass(object)}"${strokeLook(object)} d="M${x - radius} ${-y}${circlePath(radius)}"/>`
+  return turned
+    ? `<path class="${colourClass(object)}"${strokeLook(object)} d="M${x - radius} ${-y}${circlePath(radius)}"/>`
     : `<path class="${colourClass(object)}"${strokeLook(object)} d="${path}"/>`;
 }
 
@@ -97,7 +101,8 @@ function drawArc(object, canvas) {
 function drawPath(object, canvas) {
   const [a, b, c, d, e, f] = object.matrix || [1, 0, 0, 1, 0, 0];
   const numbers = (object.content.match(/-?[0-9]+/g) || []).map(Number);
-  for (let at = 0; !/[a-z]/.test(object.content.replace(/z/g, "")) && at + 1 < numbers.length; at += 2) {
+  for (let at = 0; !/[a-z]/.test(object.content.replace(/z/g, "")) && at
+    + 1 < numbers.length; at += 2) {
     const [x, y] = [numbers[at], numbers[at + 1]];
     widenBox(canvas, a * x + c * y + e, b * x + d * y + f);
   }
@@ -113,7 +118,8 @@ function drawPicture(object, canvas) {
     .find(([begins]) => (data || "").startsWith(begins));
   const frame = `<path class="k${GRAPHIC}" stroke-width="10" d="M${x} ${-y}h${wide}v${-high}h${-wide}z"/>`;
   if (!kind || !/^[A-Za-z0-9+/=]*$/.test(data)) {
-    const name = { letter: "T", x: x + 50, y: y + 50, color: GRAPHIC, ...NAME_LOOK, content: object.content };
+    const name = { letter: "T", x: x + 50, y: y + 50, color: GRAPHIC, ...NAME_LOOK,
+      content: object.content };
     return frame + drawText(name, canvas);
   }
   const [w, h] = angle % 180 ? [high, wide] : [wide, high];

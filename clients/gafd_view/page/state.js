@@ -7,7 +7,10 @@ export const byId = (id) => document.getElementById(id);
 export const board = new Board();
 export const entries = new Entries();
 
-/** Where the page is: an instance, a window on it in mils with y down, and what is lit or chosen there. */
+/**
+ * Where the page is: an instance, a window on it in mils with y down, and what is lit or chosen
+ * there.
+ */
 export const shown = {
   at: null,
   box: [0, -11000, 17000, 11000],

@@ -11,11 +11,14 @@ function shownText(text) {
 
 /** A text as it stands in markup. */
 export function escapeText(text) {
-  return text.replace(/[&<>"]/g, (it) => ({ "&": "&amp;", "<": "&lt;", ">": "&gt;", '"': "&quot;" })[it])
+  return text.replace(/[&<>"]/g, (it) => ({ "&": "&amp;", "<": "&lt;", ">": "&gt;",
+    '"': "&quot;" })[it])
     .replace(/[\x00-\x08\x0b-\x1f]/g, "");
 }
 
-/** Lines with `\_` as the bounds of an overline, which may go on in the next; else `\` is left out. */
+/**
+ * Lines with `\_` as the bounds of an overline, which may go on in the next; else `\` is left out.
+ */
 function overlined(lines) {
   let isOver = false;
   return lines.map((line) => line.split(/(\\.?)/u).map((piece) => {
@@ -30,7 +33,9 @@ function unescaped(line) {
   return line.replace(/\\(.?)/gu, (_, next) => (next === "_" ? "" : next));
 }
 
-/** A line with blanks in place of tabs, of which the stops are eight blanks apart, and one ahead. */
+/**
+ * A line with blanks in place of tabs, of which the stops are eight blanks apart, and one ahead.
+ */
 function expandTabs(line, sizes) {
   return line.split("\t").reduce((before, piece) => {
     const blanks = sizes(unescaped(before)).width / sizes(" ").width;
@@ -67,7 +72,8 @@ export function drawText(text, canvas) {
   const turn = isOver ? 0 : text.angle;
   widenBoxByText(text, laid, turn, em, canvas);
   const isLine = lines.length === 1;
-  const anchor = isLine ? ["", ' text-anchor="middle"', ' text-anchor="end"'][Math.floor(align / 3)] : "";
+  const anchor = isLine ? ["", ' text-anchor="middle"',
+    ' text-anchor="end"'][Math.floor(align / 3)] : "";
   const inner = overlined(lines).map((line, place) => (isLine ? line
     : `<tspan x="${laid.x.toFixed(1)}" y="${(place * laid.step - laid.y).toFixed(1)}">${line}</tspan>`)).join("");
   return `<text class="${colourClass(text)}" font-size="${em.toFixed(2)}" transform="translate(${text.x} ${-text.y})`
@@ -76,7 +82,8 @@ export function drawText(text, canvas) {
 
 function widenBoxByText(text, laid, turn, em, canvas) {
   const [sin, cos] = [[0, 1], [1, 0], [0, -1], [-1, 0]][turn / 90];
-  for (const [x, y] of [[laid.x, laid.y + em * 0.8], [laid.x + laid.width, laid.y - laid.below - em * 0.2]]) {
+  for (const [x, y] of [[laid.x, laid.y + em * 0.8],
+    [laid.x + laid.width, laid.y - laid.below - em * 0.2]]) {
     widenBox(canvas, text.x + x * cos - y * sin, text.y + x * sin + y * cos);
   }
 }

@@ -1,4 +1,5 @@
-// Drawing by the mouse or the keys: a wire from point to point, a component by its symbol's name, a text.
+// Drawing by the mouse or the keys: a wire from point to point, a component by its symbol's name, a
+// text.
 
 import { splitAttribute } from "./attributes.js";
 import { drawObject } from "./drawing.js";
@@ -24,7 +25,8 @@ const HINTS = {
 export function takeTool(kind) {
   shown.tool = kind ? { kind, from: null, at: middle().map(onGrid) } : null;
   document.body.classList.toggle("drawing", kind !== null);
-  for (const one of ["wire", "component", "text"]) byId(`draw-${one}`).classList.toggle("on", one === kind);
+  for (const one of ["wire", "component", "text"]) byId(`draw-${one}`).classList.toggle("on",
+    one === kind);
   for (const one of ["component", "text"]) byId(`${one}-field`).hidden = one !== kind;
   if (kind) notice(HINTS[kind], 6);
   if (kind === "component") offerSymbols();
@@ -35,7 +37,8 @@ export function takeTool(kind) {
 
 /** The symbols of the board, as far as its sheets and its history name them. */
 function offerSymbols() {
-  const added = board.history.map((it) => it.edit).filter((it) => it.kind === "add_symbol").map((it) => it.name);
+  const added = board.history.map((it) => it.edit).filter((it) => it.kind === "add_symbol")
+    .map((it) => it.name);
   const names = [...new Set([...board.symbols.keys(), ...added])].sort();
   byId("symbols").replaceChildren(...names.map((it) => new Option(it, it)));
 }
@@ -79,7 +82,8 @@ const DRAWS = {
   },
   component: ({ at: [x, y] }) => {
     const name = byId("component-name").value.trim();
-    if (!board.symbols.has(name)) return notice(name ? `the board has no symbol ${name} that is read` : "which symbol?");
+    if (!board.symbols.has(name)) return notice(name
+      ? `the board has no symbol ${name} that is read` : "which symbol?");
     return draws(componentLines(name, x, -y));
   },
   text: ({ at: [x, y] }) => {
@@ -103,7 +107,8 @@ function componentLines(name, x, y) {
   const attached = texts.map((it) => {
     const [left, lower] = placedPoint(component, it.x, it.y);
     const { size, visible, show, angle, align, lines, content } = it;
-    return `T ${left} ${lower} ${[ATTRIBUTE_COLOUR, size, visible, show, angle, align, lines].join(" ")}\n${content}\n`;
+    const look = [ATTRIBUTE_COLOUR, size, visible, show, angle, align, lines].join(" ");
+    return `T ${left} ${lower} ${look}\n${content}\n`;
   });
   const block = attached.length ? `{\n${attached.join("")}}\n` : "";
   return `C ${x} ${y} 1 0 0 ${name}\n${block}`;
@@ -132,7 +137,8 @@ function ghost({ kind, at: [x, y] }) {
 /** Listens to the buttons of the tools. */
 export function listenToTools() {
   for (const kind of ["wire", "component", "text"]) {
-    byId(`draw-${kind}`).addEventListener("click", () => takeTool(shown.tool?.kind === kind ? null : kind));
+    byId(`draw-${kind}`).addEventListener("click",
+      () => takeTool(shown.tool?.kind === kind ? null : kind));
   }
   byId("component-name").addEventListener("input", showTool);
   for (const name of ["component-name", "text-name"]) {

@@ -26,7 +26,8 @@ export function fit() {
 
 /** The place of the mouse in the sheet, in mils with y down. */
 export function placeOf({ clientX, clientY }) {
-  const { x, y } = new DOMPoint(clientX, clientY).matrixTransform(byId("sheet").getScreenCTM().inverse());
+  const { x, y } = new DOMPoint(clientX,
+    clientY).matrixTransform(byId("sheet").getScreenCTM().inverse());
   return [x, y];
 }
 
@@ -68,7 +69,8 @@ export function bringIn(boxes) {
 /** Moves the window as little as brings a point well inside it. */
 export function keepInside([x, y]) {
   const [left, top, width, height] = shown.box;
-  const beyond = (at, from, size) => Math.min(0, at - from - size / 10) + Math.max(0, at - from - 0.9 * size);
+  const beyond = (at, from, size) => Math.min(0, at - from - size / 10)
+    + Math.max(0, at - from - 0.9 * size);
   const [dx, dy] = [beyond(x, left, width), beyond(y, top, height)];
   if (dx || dy) pan(dx, dy);
 }

@@ -4,7 +4,8 @@ import { attributeValue } from "./attributes.js";
 import { refdesIn } from "./instances.js";
 import { board, instanceOf, shownInstance } from "./state.js";
 
-const KINDS = { L: "a line", G: "a picture", B: "a box", V: "a circle", A: "an arc", N: "a wire", U: "a bus",
+const KINDS = { L: "a line", G: "a picture", B: "a box", V: "a circle", A: "an arc", N: "a wire",
+  U: "a bus",
   P: "a pin", H: "a path", T: "a text", C: "a component" };
 
 const FAULTS = {
@@ -41,7 +42,8 @@ export function labels(ids) {
     const found = objects.filter((it) => ids.includes(it.id));
     named.push(...found.map((it) => label(it, instanceOf(name))));
   }
-  return named.length > 4 ? `${named.slice(0, 3).join(", ")} and ${named.length - 3} more` : named.join(", ");
+  return named.length > 4 ? `${named.slice(0, 3).join(", ")} and ${named.length - 3} more` : named
+    .join(", ");
 }
 
 /** What an edit did. */
@@ -50,7 +52,8 @@ export function editWords({ kind, ids, id, name, value, sheet, serial }) {
   return {
     add_sheet: `added the sheet ${name}`, add_symbol: `added the symbol ${name}`,
     replace_symbol: `changed the symbol ${name}`, add_object: `drew on ${sheet}`,
-    replace: `changed ${what}`, delete: `deleted ${what}`, move: `moved ${what}`, turn: `turned ${what}`,
+    replace: `changed ${what}`, delete: `deleted ${what}`, move: `moved ${what}`,
+      turn: `turned ${what}`,
     set_attr: `set ${name}=${value} of ${what}`, drop_attr: `took ${name} from ${what}`,
     renumber: "numbered", undo: `took back the edit ${serial}`,
   }[kind] || kind;
@@ -61,7 +64,8 @@ export function changeWords(was, is, instance) {
   const texts = (it) => it.attached.map((one) => one.content);
   const gone = texts(was).filter((it) => !texts(is).includes(it));
   const come = texts(is).filter((it) => !texts(was).includes(it));
-  const what = come.length || gone.length ? `: ${gone.join(", ")} → ${come.join(", ") || "nothing"}` : "";
+  const what = come.length || gone.length
+    ? `: ${gone.join(", ")} → ${come.join(", ") || "nothing"}` : "";
   return `${label(is, instance)} ${what ? "changed" : "moved or changed"}${what}`;
 }
 
@@ -82,10 +86,12 @@ export function faultWords(answer, ids) {
       + "This is how it is now; do it again if you still mean it.";
   }
   if (answer.fault === "UndoBlocked") {
-    return `${session(answer.by)} changed the same thing since (edit ${answer.by}), so it cannot be taken back.`;
+    return `${session(answer.by)} changed the same thing since (edit ${answer.by}), `
+      + "so it cannot be taken back.";
   }
   if (answer.fault === "BadText") {
-    return "that is no attribute and no text: an attribute has a name and a value, without blanks beside the =";
+    return "that is no attribute and no text: an attribute has a name and a value, "
+      + "without blanks beside the =";
   }
   return FAULTS[answer.fault] || answer.fault;
 }

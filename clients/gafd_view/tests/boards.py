@@ -1,4 +1,5 @@
-"""Boards and pages for the tests: a server and a store, who edits, and the program that is tested."""
+"""Boards and pages for the tests: a server and a store, who edits, and the program that is tested.
+Boards and pages for the tests: a server and a store, who edits, and the program that is tested."""
 import http.client
 import json
 import pathlib
@@ -69,7 +70,8 @@ class Writer:
     def id_of(self, name, refdes):
         """The id of the component of a sheet that has this refdes."""
         objects = zip(self.ids(name), self.objects(name))
-        return next(number for number, it in objects if it.letter == "C" and refdes in it.values("refdes"))
+        return next(number for number, it in objects if it.letter == "C"
+                    and refdes in it.values("refdes"))
 
 
 class Viewed:

@@ -1,4 +1,5 @@
-"""A browser that looks at a page: Chromium, by the packages chromium, chromium-driver and python3-selenium."""
+"""A browser that looks at a page: Chromium, by the packages chromium, chromium-driver and
+python3-selenium."""
 import atexit
 import functools
 import os
@@ -7,7 +8,8 @@ import sys
 
 
 def other_python():
-    """The system's python3, which has the packages of the system, where another one is on the PATH."""
+    """The system's python3, which has the packages of the system, where another one is on the PATH.
+    The system's python3, which has the packages of the system, where another one is on the PATH."""
     path = "/usr/bin/python3"
     is_other = os.path.realpath(path) != os.path.realpath(sys.executable)
     return path if os.access(path, os.X_OK) and is_other else None
@@ -126,9 +128,11 @@ class Page:
         return self.driver.execute_script(text)
 
     def faults(self):
-        """What the browser complains of, but a server that is away, and edits that are refused."""
+        """What the browser complains of at this page, but a server that is away, and edits that are
+        refused. All windows have one log."""
         expected = ("502 (Bad Gateway)", "/board/edits")
-        log = self.driver.get_log("browser")
+        here = self.script("return location.origin")
+        log = [it for it in self.driver.get_log("browser") if here in it["message"]]
         return [it for it in log if not any(one in it["message"] for one in expected)]
 
     def close(self):

@@ -60,13 +60,18 @@ test("lines have a least width, ends and dashes", () => {
 test("shapes stand where they are", () => {
   assert.match(draw("B 100 200 300 400 3 10 0 0 -1 -1 1 -1 -1 -1 -1 -1\n").svg,
     /fill="currentColor".* d="M100 -200h300v-400h-300z"/);
-  assert.match(draw("V 0 0 300 3 10 0 0 -1 -1 0 -1 -1 -1 -1 -1\n").svg, /d="M-300 0a300 300 0 1 0 600 0/);
-  assert.match(draw("A 3500 7000 300 0 90 3 10 0 0 -1 -1\n").svg, /d="M3800 -7000A300 300 0 0 0 3500 -7300"/);
-  assert.match(draw("A 3500 7000 300 0 -90 3 10 0 0 -1 -1\n").svg, /d="M3800 -7000A300 300 0 0 1 3500 -6700"/);
+  assert.match(draw("V 0 0 300 3 10 0 0 -1 -1 0 -1 -1 -1 -1 -1\n").svg,
+    /d="M-300 0a300 300 0 1 0 600 0/);
+  assert.match(draw("A 3500 7000 300 0 90 3 10 0 0 -1 -1\n").svg,
+    /d="M3800 -7000A300 300 0 0 0 3500 -7300"/);
+  assert.match(draw("A 3500 7000 300 0 -90 3 10 0 0 -1 -1\n").svg,
+    /d="M3800 -7000A300 300 0 0 1 3500 -6700"/);
   assert.match(draw("H 3 10 0 0 -1 -1 0 -1 -1 -1 -1 -1 2\nM 0,0\nL 100,50\n").svg,
     /transform="matrix\(1 0 0 -1 0 0\)" d="M 0,0 L 100,50"/);
-  assert.match(draw("B 0 0 900 500 3 10 0 0 -1 -1 2 5 45 100 135 90\n").svg, /<pattern id="hatch_k3_5_45_100"/);
-  assert.deepEqual(draw("N 0 0 100 0 4\nB 50 50 100 100 3 0 0 0 -1 -1 0 -1 -1 -1 -1 -1\n").box, [0, 0, 150, 150]);
+  assert.match(draw("B 0 0 900 500 3 10 0 0 -1 -1 2 5 45 100 135 90\n").svg,
+    /<pattern id="hatch_k3_5_45_100"/);
+  assert.deepEqual(draw("N 0 0 100 0 4\nB 50 50 100 100 3 0 0 0 -1 -1 0 -1 -1 -1 -1 -1\n").box,
+    [0, 0, 150, 150]);
 });
 
 test("texts stand by their nine alignments", () => {
@@ -80,10 +85,13 @@ test("texts stand by their nine alignments", () => {
   assert.equal(place(0, 3), -403.4);
   assert.equal(place(1, 3), -139.1);
   assert.match(draw("T 0 0 9 10 1 0 0 7 1\nx\n").svg, /text-anchor="end"/);
-  assert.match(draw("T 5 7 9 10 1 0 90 0 1\nx\n").svg, /transform="translate\(5 -7\) rotate\(-90\)"/);
+  assert.match(draw("T 5 7 9 10 1 0 90 0 1\nx\n").svg,
+    /transform="translate\(5 -7\) rotate\(-90\)"/);
   // At 180 degrees it stands upright, at the corner across.
-  assert.match(draw("T 5 7 9 10 1 0 180 0 1\nx\n").svg, /translate\(5 -7\)" y="163.4" text-anchor="end"/);
-  assert.match(draw("T 5 7 9 10 1 0 180 2 1\nx\n").svg, /translate\(5 -7\)" y="-38.3" text-anchor="end"/);
+  assert.match(draw("T 5 7 9 10 1 0 180 0 1\nx\n").svg,
+    /translate\(5 -7\)" y="163.4" text-anchor="end"/);
+  assert.match(draw("T 5 7 9 10 1 0 180 2 1\nx\n").svg,
+    /translate\(5 -7\)" y="-38.3" text-anchor="end"/);
 });
 
 test("texts show what they are told to, and no markup", () => {
@@ -101,18 +109,21 @@ test("texts show what they are told to, and no markup", () => {
 test("a component shows its symbol, its slot's numbers, and its own attributes alone", () => {
   const { svg } = draw("C 1000 1000 1 0 0 own.sym\n{\nT 0 0 5 10 1 1 0 0 1\nrefdes=U1\n"
     + "T 0 0 5 10 0 1 0 0 1\nslot=2\n}\n");
-  assert.match(svg, new RegExp('data-key="0.0"><path class="k1" stroke-width="10" stroke-linecap="square"'
+  assert.match(svg,
+    new RegExp('data-key="0.0"><path class="k1" stroke-width="10" stroke-linecap="square"'
     + ' d="M1000 -1400L1300 -1400"'));
   assert.match(svg, />5<\/text>.*>IN<\/text>.*>6<\/text>.*>plain<\/text>.*>U1<\/text>/);
   assert.doesNotMatch(svg, /U\?|slotdef/);
   assert.match(draw("C 0 0 1 0 0 none.sym\n").svg, /k8.*>none.sym<\/text>/);
-  assert.match(draw("C 0 0 1 0 0 EMBEDDEDe.sym\n[\nT 5 5 8 10 1 1 0 0 1\nrefdes=E?\n]\n").svg, />E\?<\/text>/);
+  assert.match(draw("C 0 0 1 0 0 EMBEDDEDe.sym\n[\nT 5 5 8 10 1 1 0 0 1\nrefdes=E?\n]\n").svg,
+    />E\?<\/text>/);
 });
 
 test("a mirrored and turned component takes its texts along", () => {
   const { svg } = draw("C 17000 1000 1 90 1 own.sym\n");
   assert.match(svg, /d="M16600 -1000L16600 -700"/);
-  assert.match(svg, /transform="translate\(16600 -650\) rotate\(-90\)" y="[0-9.]+" text-anchor="end">IN/);
+  assert.match(svg,
+    /transform="translate\(16600 -650\) rotate\(-90\)" y="[0-9.]+" text-anchor="end">IN/);
   const upright = new Map([["own.sym", readObjects(`${HEAD}T 0 0 9 10 1 0 90 0 1\nx\n`)]]);
   const mirrored = drawSheet(sheetOf("C 0 0 1 0 1 own.sym\n"), upright).drawn.get(0);
   assert.match(mirrored, /rotate\(-90\)" y="163.4">x/);
@@ -121,7 +132,8 @@ test("a mirrored and turned component takes its texts along", () => {
 test("dots stand where wires meet, and squares at open ends", () => {
   const cues = (lines) => {
     const paths = draw(lines).cues.split('d="').slice(1).map((it) => it.split('"')[0]);
-    return paths.map((it) => [...it.matchAll(/M(-?\d+) (-?\d+)/g)].map((at) => `${at[1]},${-at[2]}`));
+    return paths.map((it) => [...it.matchAll(/M(-?\d+) (-?\d+)/g)]
+      .map((at) => `${at[1]},${-at[2]}`));
   };
   const cross = cues("N 0 0 200 0 4\nN 100 0 100 200 4\nN 0 100 200 100 4\n");
   assert.deepEqual(cross, [["-30,30", "170,30", "70,230", "-30,130", "170,130"], ["100,0"]]);
@@ -137,9 +149,12 @@ test("dots stand where wires meet, and squares at open ends", () => {
   assert.deepEqual(cues("P 0 0 300 0 1 0 0\nN 300 0 600 0 4\n")[0], ["-30,30", "270,30", "570,30"]);
 });
 
-const attached = (...texts) => `{\n${texts.map((it) => `T 0 0 5 10 1 1 0 0 1\n${it}\n`).join("")}}\n`;
-const pin = (x, y, number, label) => `P ${x} 0 ${y} 0 1 0 0\n${attached(`pinnumber=${number}`, `pinlabel=${label}`)}`;
-const part = (x, name, symbol = "two") => `C ${x} 0 1 0 0 ${symbol}.sym\n${attached(`refdes=${name}`)}`;
+const attached = (
+  ...texts) => `{\n${texts.map((it) => `T 0 0 5 10 1 1 0 0 1\n${it}\n`).join("")}}\n`;
+const pin = (x, y, number,
+  label) => `P ${x} 0 ${y} 0 1 0 0\n${attached(`pinnumber=${number}`, `pinlabel=${label}`)}`;
+const part = (x, name,
+  symbol = "two") => `C ${x} 0 1 0 0 ${symbol}.sym\n${attached(`refdes=${name}`)}`;
 const wire = (x1, x2, name) => `N ${x1} 0 ${x2} 0 4\n${name ? attached(`netname=${name}`) : ""}`;
 const PARTS = new Map([
   ["two.sym", readObjects(HEAD + pin(0, 100, 1, "a") + pin(300, 200, 2, "b"))],
@@ -155,20 +170,24 @@ function board(sheets, nets) {
 }
 
 test("wires and pins have the net of the list, in each instance its own", () => {
-  const low = part(0, "R1") + part(600, "R2") + wire(300, 600, "X") + wire(5000, 6000, "X") + wire(9000, 9500);
+  const low = part(0, "R1") + part(600, "R2") + wire(300, 600, "X") + wire(5000, 6000, "X")
+    + wire(9000, 9500);
   const { instances, netsAt, places } = board(
     { "low.sch": low, "top.sch": part(0, "LEFT", "box") + part(9, "RIGHT", "box") },
-    ["LEFT/X\tLEFT/R1-2 LEFT/R2-1", "RIGHT/X\tRIGHT/R1-2", "q\tRIGHT/R2-1", "a\tLEFT/R1-1", "b\tLEFT/R2-2",
+    ["LEFT/X\tLEFT/R1-2 LEFT/R2-1", "RIGHT/X\tRIGHT/R1-2", "q\tRIGHT/R2-1", "a\tLEFT/R1-1",
+      "b\tLEFT/R2-2",
       "c\tRIGHT/R1-1"],
   );
-  assert.deepEqual(instances.map((it) => `${it.sheet}@${it.path}`), ["top.sch@", "low.sch@LEFT", "low.sch@RIGHT"]);
+  assert.deepEqual(instances.map((it) => `${it.sheet}@${it.path}`),
+    ["top.sch@", "low.sch@LEFT", "low.sch@RIGHT"]);
   const [left, right] = [netsAt(1), netsAt(2)];
   assert.deepEqual(left.disagreements, []);
   assert.deepEqual(["2.0", "0.1", "3.0", "0.0", "4.0"].map((it) => left.netOf.get(it)),
     ["LEFT/X", "LEFT/X", "LEFT/X", "a", null]);
   assert.equal(right.netOf.get("2.0"), null);
   assert.equal(right.groupOf.get("2.0"), right.groupOf.get("0.1"));
-  assert.deepEqual(right.disagreements, ["RIGHT/R1-2 RIGHT/R2-1 touch, and are in several nets: RIGHT/X q",
+  assert.deepEqual(right.disagreements,
+    ["RIGHT/R1-2 RIGHT/R2-1 touch, and are in several nets: RIGHT/X q",
     "RIGHT/R2-2 is in no net of the list"]);
   assert.equal(places.pins.get("RIGHT/R2-1")[0].id, 1);
 });
@@ -182,7 +201,8 @@ test("a wire without pins has the net of one with its name, by the path of its i
 
 test("a port is no part, and a loop ends", () => {
   const low = part(0, "IN") + part(0, "SELF", "box") + part(600, "R1");
-  const { instances, netsAt } = board({ "low.sch": low, "top.sch": part(0, "U", "box") }, ["a\tU/R1-1", "b\tU/R1-2"]);
+  const { instances, netsAt } = board({ "low.sch": low, "top.sch": part(0, "U", "box") },
+    ["a\tU/R1-1", "b\tU/R1-2"]);
   assert.deepEqual(instances.map((it) => it.path), ["", "U"]);
   assert.deepEqual(netsAt(1).disagreements, []);
 });
@@ -195,7 +215,8 @@ test("findings have a level, a name and words", () => {
 const rail = (x, name) => `C ${x} 0 1 0 0 ${name}.sym\n`;
 const RAILS = new Map([
   ...PARTS,
-  ...["GND", "+5V"].map((name) => [`${name}.sym`, readObjects(`${HEAD}T 0 0 8 10 0 0 0 0 1\nnet=${name}:1\n${pin(0, 100, 1, "1")}`)]),
+  ...["GND", "+5V"].map((name) => [`${name}.sym`,
+    readObjects(`${HEAD}T 0 0 8 10 0 0 0 0 1\nnet=${name}:1\n${pin(0, 100, 1, "1")}`)]),
 ]);
 
 test("rails that meet are found, on one sheet and over several", () => {
@@ -203,14 +224,16 @@ test("rails that meet are found, on one sheet and over several", () => {
   const instance = { sheet: "a.sch", path: "", above: null, parent: null };
   const rails = (lines) => {
     const { groups } = netsIn(instance, sheetOf(lines), RAILS, list);
-    return railsThatMeet(addRails(new Map(), groups, RAILS)).map(({ name, words }) => [name, ...words]);
+    return railsThatMeet(addRails(new Map(), groups, RAILS))
+      .map(({ name, words }) => [name, ...words]);
   };
   const apart = part(0, "R1") + rail(0, "+5V") + rail(300, "GND");
   assert.deepEqual(rails(apart), []);
   assert.deepEqual(rails(`${apart}${wire(600, 900)}${rail(600, "GND")}${rail(900, "+5V")}`),
     [["RailsMeet", "GND", "+5V", "GND"]]);
   const met = "+5V\tR1-1 R1-2";
-  const joined = netsIn(instance, sheetOf(apart + wire(0, 300)), RAILS, readNetList(`parts 0\nnets 0\n${met}\n`));
+  const joined = netsIn(instance, sheetOf(apart + wire(0, 300)), RAILS,
+    readNetList(`parts 0\nnets 0\n${met}\n`));
   assert.deepEqual(railsThatMeet(addRails(new Map(), joined.groups, RAILS)),
     [{ level: "error", name: "RailsMeet", words: ["+5V", "+5V", "GND"] }]);
 });
@@ -228,21 +251,27 @@ test("findings stand at parts, pins, wires, ids and symbols", () => {
   const list = readNetList("parts 1\nR1\t-\t-\t-\nnets 2\nX\tR1-2\nunconnected_pin-1\tR1-1\n");
   const { groups } = netsIn(instance, objects, RAILS, list);
   const places = placesOf([instance], new Map([["a.sch", objects]]), RAILS);
-  const findings = readFindings("findings 6\nerror Unnumbered R1\nerror UnconnectedPin R1-1\nwarning OnePin X\n"
+  const findings = readFindings(
+    "findings 6\nerror Unnumbered R1\nerror UnconnectedPin R1-1\nwarning OnePin X\n"
     + "error NoRefdes a.sch 2\nerror NoRefdes b.sch 1\nerror MissingSymbol a.sch none.sym\n");
-  const found = findingsAt(findings, list.names, { instance, objects, places, groups, symbols: RAILS });
+  const found = findingsAt(findings, list.names,
+    { instance, objects, places, groups, symbols: RAILS });
   assert.deepEqual([...found].map(([spot, all]) => [spot, all.map((it) => it.name).join()]), [
-    ["0", "Unnumbered"], ["0.0", "UnconnectedPin"], ["0.1", "OnePin"], ["2", "NoRefdes,MissingSymbol"],
+    ["0", "Unnumbered"], ["0.0", "UnconnectedPin"], ["0.1", "OnePin"],
+      ["2", "NoRefdes,MissingSymbol"],
   ]);
 });
 
 test("what changed is told by ids, and of net lists without the numbers of unnamed nets", () => {
-  const [before, now] = [sheetOf("N 0 0 1 0 4\nN 0 0 2 0 4\n"), sheetOf("N 0 0 1 0 4\nN 0 0 3 0 4\nN 0 0 4 0 4\n")];
+  const [before, now] = [sheetOf("N 0 0 1 0 4\nN 0 0 2 0 4\n"),
+    sheetOf("N 0 0 1 0 4\nN 0 0 3 0 4\nN 0 0 4 0 4\n")];
   const { changed, added, gone } = changesOf(before, now);
-  assert.deepEqual([changed.map(([was, is]) => [was.x2, is.x2]), added.map((it) => it.id), gone], [[[2, 3]], [2], []]);
+  assert.deepEqual([changed.map(([was, is]) => [was.x2, is.x2]), added.map((it) => it.id), gone],
+    [[[2, 3]], [2], []]);
   const lists = ["A\tR1-1\nunnamed_net1\tR1-2 R2-1\n", "unnamed_net7\tR1-2 R2-1\nB\tR1-1\n"]
     .map((it) => readNetList(`parts 1\nR1\t-\t1k\t-\nnets 2\n${it}`));
-  assert.deepEqual(netListChanges(...lists), { gone: [["net", "A", "R1-1"]], added: [["net", "B", "R1-1"]] });
+  assert.deepEqual(netListChanges(...lists),
+    { gone: [["net", "A", "R1-1"]], added: [["net", "B", "R1-1"]] });
   assert.deepEqual(netListChanges(lists[0], lists[0]), { gone: [], added: [] });
 });
 

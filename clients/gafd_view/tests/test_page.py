@@ -109,7 +109,8 @@ class Looking(SharedCase):
         printed = page.driver.execute_cdp_cmd("Page.printToPDF", {"preferCSSPageSize": True})
         pdf = base64.b64decode(printed["data"])
         self.assertEqual(len(re.findall(rb"/Type\s*/Page\b", pdf)), 1)
-        page.until(lambda: "dark" in page.driver.find_element(By.TAG_NAME, "body").get_attribute("class"))
+        page.until(lambda: "dark" in page.driver.find_element(By.TAG_NAME,
+                                                              "body").get_attribute("class"))
 
     def test_what_is_written_on_a_sheet_is_text(self):
         page = self.page()
@@ -203,11 +204,13 @@ class Marking(PageCase):
         self.ann.edit(kind="add_object", sheet="stereo.sch", text="C 44000 43000 1 0 0 own.sym\n")
         page = self.page()
         self.assertIn("own.sym", page.text("sheet"))
-        serial = self.ann.edit(kind="add_symbol", name="own.sym", text="v 20130925 2\nT 0 0 9 10 1 0 0 0 1\nfirst\n")
+        serial = self.ann.edit(kind="add_symbol", name="own.sym",
+                               text="v 20130925 2\nT 0 0 9 10 1 0 0 0 1\nfirst\n")
         page.until(lambda: "first" in page.text("sheet"))
         self.ann.edit(kind="undo", serial=serial)
         page.until(lambda: "own.sym" in page.text("sheet"))
-        self.ann.edit(kind="add_symbol", name="own.sym", text="v 20130925 2\nT 0 0 9 10 1 0 0 0 1\nsecond\n")
+        self.ann.edit(kind="add_symbol", name="own.sym",
+                      text="v 20130925 2\nT 0 0 9 10 1 0 0 0 1\nsecond\n")
         page.until(lambda: "second" in page.text("sheet"))
 
 
@@ -224,7 +227,8 @@ class Comparing(PageCase):
         page.until(lambda: page.all(".comparing"), 60)
         [added] = page.all("#drawn .is-added")
         self.assertEqual(added.get_attribute("data-id"), str(self.ann.ids("stereo.sch")[-1]))
-        self.assertEqual([it.get_attribute("data-id") for it in page.all("#drawn .is-changed")], [str(c1)])
+        self.assertEqual([it.get_attribute("data-id") for it in page.all("#drawn .is-changed")],
+                         [str(c1)])
         self.assertEqual(len(page.all("#past .is-gone")), 1)
         self.assertIn("10u", page.one("#past .is-gone").text)
         self.assertIn("changed C1 changed: value=100n → value=220n", page.text("list"))
@@ -270,10 +274,12 @@ class Drawing(PageCase):
         self.assertEqual([int(it) % 100 for it in wire[1:5]], [0] * 4)
 
     def test_a_text_is_written_anew(self):
-        self.ann.edit(kind="add_object", sheet="stereo.sch", text="T 44000 43000 9 10 1 0 90 3 1\nold\n")
+        self.ann.edit(kind="add_object", sheet="stereo.sch",
+                      text="T 44000 43000 9 10 1 0 90 3 1\nold\n")
         page = self.page("ann")
         number = self.ann.ids("stereo.sch")[-1]
-        page.act().move_to_element(page.drawn(number).find_element(By.CSS_SELECTOR, "text")).click().perform()
+        page.act().move_to_element(page.drawn(number).find_element(By.CSS_SELECTOR,
+                                                                   "text")).click().perform()
         page.tab("object")
         field = page.one("[data-text]")
         field.send_keys(Keys.CONTROL + "a" + Keys.NULL + "new" + Keys.ENTER + "lines")
@@ -350,7 +356,8 @@ class Following(PageCase):
                 some = sorted(random_.sample(ids, 3))
                 bob.edit(kind="move", ids=some, dx=random_.randrange(-3, 4) * 100, dy=100)
             elif kind == "add_object":
-                bob.edit(kind="add_object", sheet="stereo.sch", text=f"N {step * 100} 0 {step * 100} 900 4\n")
+                bob.edit(kind="add_object", sheet="stereo.sch",
+                         text=f"N {step * 100} 0 {step * 100} 900 4\n")
                 ids.append(bob.ids("stereo.sch")[-1])
             elif kind == "delete" and len(ids) > 30:
                 bob.edit(kind="delete", ids=[ids.pop()])
@@ -405,14 +412,16 @@ class Large(PageCase):
     files = ["res.sym"]
 
     def sheet_of(self, count, wires=4, prefix="R"):
-        """A sheet of parts with two texts each, and wires; so many objects a part and its wires are."""
+        """A sheet of parts with two texts each, and wires; so many objects a part and its wires
+        are."""
         rows = ["v 20130925 2"]
         for at in range(count):
             x, y = 1000 * (at % 40), 1000 * (at // 40)
             rows += [f"C {x} {y} 1 0 0 res.sym", "{"]
             rows += [f"T {x} {y + 200} 5 10 1 1 0 0 1", f"refdes={prefix}{at}"]
             rows += [f"T {x} {y - 200} 5 10 1 1 0 0 1", "value=10k", "}"]
-            rows += [f"N {x + 100 * one} {y + 500} {x + 100 * one} {y + 700} 4" for one in range(wires)]
+            rows += [f"N {x + 100 * one} {y + 500} {x + 100 * one} {y + 700} 4"
+                     for one in range(wires)]
         return "\n".join(rows) + "\n"
 
     def tell(self, what, milliseconds):
@@ -423,7 +432,8 @@ class Large(PageCase):
 
     def test_a_large_sheet_is_there_within_a_second(self):
         self.ann.add(pathlib.Path("large.sch"), self.sheet_of(WIRES // 5))
-        self.tell(f"{WIRES} objects: first picture after", min(self.first_picture() for _ in range(3)))
+        self.tell(f"{WIRES} objects: first picture after",
+                  min(self.first_picture() for _ in range(3)))
 
     def first_picture(self):
         page = Page(self.view.url)
@@ -435,7 +445,8 @@ class Large(PageCase):
 
     def test_a_board_of_many_sheets_is_quick(self):
         for at in range(SHEETS):
-            self.ann.add(pathlib.Path(f"s{at:03}.sch"), self.sheet_of(PARTS // SHEETS, 1, f"R{at:03}_"))
+            self.ann.add(pathlib.Path(f"s{at:03}.sch"),
+                         self.sheet_of(PARTS // SHEETS, 1, f"R{at:03}_"))
         page = self.page("ann")
         page.until(lambda: f"parts {PARTS}" in page.text("tabs"), 60)
         number = self.ann.ids("s000.sch")[0]

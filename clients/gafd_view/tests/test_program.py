@@ -1,7 +1,7 @@
 #!/usr/bin/env python3
-"""Tests the program gafd_view over HTTP, without a browser: what it hands on, what it keeps out, the
-history, the board as it was, and folders. GAFD names the program `gafd`; with none it says so, and its
-status is 0. It takes some seconds.
+"""Tests the program gafd_view over HTTP, without a browser: what it hands on, what it keeps out,
+the history, the board as it was, and folders. GAFD names the program `gafd`; with none it says
+so, and its status is 0. It takes some seconds.
 """
 import concurrent.futures
 import json
@@ -44,13 +44,16 @@ class Safety(Case):
                 self.assertEqual(status, wanted)
 
     def test_nothing_is_told_under_another_name(self):
-        for path in ("/", "/board/sheets", "/history?from=0", "/who?id=0", "/watch?from=9", "/about"):
+        for path in ("/", "/board/sheets", "/history?from=0", "/who?id=0", "/watch?from=9",
+                     "/about"):
             with self.subTest(path):
-                self.assertEqual(ask(self.view.address, "GET", path, None, {"Host": "evil.example"})[0], 403)
+                self.assertEqual(ask(self.view.address, "GET", path, None,
+                                     {"Host": "evil.example"})[0], 403)
                 self.assertEqual(ask(self.view.address, "GET", path)[0], 200)
 
     def test_only_the_routes_are_handed_on(self):
-        for path in ("/board/edits", "/board/sheets/a/b", "/board/../etc/passwd", "/board/netlist/spice",
+        for path in ("/board/edits", "/board/sheets/a/b", "/board/../etc/passwd",
+                     "/board/netlist/spice",
                      "/page/main.js", "/../web.py", "/web.py", "/package.json", "/board/sheets?min=x"):
             with self.subTest(path):
                 self.assertEqual(ask(self.view.address, "GET", path)[0], 404)
@@ -80,7 +83,8 @@ class Histories(Case):
         edit = row.pop("edit")
         self.assertRegex(row.pop("time"), r"^\d{4}-\d\d-\d\dT\d\d:\d\d:\d\dZ$")
         self.assertEqual(row, {"serial": 11, "session": "setup", "number": 12, "base": 11})
-        self.assertEqual((edit["kind"], edit["name"], len(edit["text"])), ("add_sheet", "stereo.sch", 200))
+        self.assertEqual((edit["kind"], edit["name"], len(edit["text"])),
+                         ("add_sheet", "stereo.sch", 200))
         self.assertEqual(self.view.ask("/history?from=12")[1], "")
         for path in ("/history", "/history?from=-1", "/who", "/watch?from=x", "/changed"):
             self.assertEqual(self.view.ask(path)[0], 400)
@@ -138,13 +142,15 @@ class Histories(Case):
         self.assertEqual(len(rows_of(self.view.ask("/history?from=0")[1])), 11)
         (self.store / f"{11:010}.json").write_text('{"base":0')
         self.assertEqual(len(rows_of(self.view.ask("/history?from=0")[1])), 11)
-        row = {"base": 11, "edit": {"kind": "replace_symbol", "name": "res.sym", "text": ""}, "number": 1,
+        row = {"base": 11, "edit": {"kind": "replace_symbol", "name": "res.sym", "text": ""},
+               "number": 1,
                "session": "cleo", "version": 2}
         (self.store / f"{11:010}.json").write_text(json.dumps(row) + "\n")
         [last] = rows_of(self.view.ask("/history?from=11")[1])
         self.assertEqual((last["session"], last["edit"]["kind"]), ("cleo", "replace_symbol"))
         self.assertNotIn("version", last)
-        self.assertEqual(json.loads(self.view.ask("/changed?from=11")[1]), {"sheets": [], "symbols": ["res.sym"]})
+        self.assertEqual(json.loads(self.view.ask("/changed?from=11")[1]),
+                         {"sheets": [], "symbols": ["res.sym"]})
         self.server.start = lambda: None
         self.server.stop = lambda *_: None
 
@@ -288,13 +294,15 @@ class Folders(FolderCase):
         (self.folder / "a.sch").write_text("v 20130925 2\nN 5 5 9 9 4\nN 0 0 0 900 4\n" + part)
         view.ask("/watch?from=1")
         found = [it.split() for it in view.ask("/board/drc")[1].splitlines() if "NoRefdes" in it]
-        ids = {it: view.ask(f"/board/objects/{it}")[1].split("\n")[-2].split()[0] for it in ("a.sch", "b.sch")}
+        ids = {it: view.ask(f"/board/objects/{it}")[1].split("\n")[-2].split()[0]
+               for it in ("a.sch", "b.sch")}
         self.assertEqual({it[2]: it[3] for it in found}, ids)
 
 
 class Words(unittest.TestCase):
     def test_objects_are_counted_in_any_spelling(self):
-        text = ("v 20130925 2\n\n  T 0 0 9 10 1 0 0 0 2\n{\n}\nC 0 0 1 0 0 EMBEDDEDa b\n\n[\nL 0 0 1 1 3\n]\n\n"
+        text = (
+            "v 20130925 2\n\n  T 0 0 9 10 1 0 0 0 2\n{\n}\nC 0 0 1 0 0 EMBEDDEDa b\n\n[\nL 0 0 1 1 3\n]\n\n"
                 "{\nT 0 0 9 10 1 0 0 0 1\nrefdes=R1\n}\nG 0 0 9 9 0 0 1\nname\ndata\n.\nH 3 0 0 0 -1 -1 0 -1 -1 -1 -1 -1 1\nz\n")
         self.assertEqual(count_objects(text), 4)
         objects = read_objects(text)
