@@ -6,6 +6,7 @@ connection has a thread of its own, and ends soon.
 """
 import json
 import re
+import sys
 import threading
 import time
 import urllib.parse
@@ -52,6 +53,11 @@ class View(ThreadingHTTPServer):
             super().process_request_thread(request, address)
         finally:
             self.readers.release()
+
+    def handle_error(self, request, address):
+        """A reader who goes away before the answer is no fault."""
+        if not isinstance(sys.exc_info()[1], ConnectionError):
+            super().handle_error(request, address)
 
     def front(self):
         """The front that the history or the board tells, or None where neither does."""

@@ -70,8 +70,14 @@ export class Board {
     return this.knownPlaces;
   }
 
-  async readAbout() {
-    this.about = (await askView("about")) || this.about;
+  /** Reads, once, what is looked at and what can be asked. */
+  readAbout() {
+    this.aboutReading ||= askView("about").then((told) => { this.about = told || this.about; })
+      .catch((error) => {
+        this.aboutReading = null;
+        throw error;
+      });
+    return this.aboutReading;
   }
 
   /**

@@ -86,6 +86,7 @@ async function readBoard() {
   const isKnown = await board.markChanged();
   await board.readStale(takes, (name) => name === shown.at?.sheet);
   if (isFirst && shown.at) markPictured();
+  await board.readAbout();
   const [isOfFront] = await Promise.all([
     board.readLists(front),
     board.readHistory(front),

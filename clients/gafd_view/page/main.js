@@ -16,8 +16,8 @@ listenToKeys();
 listenToFields();
 listenToTools();
 showBox();
-board.readAbout().catch(() => {}).finally(() => {
+followServer();
+board.readAbout().then(() => {
   document.body.classList.toggle("looking", !board.about.edits);
   byId("tabs").querySelector('[data-tab="history"]').hidden = board.about.kind === "folder";
-  followServer();
-});
+}, () => {});
