@@ -18,6 +18,7 @@ const MOST_LOGGED = 200;
 const MOST_WAITED_FOR = 20;
 const RAILS_AT_ONCE = 10;
 const FRAMED = 6;
+const LONGEST_FRAME = 3000;
 
 const pause = (milliseconds) => new Promise((resolve) => setTimeout(resolve, milliseconds));
 
@@ -85,7 +86,7 @@ async function readBoard() {
   };
   const isKnown = await board.markChanged();
   await board.readStale(takes, (name) => name === shown.at?.sheet);
-  if (isFirst && shown.at) markPictured();
+  if (isFirst && shown.at) await firstFrame();
   await board.readAbout();
   const [isOfFront] = await Promise.all([
     board.readLists(front),
@@ -121,9 +122,14 @@ function readRest() {
     .finally(() => { restReading = null; });
 }
 
-/** Notes for measurements when the first picture is there. */
-function markPictured() {
-  requestAnimationFrame(() => setTimeout(() => performance.mark("pictured")));
+/** Waits until the first picture is seen, which is noted for measurements. */
+async function firstFrame() {
+  const framed = new Promise((resolve) => {
+    requestAnimationFrame(() => setTimeout(resolve));
+  });
+  // A page in the background has no frames.
+  await Promise.race([framed, pause(LONGEST_FRAME)]);
+  performance.mark("pictured");
 }
 
 /** Reads the symbols again that changed; where nobody tells which, those of the shown sheet. */
