@@ -1,8 +1,8 @@
-// What is drawn, without a browser: `node --test test_drawing.mjs`. The numbers are those of the
+// What is drawn, without a browser: `node test_drawing.mjs`. The numbers are those of the
 // pictures that lepton-cli export makes of the same lines.
 
 import assert from "node:assert/strict";
-import test from "node:test";
+import nodeTest from "node:test";
 import { changesOf, netListChanges } from "../page/changes.js";
 import { cuesOf } from "../page/cues.js";
 import { drawSheet } from "../page/drawing.js";
@@ -10,6 +10,19 @@ import { addRails, findingsAt, railsThatMeet, readFindings } from "../page/findi
 import { instancesOf, placesOf } from "../page/instances.js";
 import { globalNames, netsIn, readNetList } from "../page/nets.js";
 import { readObjects } from "../page/objects.js";
+
+let [passed, failed] = [0, 0];
+process.on("exit", () => console.log(`${passed} passed, ${failed} failed`));
+
+/** A test that is counted. */
+function test(name, body) {
+  nodeTest(name, async () => {
+    failed++;
+    await body();
+    failed--;
+    passed++;
+  });
+}
 
 const HEAD = "v 20130925 2\n";
 const SYMBOL = `${HEAD}P 0 400 300 400 1 0 0
