@@ -1,5 +1,5 @@
-// What each command answers. The program ends with the answer, so that a net list and a project are
-// left to the system, which takes all memory back at once.
+// What each command answers. The program ends with the answer, so that a net list is left to the
+// system, which takes all memory back at once.
 ghost use Rattle.std.specs.Prelude.{◌≡◌, ◌≢◌, ◌≤◌, ◌-◌, ◌^◌, AllPairs, IfOk, true, false, min, string_bytes};
 ghost use Rattle.pin_matrix.specs.MatrixFiles.{document_of};
 ghost use Rattle.geda_defs.specs.Contents.{KeepsFiles};
@@ -157,9 +157,7 @@ fn netlist<F: Folder>(
     ensures files { KeepsFiles (F.files folder.old) (F.files folder.new) }
 {
     let project = project_of(alloc, names.as_slice(), folder)?;
-    let answer = listed(alloc, form, &project);
-    forget(project);
-    answer
+    listed(alloc, form, &project)
 }
 
 fn spice<F: Folder>(alloc: Global, names: Items<Name>, folder: &mut F) -> Result<Answer, RunFault>
@@ -219,9 +217,7 @@ fn drc<F: Folder>(
 {
     let matrix = matrix_of(alloc, matrix, folder)?;
     let project = project_of(alloc, names.as_slice(), folder)?;
-    let answer = checked(alloc, &matrix, &project);
-    forget(project);
-    answer
+    checked(alloc, &matrix, &project)
 }
 
 fn export<F: Folder>(alloc: Global, file: Name, folder: &mut F) -> Result<Answer, RunFault>
