@@ -29,8 +29,12 @@ except ImportError:
 
 
 def binary():
-    """Chromium; the one without windows of its own, where it is installed, starts sooner."""
-    return shutil.which("chromium-headless-shell") or shutil.which("chromium")
+    """Chromium; the one without windows of its own, where it is installed, starts sooner.
+
+    What stands on the PATH for that one is a script, which would end without its browser.
+    """
+    shell = "/usr/lib/chromium/chromium-headless-shell"
+    return shell if os.access(shell, os.X_OK) else shutil.which("chromium")
 
 
 def missing():
