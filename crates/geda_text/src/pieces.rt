@@ -1,7 +1,7 @@
 ghost use Rattle.std.specs.Prelude.{◌≡◌, ◌+◌, ◌<◌, ◌≤◌, ◌∷◌, length, position, IfSome};
 ghost use Rattle.std.specs.Iterator.{YieldsFirstRef, item_count};
 ghost use Rattle.geda_text.specs.Lines.{is_blank, fields_of, next_whole, other_fields};
-ghost use Rattle.geda_text.specs.steps.Words.{BeginsWithDigits, StartsWord};
+ghost use Rattle.geda_text.specs.steps.Words.{BeginsWith, BeginsWithDigits, StartsWord};
 
 use crate::number::whole;
 use std::marker::Model;
@@ -47,7 +47,6 @@ fn cut_field(bytes: &[u8]) -> (&[u8], &[u8])
 /// The number that 1 to 9 digits spell, where they stand first and before a blank or the end, and
 /// the bytes behind that blank.
 fn cut_digits(bytes: &[u8]) -> Option<(u32, &[u8])>
-    requires { StartsWord bytes.now }
     ensures { IfSome result (λ r. BeginsWithDigits bytes.now r.0 r.1.now) }
 {
     let mut value: u32 = 0;
@@ -69,6 +68,19 @@ fn cut_digits(bytes: &[u8]) -> Option<(u32, &[u8])>
         return None;
     }
     Some((value, &bytes[count + 1..]))
+}
+
+/// The number that a field spells, where the field stands first, and the bytes behind the blank
+/// that ends it. Where it spells none the answer is `None`.
+fn cut_whole(bytes: &[u8]) -> Option<(i32, &[u8])>
+    ensures { IfSome result (λ r. BeginsWith bytes.now r.0 r.1.now) }
+{
+    if let [b'-', digits @ ..] = bytes {
+        let (number, after) = cut_digits(digits)?;
+        return Some((-(number as i32), after));
+    }
+    let (number, after) = cut_digits(bytes)?;
+    Some((number as i32, after))
 }
 
 /// The fields of a line that are still to come, each of at least one byte and without blanks.
@@ -103,9 +115,9 @@ impl<'a> Fields<'a> {
         ensures rest { self.new ≡ other_fields self.old }
     {
         let rest = without_blanks(self.rest);
-        if let Some((number, after)) = cut_digits(rest) {
+        if let Some((number, after)) = cut_whole(rest) {
             self.rest = after;
-            return Some(Some(number as i32));
+            return Some(Some(number));
         }
         let field = self.next()?;
         Some(whole(field))

@@ -31,7 +31,7 @@ loop-count-preserved c =
 pub returns-then-count-bytes : goal.returns-then-count-bytes
 returns-then-count-bytes c =
     let inv = c.loop-count.invariant in
-    digits_at_end c.args.bytes.now c.loop-count.count c.loop-count.value inv.3 (omega (arith, c.if-count-eq0.false)) inv.4 inv.2 inv.0 inv.1 c.requires c.if-count-bytes.true
+    digits_at_end c.args.bytes.now c.loop-count.count c.loop-count.value inv.3 (omega (arith, c.if-count-eq0.false)) inv.4 inv.2 inv.0 inv.1 c.if-count-bytes.true
 
 pub bounds-bytes-count-2 : goal.bounds-bytes-count-2
 bounds-bytes-count-2 c = omega (arith, c.loop-count.invariant.3, c.if-count-bytes.false)
@@ -40,4 +40,4 @@ pub returns : goal.returns
 returns c =
     let inv = c.loop-count.invariant in
     let more : c.loop-count.count < length c.args.bytes.now = omega (arith, inv.3, c.if-count-bytes.false) in
-    rw take_rest (digits_before_blank c.args.bytes.now c.loop-count.count c.loop-count.value inv.3 (omega (arith, c.if-count-eq0.false)) inv.4 inv.2 inv.0 inv.1 c.requires more (sym c.is_blank.ensures ∙ c.if-not-is_blank.false))
+    rw take_rest (digits_before_blank c.args.bytes.now c.loop-count.count c.loop-count.value inv.3 (omega (arith, c.if-count-eq0.false)) inv.4 inv.2 inv.0 inv.1 more (sym c.is_blank.ensures ∙ c.if-not-is_blank.false))
