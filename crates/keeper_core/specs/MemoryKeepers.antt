@@ -1,5 +1,6 @@
 -- What the keeper in memory holds, and how a call changes it (own).
-use Rattle.std.specs.Prelude.{ℕ, ◌+◌, ◌-◌, ◌^◌, List, min, Contains}
+use Rattle.std.specs.Prelude.{ℕ, List, Contains}
+use Rattle.outside.specs.Counts.{one_more}
 use Rattle.edit_entries.specs.Entries.{EntryData}
 
 -- the rows, the numbers of the calls that fail, and how many calls there were and failed
@@ -8,10 +9,6 @@ pub record MemoryKeeperData : Type 0 where
   pub failing : List ℕ
   pub calls : ℕ
   pub faults : ℕ
-
--- one more, but at the end of its type a count stays
-abbrev pub one_more : ℕ → ℕ
-one_more count = min (count + 1) (2 ^ 64 - 1)
 
 -- the next call of the keeper is to fail
 abbrev pub KeeperFails : MemoryKeeperData → Type 0

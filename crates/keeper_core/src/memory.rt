@@ -8,15 +8,14 @@ ghost use Rattle.keeper_core.specs.declared.keeper.KeepFault.TheVariants as faul
 
 use crate::keeper::{KeepFault, Keeper};
 use edit_entries::Entry;
+use outside::FailingCalls;
 use std::marker::Model;
 
 /// A keeper in memory that tells its rows.
 #[derive(Drop)]
 pub struct MemoryKeeper {
     rows: Vec<Entry>,
-    failing: Vec<u64>,
-    calls: u64,
-    faults: u64,
+    planned: FailingCalls,
 }
 
 impl Model for MemoryKeeper {
@@ -26,9 +25,9 @@ impl Model for MemoryKeeper {
 
     ghost view = { λ k. record {
       rows = k.rows.items;
-      failing = k.failing.items;
-      calls = k.calls;
-      faults = k.faults;
+      failing = k.planned.failing;
+      calls = k.planned.calls;
+      faults = k.planned.faults;
     } };
 }
 
@@ -43,9 +42,7 @@ impl MemoryKeeper {
     {
         MemoryKeeper {
             rows,
-            failing,
-            calls: 0,
-            faults: 0,
+            planned: FailingCalls::new(failing),
         }
     }
 
@@ -60,24 +57,7 @@ impl MemoryKeeper {
     pub fn calls(&self) -> u64
         ensures { result ≡ self.now.calls }
     {
-        self.calls
-    }
-
-    // Counts a call, and says whether it is to fail. Such a one is counted as a fault too.
-    fn is_failing_call(&mut self) -> bool
-        ensures failing { IsTrue result ↔ KeeperFails self.old }
-        ensures after { MatchBool result
-            (self.new ≡ keeper_after_fault self.old)
-            (self.new ≡ keeper_after_call self.old self.old.rows) }
-        ensures later { self.old.faults ≤ self.new.faults }
-        ensures cause { IsTrue result → HasRisen self.old.faults self.new.faults }
-    {
-        self.calls = self.calls.saturating_add(1);
-        if self.failing.contains(&self.calls) {
-            self.faults = self.faults.saturating_add(1);
-            return true;
-        }
-        false
+        self.planned.calls()
     }
 
     // Puts one more row.
@@ -123,7 +103,7 @@ impl Keeper for MemoryKeeper {
         ensures err { IfErr result
             (λ e. (e ≡ faults.Failed) × (self.new ≡ keeper_after_fault self.old)) }
     {
-        if self.is_failing_call() {
+        if self.planned.is_next_failing() {
             return Err(KeepFault::Failed);
         }
         Ok(())
@@ -146,7 +126,7 @@ impl Keeper for MemoryKeeper {
         ensures no_memory { IsErrOf result faults.NoMemory →
             self.new ≡ keeper_after_call self.old self.old.rows }
     {
-        if self.is_failing_call() {
+        if self.planned.is_next_failing() {
             return Err(KeepFault::Failed);
         }
         self.push_row(entry)
@@ -167,7 +147,7 @@ impl Keeper for MemoryKeeper {
         ensures after { ¬ (IsErrOf result faults.Failed) →
             self.new ≡ keeper_after_call self.old self.old.rows }
     {
-        if self.is_failing_call() {
+        if self.planned.is_next_failing() {
             return Err(KeepFault::Failed);
         }
         self.row(serial)

@@ -7,7 +7,7 @@ use Rattle.geda_read.specs.declared.fault.ReadFault.{ReadFault}
 use Rattle.geda_read.specs.declared.fault.ReadFault.TheVariants as read
 use Rattle.project_files.specs.declared.fault.FileFault.{FileFault}
 use Rattle.project_files.specs.declared.fault.FileFault.TheVariants as faults
-use Rattle.project_files.specs.Counts.{Counts, counts}
+use Rattle.outside.specs.Counts.{Counts, counts}
 use Rattle.project_files.specs.FileReads.{ReadAs}
 use Rattle.project_files.specs.ProjectFiles.{IsAnswer, IsFolderAnswer, with_view}
 use Rattle.project_files.specs.steps.Passing.{IsRefusalOf}

@@ -5,7 +5,7 @@ use Rattle.std.specs.Str.{bytes_eq}
 use Rattle.std.specs.declared.alloc.Global.{Global}
 use Rattle.std.specs.BTreeMap.{BTreeMap, insert_entry}
 use Rattle.geda_defs.specs.Order.{by_bytes}
-use Rattle.project_files.specs.Counts.{one_more}
+use Rattle.outside.specs.Counts.{one_more}
 
 -- files by name, the numbers of the calls that fail, and how many calls there were and failed
 pub record MemoryFolderData : Type 0 where

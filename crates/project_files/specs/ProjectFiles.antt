@@ -11,7 +11,7 @@ use Rattle.project_files.specs.declared.fault.FileFault.{FileFault}
 use Rattle.project_files.specs.Gathering.{Gathered, ObjectsComeTo, ProjectFiles, unread}
 use Rattle.project_files.specs.FileReads.{FileComesTo, ReadAs, Then}
 use Rattle.project_files.specs.Opening.{opened}
-use Rattle.project_files.specs.Counts.{Counts, Failed}
+use Rattle.outside.specs.Counts.{Counts, Failed}
 use Rattle.project_files.specs.declared.fault.FileFault.TheVariants as faults
 
 -- with one more sheet that is read

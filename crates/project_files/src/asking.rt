@@ -2,7 +2,7 @@
 ghost use Rattle.std.specs.Prelude.{◌≡◌, ◌≤◌, ◌∷◌, [], IfOk, false, option_copied, true};
 ghost use Rattle.geda_defs.specs.Contents.{KeepsFiles};
 ghost use Rattle.geda_model.specs.Names.{is_name};
-ghost use Rattle.project_files.specs.Counts.{counts};
+ghost use Rattle.outside.specs.Counts.{counts};
 ghost use Rattle.project_files.specs.Gathering.{sources_of};
 ghost use Rattle.project_files.specs.ProjectFiles.{IsFolderAnswer, with_view};
 ghost use Rattle.project_files.specs.steps.Progress.{Asks, TakesNext, is_in};

@@ -5,7 +5,7 @@ ghost use Rattle.geda_grammar.specs.Faults.{sheet_file, symbol_file};
 ghost use Rattle.geda_model.specs.Names.{is_name};
 ghost use Rattle.project_files.specs.FileReads.{IsRead, ReadAs};
 ghost use Rattle.project_files.specs.Gathering.{asked_symbol};
-ghost use Rattle.project_files.specs.Counts.{counts};
+ghost use Rattle.outside.specs.Counts.{counts};
 ghost use Rattle.project_files.specs.ProjectFiles.{IsAnswer, IsFolderAnswer};
 ghost use Rattle.project_files.specs.declared.fault.FileFault.TheVariants.{Refused};
 ghost use Rattle.project_files.specs.steps.Reading.{SheetFrom, SymbolFrom};

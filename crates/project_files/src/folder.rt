@@ -9,8 +9,8 @@ ghost use Rattle.project_files.specs.FolderWrites.{WritesFile};
 ghost use Rattle.project_files.specs.MemoryFolder.{file_in, files_in};
 ghost use Rattle.project_files.specs.declared.folder.FolderFault.TheVariants.{NoMemory};
 
-use crate::failing_calls::is_listed;
 use geda_model::{MOST_FILE_BYTES, Name};
+use outside::FailingCalls;
 use std::alloc::{AllocError, Global};
 use std::collections::BTreeMap;
 use std::marker::Model;
@@ -67,9 +67,7 @@ pub trait Folder {
 #[derive(Drop)]
 pub struct MemoryFolder {
     files: BTreeMap<Name, Vec<u8>>,
-    failing: Vec<u64>,
-    calls: u64,
-    faults: u64,
+    planned: FailingCalls,
 }
 
 impl Model for MemoryFolder {
@@ -79,9 +77,9 @@ impl Model for MemoryFolder {
 
     ghost view = { λ m. record {
       files = files_in m.files;
-      failing = m.failing.items;
-      calls = m.calls;
-      faults = m.faults;
+      failing = m.planned.failing;
+      calls = m.planned.calls;
+      faults = m.planned.faults;
     } };
 }
 
@@ -137,9 +135,7 @@ impl MemoryFolder {
     {
         MemoryFolder {
             files,
-            failing,
-            calls: 0,
-            faults: 0,
+            planned: FailingCalls::new(failing),
         }
     }
 
@@ -179,9 +175,7 @@ impl Folder for MemoryFolder {
         ensures after_read { ¬ (IsErrOf result FolderFault.Failed) →
             self.new ≡ folder_after_read self.old }
     {
-        self.calls = self.calls.saturating_add(1);
-        if is_listed(&self.failing, self.calls) {
-            self.faults = self.faults.saturating_add(1);
+        if self.planned.is_next_failing() {
             return Err(FolderFault::Failed);
         }
         match find_file(&self.files, name) {
@@ -208,9 +202,7 @@ impl Folder for MemoryFolder {
         ensures after_write { OnOk result
             (self.new ≡ folder_after_write self.old name.now bytes.now) }
     {
-        self.calls = self.calls.saturating_add(1);
-        if is_listed(&self.failing, self.calls) {
-            self.faults = self.faults.saturating_add(1);
+        if self.planned.is_next_failing() {
             return Err(FolderFault::Failed);
         }
         put_file(alloc, &mut self.files, name, bytes)?;

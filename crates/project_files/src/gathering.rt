@@ -2,7 +2,7 @@
 ghost use Rattle.std.specs.Prelude.{◌≡◌, ◌≢◌, ◌≤◌, ◌++◌, ◌∷◌, [], IfOk, OnOk};
 ghost use Rattle.std.specs.List.{AllPairs};
 ghost use Rattle.geda_defs.specs.Contents.{KeepsFiles};
-ghost use Rattle.project_files.specs.Counts.{counts};
+ghost use Rattle.outside.specs.Counts.{counts};
 ghost use Rattle.project_files.specs.Gathering.{AskedSymbol};
 ghost use Rattle.project_files.specs.ProjectFiles.{IsFolderAnswer, with_view};
 ghost use Rattle.project_files.specs.steps.Standing.{IsStart, IsWhole, ReadsFrom, ReadsWords};

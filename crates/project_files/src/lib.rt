@@ -1,6 +1,9 @@
 //! The project of the files of a folder: the sheets that are named, those below them, and the
 //! symbols that they ask for.
 //!
+//! A `Folder` is a trait, with a form in memory and the real one. Sheets come by a queue in which
+//! each stands once, and each symbol is read once.
+//!
 //! The main call is `project_of`, over any `Folder`. Rule: docs/RULES.md, "The project of the
 //! files". Definitions: specs/ProjectFiles.antt, which stands on FileReads.antt, Gathering.antt and
 //! Opening.antt.
@@ -8,7 +11,6 @@
 
 mod asking;
 mod dir_folder;
-mod failing_calls;
 mod fault;
 mod file_reads;
 mod folder;
@@ -20,7 +22,6 @@ mod project_text;
 mod replacing;
 
 pub use dir_folder::DirFolder;
-pub use failing_calls::is_listed;
 pub use fault::FileFault;
 pub use file_reads::{sheet_in, symbol_in};
 pub use folder::{Folder, FolderFault, MemoryFolder};

@@ -2,7 +2,7 @@
 ghost use Rattle.std.specs.Prelude.{◌≡◌, ◌≢◌, ◌-◌, ◌^◌, ◌≤◌, IfOk, min};
 ghost use Rattle.std.specs.List.{AllPairs};
 ghost use Rattle.geda_defs.specs.Contents.{KeepsFiles};
-ghost use Rattle.project_files.specs.Counts.{counts};
+ghost use Rattle.outside.specs.Counts.{counts};
 ghost use Rattle.project_files.specs.Measures.{LeavesIds, symbols_text};
 ghost use Rattle.project_files.specs.ProjectFiles.{GathersFrom, IsFolderAnswer, with_view};
 

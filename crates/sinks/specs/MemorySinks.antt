@@ -1,6 +1,6 @@
 -- What the sink in memory holds, and how a call changes it (own).
 use Rattle.std.specs.Prelude.{ℕ, ◌-◌, ◌<◌, ◌⊎◌, ◌++◌, List, length, Contains}
-use Rattle.project_files.specs.Counts.{one_more}
+use Rattle.outside.specs.Counts.{one_more}
 
 -- the bytes written, the room for more, the numbers of the calls that fail, and how many calls
 -- there were and failed

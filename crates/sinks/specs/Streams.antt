@@ -1,7 +1,7 @@
 -- What went to a stream in a run (own).
 use Rattle.std.specs.Prelude.{◌≡◌, ℕ, List, ◌++◌, Some, None, ⊤, take}
 use Rattle.std.specs.declared.option.Option.{Option}
-use Rattle.project_files.specs.Counts.{Counts, Failed}
+use Rattle.outside.specs.Counts.{Counts, Failed}
 
 -- what a stream holds, where it tells it, and how often it failed, before a run and after it
 pub record Stream : Type 0 where

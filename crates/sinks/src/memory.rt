@@ -1,6 +1,6 @@
 // A sink in memory, of which some calls fail.
 use crate::sink::{Sink, SinkFault};
-use project_files::is_listed;
+use outside::FailingCalls;
 use std::alloc::{AllocError, Global};
 use std::marker::Model;
 
@@ -9,9 +9,7 @@ use std::marker::Model;
 pub struct MemorySink {
     written: Vec<u8>,
     room: usize,
-    failing: Vec<u64>,
-    calls: u64,
-    faults: u64,
+    planned: FailingCalls,
 }
 
 impl Model for MemorySink {
@@ -23,9 +21,9 @@ impl Model for MemorySink {
     ghost view = { λ m. record {
       written = m.written.items;
       room = m.room;
-      failing = m.failing.items;
-      calls = m.calls;
-      faults = m.faults;
+      failing = m.planned.failing;
+      calls = m.planned.calls;
+      faults = m.planned.faults;
     } };
 
     ghost invariant = { λ m. vec_len m.written + m.room ≤ vec_capacity m.written };
@@ -46,9 +44,7 @@ impl MemorySink {
         Ok(MemorySink {
             written: Vec::with_capacity(alloc, room)?,
             room,
-            failing,
-            calls: 0,
-            faults: 0,
+            planned: FailingCalls::new(failing),
         })
     }
 
@@ -82,13 +78,11 @@ impl Sink for MemorySink {
         ensures after_write { OnOk result (self.new ≡ sink_after_write self.old piece.now) }
         ensures after_fault { OnErr result (self.new ≡ sink_after_fault self.old) }
     {
-        self.calls = self.calls.saturating_add(1);
-        if is_listed(&self.failing, self.calls) {
-            self.faults = self.faults.saturating_add(1);
+        if self.planned.is_next_failing() {
             return Err(SinkFault::Failed);
         }
         if piece.len() > self.room {
-            self.faults = self.faults.saturating_add(1);
+            self.planned.count_fault();
             return Err(SinkFault::Failed);
         }
         self.written.extend_from_slice(piece).unwrap();

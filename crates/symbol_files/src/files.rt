@@ -2,7 +2,7 @@
 ghost use Rattle.std.specs.Prelude.{◌≤◌, []};
 ghost use Rattle.geda_defs.specs.Contents.{KeepsFiles};
 ghost use Rattle.geda_grammar.specs.Faults.{symbol_file};
-ghost use Rattle.project_files.specs.Counts.{counts};
+ghost use Rattle.outside.specs.Counts.{counts};
 ghost use Rattle.project_files.specs.FileReads.{ReadAs};
 ghost use Rattle.project_files.specs.ProjectFiles.{IsAnswer, IsFolderAnswer, with_view};
 ghost use Rattle.project_files.specs.declared.fault.FileFault.TheVariants.{Refused};

@@ -1,6 +1,7 @@
 -- A connection in memory (own).
-use Rattle.std.specs.Prelude.{ℕ, ◌+◌, ◌-◌, ◌^◌, ◌==◌, min, Bool, nat_lt, if◌then◌else◌, List, ◌++◌, length, take, drop, Result, Ok, Err}
+use Rattle.std.specs.Prelude.{ℕ, ◌-◌, ◌==◌, min, Bool, nat_lt, if◌then◌else◌, List, ◌++◌, length, take, drop, Result, Ok, Err}
 use Rattle.std.specs.List.{list_any}
+use Rattle.outside.specs.Counts.{one_more}
 use Rattle.web_heads.specs.declared.link.LinkFault.{LinkFault}
 use Rattle.web_heads.specs.declared.link.LinkFault.TheVariants.{Failed}
 
@@ -14,10 +15,6 @@ pub record MemoryLinkData : Type 0 where
   pub calls : ℕ
   pub read_faults : ℕ
   pub write_faults : ℕ
-
--- one more, up to the end of the type
-abbrev pub one_more : ℕ → ℕ
-one_more n = min (n + 1) (2 ^ 64 - 1)
 
 -- the next call is to fail
 abbrev pub fails : MemoryLinkData → Bool

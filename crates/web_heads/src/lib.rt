@@ -1,6 +1,8 @@
 //! The messages of an HTTP connection: what a connection does, where each message ends, and why
 //! none follows.
 //!
+//! It reads on until the next message is whole, or until it is known why none follows.
+//!
 //! The main call is `next_message`, over a `Link`; `MemoryLink` is one in memory. Profile:
 //! docs/FORMATS.md, "HTTP". Rule: docs/RULES.md, "Messages". Definitions: specs/Cuts.antt and those
 //! that it cites.

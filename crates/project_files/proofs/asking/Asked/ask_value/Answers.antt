@@ -1,5 +1,5 @@
 use Rattle.std.proofs.Common.{ℕ, List, [], ◌∷◌, sym, subst, ◌∙◌}
-use Rattle.project_files.specs.Counts.{counts}
+use Rattle.outside.specs.Counts.{counts}
 use Rattle.project_files.specs.ProjectFiles.{IsFolderAnswer, with_view}
 use Rattle.project_files.specs.steps.Progress.{AskedData, Asks}
 use Rattle.project_files.specs.steps.Asking.{AsksValues}
