@@ -58,6 +58,7 @@ fn join_in(
         (AreGroups index.old.conductors (members_of partition.new)) }
     ensures conductors { index.new.conductors ≡ index.old.conductors }
     ensures steps { index.new.asked ≤ index.old.asked + 1 }
+    ensures later { index.old.asked ≤ index.new.asked }
 {
     let near = index.neighbours(key)?;
     partition.put(alloc, key, key)?;
@@ -90,6 +91,7 @@ fn split(
     ensures conductors { index.new.conductors ≡ index.old.conductors }
     ensures steps { (keys : List Key) → IsGroup index.old.conductors key keys
         → index.new.asked ≤ index.old.asked + length keys }
+    ensures later { index.old.asked ≤ index.new.asked }
 {
     let near = index.neighbours(key)?;
     let head = partition.head(key).unwrap();
@@ -115,6 +117,7 @@ fn group_all(
     ensures groups { OnOk result (AreGroups index.old.conductors (members_of partition.new)) }
     ensures conductors { index.new.conductors ≡ index.old.conductors }
     ensures steps { index.new.asked ≤ index.old.asked + map.len index.old.conductors }
+    ensures later { index.old.asked ≤ index.new.asked }
 {
     let mut left = partition.keys(alloc)?;
     let all = listed(alloc, &left)?;
@@ -181,6 +184,7 @@ impl Groups {
         ensures err { OnErr result (self.new.conductors ≡ self.old.conductors) }
         ensures invalidated { OnErr result (self.new.fresh ≡ false) }
         ensures steps { self.new.asked ≤ self.old.asked + 1 }
+        ensures later { self.old.asked ≤ self.new.asked }
     {
         self.fresh = false;
         add(&mut self.index, &mut self.partition, key, sealed)?;
@@ -209,6 +213,7 @@ impl Groups {
         ensures invalidated { OnErr result (self.new.fresh ≡ false) }
         ensures steps { (keys : List Key) → IsGroup self.old.conductors key keys
             → self.new.asked ≤ self.old.asked + length keys }
+        ensures later { self.old.asked ≤ self.new.asked }
     {
         self.fresh = false;
         let parted = split(self.alloc, &mut self.index, &mut self.partition, key);
@@ -233,6 +238,7 @@ impl Groups {
         ensures invalidated { OnErr result (self.new.fresh ≡ false) }
         ensures steps { self.new.asked
             ≤ self.old.asked + map.len self.old.conductors }
+        ensures later { self.old.asked ≤ self.new.asked }
     {
         self.fresh = false;
         self.partition.clear(self.alloc);

@@ -73,6 +73,7 @@ fn ask(
     ensures conductors { index.new.conductors ≡ index.old.conductors }
     ensures steps { index.new.asked + length left.new.keys + length waiting.new.items
         ≤ index.old.asked + length left.old.keys + length waiting.old.items + 1 }
+    ensures later { index.old.asked ≤ index.new.asked }
 {
     let near = index.neighbours(key)?;
     for other in &near {
@@ -110,6 +111,7 @@ fn race(
         + (length first.waiting.items + length second.waiting.items)) }
     ensures steps { index.new.asked ≤ index.old.asked + length left.old.keys
         + (length first.waiting.items + length second.waiting.items) }
+    ensures later { index.old.asked ≤ index.new.asked }
 {
     let mut first = first;
     let mut second = second;
@@ -151,6 +153,7 @@ pub(crate) fn search_from(
         left.old left.new start partition.old partition.new) }
     ensures conductors { index.new.conductors ≡ index.old.conductors }
     ensures steps { index.new.asked ≤ index.old.asked + length left.old.keys }
+    ensures later { index.old.asked ≤ index.new.asked }
 {
     let mut last = Search {
         start: Key { id: 0, place: 0 },

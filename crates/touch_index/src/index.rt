@@ -1,5 +1,5 @@
 // Conductors by key, with the grid that finds what touches.
-ghost use Rattle.std.specs.Prelude.{◌≡◌, ◌↔◌, ◌+◌, ◌-◌, ◌^◌, min, Contains, Some, None, IsSome, IfOk, OnOk, OnErr};
+ghost use Rattle.std.specs.Prelude.{◌≡◌, ◌≤◌, ◌↔◌, ◌+◌, ◌-◌, ◌^◌, min, Contains, Some, None, IsSome, IfOk, OnOk, OnErr};
 ghost use Rattle.std.specs.FinMap as map;
 ghost use Rattle.std.specs.List.Sorted.{IsStrictlySortedBy};
 ghost use Rattle.geda_geom.specs.declared.conductor.Key.{Key};
@@ -114,6 +114,7 @@ impl TouchIndex {
             → Contains keys.items q ↔ IsNeighbour (map.get self.old.conductors) key q) }
         ensures conductors { self.new.conductors ≡ self.old.conductors }
         ensures asked { self.new.asked ≡ min (self.old.asked + 1) (2 ^ 64 - 1) }
+        ensures later { self.old.asked ≤ self.new.asked }
     {
         self.queries = self.queries.saturating_add(1);
         touching(self.alloc, &self.conductors, &self.grid, key)
