@@ -13,5 +13,6 @@ pub mod RenewLemmas
 pub mod RegroupLemmas
 pub mod BoardLemmas
 pub mod OpenLemmas
+pub mod NameLemmas
 pub mod LabelLemmas
 pub mod LocalLemmas

@@ -1,6 +1,5 @@
 -- The least keys of groups that are kept are the keys at the labels of the classes.
 use Rattle.std.proofs.Common.{◌≡◌, ◌<◌, ◌≤◌, ◌+◌, inl, inr, ℕ, zero, suc, Bool, true, false, List, [], ◌∷◌, ◌++◌, Option, Some, None, IsSome, is_some, append_assoc, get_or, length, length-append, map, nat_lt, slice_index_or, take, refl, sym, ap, subst, ◌∙◌, arith}
-use Rattle.std.specs.Prelude.{Contains}
 use Rattle.std.specs.BTreeMap.{BTreeMap, IsFromIterResult}
 use Rattle.std.specs.FinMap.{get, get-empty}
 use Rattle.std.specs.List.{slice_get}

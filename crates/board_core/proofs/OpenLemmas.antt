@@ -93,8 +93,12 @@ no_entries : (es : List (ℕ × Placed)) → length es ≡ 0 → es ≡ []
 no_entries [] e = refl
 no_entries (row ∷ es) e = absurd (omega (arith, e))
 
--- the empty project has no conductors
+-- the empty project has no objects
+pub no_objects : entries empty_project.objects ≡ []
+no_objects = no_entries (entries empty_project.objects) (sym (len-entries empty_project.objects) ∙ len-empty nat_cmp Placed)
+
+-- nor has it conductors
 pub empty_holds : HoldsProject empty_project []
 empty_holds s =
     ap (λ (rows : List (ℕ × Placed)). with_all (λ t. empty) (map come (flat_map (conductors_at empty_project) rows)) s)
-    (no_entries (entries empty_project.objects) (sym (len-entries empty_project.objects) ∙ len-empty nat_cmp Placed))
+    no_objects

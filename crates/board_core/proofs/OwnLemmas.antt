@@ -9,7 +9,6 @@ use Rattle.std.specs.declared.cmp.Ordering.TheVariants.{Less, Equal, Greater}
 use Rattle.std.specs.Cmp.{nat_cmp_is}
 use Rattle.std.specs.Prelude.{nat_lt}
 use Rattle.std.proofs.lemmas.Cmp.{nat_cmp_total}
-use Rattle.std.proofs.lemmas.List.{append-nil}
 use Rattle.std.proofs.lemmas.Map.Lookups.{exact_unsigned}
 use Rattle.std.proofs.lemmas.Map.Views.{btree_set_contains_iff}
 use Rattle.geda_model.specs.declared.object.Body.{Body}
@@ -26,7 +25,7 @@ use Rattle.board_core.specs.Bounds.{is_renewed}
 use Rattle.board_core.specs.Changed.{has_symbol, has_symbol_of, has_thing, is_changed, is_object}
 use Rattle.board_core.specs.steps.ChangedThings.{HasNoSymbol}
 use Rattle.board_core.specs.steps.Members.{In}
-use Rattle.board_core.specs.steps.Standing.{changed_rows, coming_rows, drawn_in, found_row, found_rows, given_rows, own_rows}
+use Rattle.board_core.specs.steps.Standing.{drawn_in, found_row, found_rows, own_rows}
 use Rattle.board_core.proofs.MemberLemmas.{contains_in, filtered, found, in_contains, in_filter, in_found}
 use Rattle.board_core.proofs.PutLemmas.{drawn_stays, in_entries}
 use Rattle.board_core.proofs.ChangeLemmas.{row_there}
@@ -129,11 +128,6 @@ own_found p items ids rising has =
         (contains_in row.0 ids.keys ((btree_set_contains_iff nat_cmp_total exact_unsigned ids row.0).0 (has row.0 ∙ f.1)))
         (ap (option_map (λ placed. (row.0, placed))) (row_there p row f.0))
 
--- tests that agree leave the same objects
-filter_same : (t u : ℕ × Placed → Bool) (rows : List (ℕ × Placed)) → ((row : ℕ × Placed) → t row ≡ u row) → filter t rows ≡ filter u rows
-filter_same t u [] same = refl
-filter_same t u (row ∷ rows) same = λ i. cond (same row i) (row ∷ filter_same t u rows same i) (filter_same t u rows same i)
-
 none_passes : (t : ℕ × Placed → Bool) (rows : List (ℕ × Placed)) → ((row : ℕ × Placed) → t row ≡ false) → filter t rows ≡ []
 none_passes t [] none = refl
 none_passes t (row ∷ rows) none = ap (λ b. cond b (row ∷ filter t rows) (filter t rows)) (none row) ∙ none_passes t rows none
@@ -173,17 +167,6 @@ no_symbol_of items o none = by o.body refl
     by (bodies.Component c) is = rw is (of_parts c.basename c.embedded)
 
 module _ (p : ProjectData) (items : List Item) (none : HasNoSymbol items) where
-  -- a change without symbols changes its own objects alone
-  pub own_changed : own_rows p items ≡ changed_rows p items
-  own_changed = filter_same (λ row. has_thing (is_object row.0) items) (is_changed items) (entries p.objects) same
-    where
-      same : (row : ℕ × Placed) → has_thing (is_object row.0) items ≡ is_changed items row
-      same row = by (has_thing (is_object row.0) items)
-        where
-          by : (b : Bool) → b ≡ (b || has_symbol_of items row.1.object)
-          by true = refl
-          by false = sym (no_symbol_of items row.1.object none)
-
   -- what is drawn of objects stays
   pub drawn_same : (rows : List (ℕ × Placed)) → drawn_in p rows ≡ drawn_in (put p items) rows
   drawn_same [] = refl

@@ -7,6 +7,7 @@ use Rattle.project_model.specs.declared.change.Thing.{Thing}
 use Rattle.project_model.specs.Items.{Item}
 use Rattle.board_core.specs.Changed.{has_thing, is_object, is_symbol}
 use Rattle.board_core.specs.steps.ChangedThings.{AddsId, AddsSymbol, HasThings}
+use Rattle.board_core.specs.steps.SymbolNames.{HasNoneKnown, Known}
 
 either : (a b : Bool) → cond b true a ≡ (a || b)
 either true true = refl
@@ -28,6 +29,14 @@ things_more items i item ids more_ids names more_names lt here has adds_id adds_
   objects = λ id. has_more (is_object id) items i item (ids id) (more_ids id) lt here (has.objects id) (adds_id id);
   names = λ name. has_more (is_symbol name) items i item (names name) (more_names name) lt here (has.names name) (adds_symbol name);
 }
+
+-- one more item, which is no symbol of a known name
+pub none_more : (known : Known) (items : List Item) (i : ℕ) (item : Item) → i < length items → item ≡ get_or items i item
+    → HasNoneKnown known (take i items) → ((name : List ℕ) → known name ≡ true → is_symbol name item.0 ≡ false) → HasNoneKnown known (take (i + 1) items)
+none_more known items i item lt here had is name e =
+    list_any_more (λ (x : Item). is_symbol name x.0) items i item lt
+    ∙ ap (λ (x : Item). has_thing (is_symbol name) (take i items) || is_symbol name x.0) (sym here)
+    ∙ (λ j. had name e j || is name e j)
 
 pub not_false : (b : Bool) → not b ≡ false → b ≡ true
 not_false true e = refl

@@ -2,5 +2,6 @@
 pub mod Members
 pub mod ChangedThings
 pub mod Standing
+pub mod SymbolNames
 pub mod Kept
 pub mod Reading

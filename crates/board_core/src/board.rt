@@ -13,13 +13,14 @@ use crate::grouped::grouped;
 use crate::local::kept_groups;
 use crate::put_in::with_room;
 use crate::regroup::regroup;
+use crate::symbol_names::{learn_change, names_in};
 use geda_geom::Key;
 use geda_model::{Head, Name};
 use group_runs::SheetGroups;
 use project_model::{Change, Project};
 use sheet_groups::local_groups;
 use std::alloc::{AllocError, Global};
-use std::collections::BTreeMap;
+use std::collections::{BTreeMap, HashSet};
 use std::marker::Model;
 
 /// A project, with the groups of the conductors that touch on its sheets.
@@ -29,11 +30,15 @@ use std::marker::Model;
 pub struct Board {
     project: Project,
     groups: SheetGroups,
+    // Among these are the names of the library symbols of all components. None is taken out, so
+    // that the change which brings a symbol that no component has ever had looks at no object.
+    names: HashSet<String>,
 }
 
 impl Model for Board {
     ghost use Rattle.std.specs.FinMap as map;
     ghost use Rattle.std.specs.Coded.{codes};
+    ghost use Rattle.std.specs.HashSet.{contains_text};
     ghost use Rattle.group_runs.specs.Sheets.{asked_sum, given_up};
     ghost use Rattle.board_core.specs.Boards.{BoardData};
     ghost use Rattle.board_core.specs.steps.Kept.{IsSound};
@@ -49,7 +54,8 @@ impl Model for Board {
       counted = asked_sum b.groups.rows;
     } };
 
-    ghost invariant = { λ b. IsSound b.project.contents b.groups.rows b.groups.steps };
+    ghost invariant = { λ b.
+        IsSound b.project.contents b.groups.rows b.groups.steps (contains_text b.names) };
 }
 
 impl Board {
@@ -63,6 +69,7 @@ impl Board {
         Board {
             project: Project::new(alloc),
             groups: SheetGroups::new(alloc),
+            names: HashSet::new(alloc),
         }
     }
 
@@ -76,9 +83,11 @@ impl Board {
         ensures counted { IfOk result IsCounted }
     {
         let groups = grouped(alloc, project)?;
+        let names = names_in(alloc, project)?;
         Ok(Board {
             project: project.copy(alloc)?,
             groups,
+            names,
         })
     }
 
@@ -150,7 +159,8 @@ impl Board {
         ensures few { StaysInBound self.old change.now.items self.new }
     {
         let copy = with_room(alloc, &mut self.project, change)?;
-        let regrouped = regroup(alloc, &self.project, &mut self.groups, change);
+        learn_change(alloc, &mut self.names, change)?;
+        let regrouped = regroup(alloc, &self.project, &mut self.groups, &self.names, change);
         // The steps are read so that the proof knows that they are below 2^64.
         let _ = self.groups.steps();
         let bound = regrouped?;
@@ -168,7 +178,7 @@ impl Board {
         requires { CanApply change.now.items }
         ensures { IfOk result (IsBound self.now.project change.now.items) }
     {
-        bound_of(alloc, &self.project, change)
+        bound_of(alloc, &self.project, &self.names, change)
     }
 
     /// The key of each conductor with the least key of its group (docs/RULES.md, "Groups"). Where

@@ -1,9 +1,12 @@
 // The groups of a project are those of the project after a change.
 ghost use Rattle.std.specs.Prelude.{◌≡◌, ◌≤◌, ◌++◌, map, IfOk, OnOk, OnErr};
+ghost use Rattle.std.specs.FinMap.{entries};
+ghost use Rattle.std.specs.HashSet.{contains_text};
 ghost use Rattle.project_model.specs.Changes.{CanApply};
 ghost use Rattle.project_model.specs.Tables.{row_now};
 ghost use Rattle.board_core.specs.Bounds.{IsBound};
 ghost use Rattle.board_core.specs.steps.Kept.{AreMoves, AreRenewed, HoldsProject, IsPartly, IsRegrouped, Renews, StaysWithin, sheets_at, sheets_named, touched_sheets};
+ghost use Rattle.board_core.specs.steps.SymbolNames.{AreKnown};
 
 use crate::changed::Things;
 use crate::drawn::{coming_drawn, keys_in};
@@ -14,6 +17,7 @@ use geda_model::Name;
 use group_runs::SheetGroups;
 use project_model::{Change, Placed, Project, Thing, Value};
 use std::alloc::{AllocError, Global};
+use std::collections::HashSet;
 
 /// What leaves and comes with a change: the objects, and what is drawn of them.
 #[derive(Drop)]
@@ -28,16 +32,18 @@ pub(crate) struct Moves<'p> {
 fn moves_of<'p>(
     alloc: Global,
     project: &'p Project,
+    names: &HashSet<String>,
     change: &Change,
     things: &'p Things<'_>,
 ) -> Result<Moves<'p>, AllocError>
+    requires known { AreKnown (contains_text names.now) (entries project.now.contents.objects) }
     requires can_apply { CanApply change.now.items }
     requires same { things.now ≡ change.now.items }
     ensures { IfOk result (λ moves. AreMoves project.now.contents change.now.items
         (map row_now moves.before.items) (map row_now moves.after.items)
         moves.leaving.items moves.coming.items) }
 {
-    let before = changed_rows(alloc, project, things)?;
+    let before = changed_rows(alloc, project, names, things)?;
     let after = coming_rows(alloc, things, &before)?;
     let leaving = keys_in(alloc, project, &before)?;
     let coming = coming_drawn(alloc, project, change, things, &after)?;
@@ -101,13 +107,16 @@ fn move_all(
 }
 
 /// Makes the groups of a project those of the project after a change. It answers the bound of the
-/// change.
+/// change. Only where the change has a symbol of one of these names, among which are those of all
+/// components, all objects are looked through.
 pub(crate) fn regroup(
     alloc: Global,
     project: &Project,
     groups: &mut SheetGroups,
+    names: &HashSet<String>,
     change: &Change,
 ) -> Result<u64, AllocError>
+    requires known { AreKnown (contains_text names.now) (entries project.now.contents.objects) }
     requires can_apply { CanApply change.now.items }
     requires held { HoldsProject project.now.contents groups.old.rows }
     ensures ok { OnOk result (IsRegrouped project.now.contents change.now.items
@@ -120,6 +129,6 @@ pub(crate) fn regroup(
         groups.old.steps groups.new.steps }
 {
     let things = Things::of(alloc, change.items.as_slice())?;
-    let moves = moves_of(alloc, project, change, &things)?;
+    let moves = moves_of(alloc, project, names, change, &things)?;
     move_all(alloc, project, groups, change, &moves)
 }

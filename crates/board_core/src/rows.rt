@@ -1,16 +1,21 @@
 // The objects whose conductors leave or come with a change.
 ghost use Rattle.std.specs.Prelude.{◌≡◌, ◌++◌, ◌∷◌, [], cond, IfOk, OnOk, filter, map};
+ghost use Rattle.std.specs.FinMap.{entries};
+ghost use Rattle.std.specs.HashSet.{contains_text};
 ghost use Rattle.std.specs.Option.{option_map};
 ghost use Rattle.project_model.specs.Projects.{ProjectData, is_on};
 ghost use Rattle.project_model.specs.Tables.{row_now};
 ghost use Rattle.board_core.specs.Bounds.{is_renewed};
 ghost use Rattle.board_core.specs.Changed.{is_changed};
 ghost use Rattle.board_core.specs.steps.Standing.{changed_rows, coming_rows, given_row, given_rows, renewed_rows, rows_on, some_row};
+ghost use Rattle.board_core.specs.steps.SymbolNames.{AreKnown};
 
 use crate::changed::Things;
+use crate::symbol_names::has_any;
 use geda_model::Name;
 use project_model::{Placed, Project, Thing, Value};
 use std::alloc::{AllocError, Global};
+use std::collections::HashSet;
 
 /// Adds an object, if it is wanted.
 fn push_if<'p>(
@@ -60,16 +65,19 @@ fn changed_among<'p>(
 
 /// The objects of a project whose conductors leave with a change, by id.
 ///
-/// Where the change has no symbol, only its own objects are looked at.
+/// Where the change has no symbol of one of these names, among which are those of all components,
+/// only its own objects are looked at.
 pub(crate) fn changed_rows<'p>(
     alloc: Global,
     project: &'p Project,
+    names: &HashSet<String>,
     things: &Things<'_>,
 ) -> Result<Vec<(u32, &'p Placed)>, AllocError>
+    requires { AreKnown (contains_text names.now) (entries project.now.contents.objects) }
     ensures { IfOk result (λ changed. map row_now changed.items
         ≡ changed_rows project.now.contents things.now) }
 {
-    if !things.has_symbols() {
+    if !has_any(names, things.items()) {
         return things.own_rows(alloc, project);
     }
     let rows = project.objects_by_id(alloc)?;
@@ -89,7 +97,8 @@ fn given_row(item: &(Thing, Option<Value>)) -> Option<(u32, &Placed)>
     }
 }
 
-fn given_rows<'p>(
+/// The objects that the items of a change give.
+pub(crate) fn given_rows<'p>(
     alloc: Global,
     items: &'p [(Thing, Option<Value>)],
 ) -> Result<Vec<(u32, &'p Placed)>, AllocError>

@@ -1,7 +1,7 @@
 -- Steps of the code; no public clause cites them.
 -- The groups that a board keeps, and sheets whose groups are made anew (own).
 use Rattle.std.specs.Prelude.{◌≡◌, ◌≤◌, ◌+◌, ◌-◌, ◌^◌, min, length, ⊤, ℕ, true, false, List, [], ◌++◌, Option, Some, None, map}
-use Rattle.std.specs.FinMap.{empty}
+use Rattle.std.specs.FinMap.{empty, entries}
 use Rattle.std.specs.List.{filter_map}
 use Rattle.net_flood.specs.Grouping.{Conductors, GroupsData}
 use Rattle.project_model.specs.declared.change.Placed.{Placed}
@@ -14,6 +14,7 @@ use Rattle.group_runs.specs.Runs.{BySheet, Coming, Leaving, SheetName, SizesSum}
 use Rattle.group_runs.specs.Sheets.{IsKept, KeepsGroups, Rows, asked_sum, given_up, is_given_up, row_at}
 use Rattle.sheet_groups.specs.Conductors.{sheet_conductors}
 use Rattle.board_core.specs.steps.Members.{In}
+use Rattle.board_core.specs.steps.SymbolNames.{AreKnown, Known}
 use Rattle.board_core.specs.steps.Standing.{changed_rows, come, coming_drawn, coming_rows, leave, leaving_drawn, on_sheet}
 
 -- the entry of a sheet that has these conductors: its groups are kept and have them, or were given
@@ -100,9 +101,11 @@ StaysWithin p items old before after = NoneGivenUp old (touched_sheets p items)
     → (sum : ℕ) → SizesSum (on_sheet p) (map leave (leaving_drawn p items)) sum
     → after ≤ before + (sum + length (coming_drawn p items))
 
--- a board keeps the groups of its project, and its steps count their queries
-pub record IsSound (p : ProjectData) (rows : Rows) (steps : ℕ) : Type 0 where
+-- a board keeps the groups of its project, its steps count their queries, and the names of the
+-- library symbols of its objects are known
+pub record IsSound (p : ProjectData) (rows : Rows) (steps : ℕ) (names : Known) : Type 0 where
   pub held : HoldsProject p rows
+  pub known : AreKnown names (entries p.objects)
   pub counted : min (asked_sum rows) (2 ^ 64 - 1) ≤ steps
 
 -- no sheet has conductors, and none is given up

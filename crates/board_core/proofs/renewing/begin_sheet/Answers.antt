@@ -1,5 +1,4 @@
 use Rattle.std.proofs.Common.{sym, subst}
-use Rattle.group_runs.specs.Sheets.{KeepsGroups}
 use Rattle.board_core.specs.steps.Kept.{HoldsProject}
 use Rattle.board_core.proofs.BoardLemmas.{all_kept}
 use Rattle.board_core.proofs.RenewLemmas.{begun_holds, begun_keeps}

@@ -1,11 +1,19 @@
-use Rattle.std.proofs.Common.{◌<◌, ◌^◌, subst, arith}
+use Rattle.std.proofs.Common.{◌<◌, ◌^◌, subst, sym, arith}
+use Rattle.std.specs.FinMap.{entries}
+use Rattle.std.specs.HashSet.{contains_text}
 use Rattle.net_flood.proofs.Outcomes.{on_err}
 use Rattle.project_model.specs.Projects.{ProjectData}
 use Rattle.group_runs.specs.Sheets.{asked_sum}
 use Rattle.board_core.specs.Boards.{BoardData, MayGiveUp, RenewsGroups, StaysInBound}
 use Rattle.board_core.specs.steps.Kept.{IsPartly, IsRegrouped, StaysWithin}
+use Rattle.board_core.specs.steps.SymbolNames.{AreKnown}
 use Rattle.board_core.proofs.BoardLemmas.{board_of, may_give_up, renews_groups, stays_in_bound}
 use Rattle.board_core.proofs.board.Board.apply_with_bound.Goals as goal
+
+pub regroup-regrouped-requires-clause-known : goal.regroup-regrouped-requires-clause-known
+regroup-regrouped-requires-clause-known c =
+    c.learn_change.ensures.still c.with_room.new.project.contents
+    (subst (λ (p : ProjectData). AreKnown (contains_text c.self.inside.names) (entries p.objects)) (sym c.with_room.ensures.contents) c.self.invariant.known)
 
 pub returns-in_err-bound-clause-given_up : goal.returns-in_err-bound-clause-given_up
 returns-in_err-bound-clause-given_up c =
