@@ -103,8 +103,8 @@ one_text start count one other a b =
     let nets = same_lists a.run.project a.nets b.nets a.is_net_list (subst (λ (r : RunData). IsNetListOf r.project b.nets) (sym run) b.is_net_list) in
     record {
       front = front_of start count a.run a.groups a.nets;
-      calls = a.calls;
-      other_calls = b.calls;
+      calls = a.board.asked;
+      other_calls = b.board.asked;
       one_is = a.told;
-      other_is = b.told ∙ (λ i. front_of start count (sym run i) (sym groups i) (sym nets i) ++ named_number (codes "calls") b.calls);
+      other_is = b.told ∙ (λ i. front_of start count (sym run i) (sym groups i) (sym nets i) ++ named_number (codes "calls") b.board.asked);
     }

@@ -1,5 +1,5 @@
 -- What is told of a run.
-use Rattle.std.proofs.Common.{◌≡◌, ℕ, ◌≤◌, ◌<◌, ◌-◌, ◌^◌, min, List, Ok, Err, inl, inr, subst, sym, arith}
+use Rattle.std.proofs.Common.{◌≡◌, ℕ, ◌≤◌, ◌<◌, ◌-◌, ◌^◌, min, List, Ok, Err, inl, inr, refl, subst, sym, arith}
 use Rattle.sheet_groups.specs.Conductors.{sheet_conductors}
 use Rattle.sheet_groups.specs.Groups.{AreGroups}
 use Rattle.geda_geom.specs.declared.conductor.Key.{Key}
@@ -35,7 +35,9 @@ WorkComesTo-text start count run p groups nets text same is_run sound calls are_
   are_groups = are_groups;
   nets = nets;
   is_net_list = subst (λ (q : ProjectData). IsNetListOf q nets) same is_net_list;
-  calls = run.board.asked;
+  board = run.board;
+  shows = refl;
+  kept = sound.board.kept;
   few = let few : min run.board.asked (2 ^ 64 - 1) ≤ run.bound = sound.board.few in omega arith;
   told = told;
 }

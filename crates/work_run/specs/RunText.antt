@@ -1,5 +1,5 @@
 -- What is told of a run of the work (own).
-use Rattle.std.specs.Prelude.{◌≡◌, ◌≤◌, ◌==◌, ◌&&◌, ℕ, Bool, List, ◌∷◌, ◌++◌, length, codes, count_by}
+use Rattle.std.specs.Prelude.{◌≡◌, ◌≤◌, ◌==◌, ◌&&◌, ℕ, Bool, List, ◌∷◌, ◌++◌, Contains, length, codes, count_by}
 use Rattle.std.specs.FinMap.{entries}
 use Rattle.std.specs.Fmt.{decimal}
 use Rattle.geda_defs.specs.Lines.{ended}
@@ -8,6 +8,7 @@ use Rattle.net_list.specs.declared.nets.Nets.{Nets}
 use Rattle.net_names.specs.NetLists.{IsNetListOf}
 use Rattle.sheet_groups.specs.Conductors.{sheet_conductors}
 use Rattle.sheet_groups.specs.Groups.{AreGroups}
+use Rattle.board_core.specs.Boards.{BoardData}
 use Rattle.work_run.specs.Runs.{IsRun, RunData}
 
 -- a number under its name
@@ -30,7 +31,9 @@ run_text start count run groups calls nets =
     ++ named_number (codes "bound") run.bound
     ++ named_number (codes "calls") calls
 
--- the text of so many steps from a start: the steps of its groups are within the sum of the bounds
+-- the text of so many steps from a start, on a board that has the project they come to and kept the
+-- groups of all its sheets: the steps that it tells are those of the board, within the sum of the
+-- bounds
 pub record WorkComesTo (start count : ℕ) (text : List ℕ) : Type 0 where
   pub run : RunData
   pub is_run : IsRun start count run
@@ -38,9 +41,11 @@ pub record WorkComesTo (start count : ℕ) (text : List ℕ) : Type 0 where
   pub are_groups : AreGroups (sheet_conductors run.project) groups
   pub nets : Nets
   pub is_net_list : IsNetListOf run.project nets
-  pub calls : ℕ
-  pub few : calls ≤ run.bound
-  pub told : text ≡ run_text start count run groups calls nets
+  pub board : BoardData
+  pub shows : board.project ≡ run.project
+  pub kept : (sheet : List ℕ) → ¬ (Contains board.invalidated sheet)
+  pub few : board.asked ≤ run.bound
+  pub told : text ≡ run_text start count run groups board.asked nets
 
 -- two texts are the same but for the number in their last line, that of the calls
 pub record AgreeButForCalls (one other : List ℕ) : Type 0 where
