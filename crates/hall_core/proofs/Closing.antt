@@ -9,7 +9,7 @@ use Rattle.edit_rules.specs.Verdicts.{Legal}
 use Rattle.geda_defs.specs.Causes.{HasRisen}
 use Rattle.hall_log.proofs.Prefixes.{prefix_trans}
 use Rattle.hall_core.specs.Seats.{SeatData}
-use Rattle.hall_core.specs.Pens.{rows_of, faults_of}
+use Rattle.hall_core.specs.Pens.{IsPen, rows_of, faults_of}
 use Rattle.hall_core.specs.Closings.{IsSettled, Settles, HoldsSeats, Closes}
 
 pub none_settled : (listed : List EntryData) → Settles listed true [] []
@@ -68,12 +68,21 @@ closes rows listed history held ss ts faults seats total kept legal begins settl
       losses = λ all. let n = sums all in let m = same_sum ss ts s.losses in let e = ap (λ k. k * 4294967295) all in omega (arith, n, m, e, bound);
     }
 
-pub closes_of : {K : Type 0} (rows : K → Option (List EntryData)) (faults : K → ℕ) (keeper : Option K) (listed history : List EntryData) (held : Bool) (ss ts : List SeatData) (seats total : ℕ)
-    → IfSome (rows_of rows keeper) (λ all. all ≡ history) → Legal history → IsPrefix listed history → Settles listed held ss ts → total ≤ faults_of faults total keeper
+pub closes_of : {K : Type 0} (rows : K → Option (List EntryData)) (faults : K → ℕ) (keeper : Option K) (k : K) (listed history : List EntryData) (held : Bool) (ss ts : List SeatData) (seats total : ℕ)
+    → keeper ≡ Some k → IfSome (rows_of rows keeper) (λ all. all ≡ history) → Legal history → IsPrefix listed history → Settles listed held ss ts → total ≤ faults_of faults total keeper
     → (length ss ≡ seats → length ss * 4294967295 + total ≡ seats * 4294967295 + sum_by (λ s. s.losses) ss)
-    → IfSome keeper (λ k. Closes (rows k) (faults k) seats held ss ts)
-closes_of rows faults None listed history held ss ts seats total kept legal begins settled bound sums = tt
-closes_of rows faults (Some k) listed history held ss ts seats total kept legal begins settled bound sums = closes (rows k) listed history held ss ts (faults k) seats total kept legal begins settled bound sums
+    → Closes (rows k) (faults k) seats held ss ts
+closes_of {K} rows faults keeper k listed history held ss ts seats total there kept legal begins settled bound sums =
+    closes (rows k) listed history held ss ts (faults k) seats total (subst (λ (o : Option K). IfSome (rows_of rows o) (λ all. all ≡ history)) there kept) legal begins settled
+    (subst (λ (o : Option K). total ≤ faults_of faults total o) there bound) sums
+
+-- a pen whose keeper was handed back
+no_keeper : (history : List EntryData) (total : ℕ) → IsPen history None total total
+no_keeper history total = record { kept = tt; bound = omega arith }
+
+pub closed_pen : {K : Type 0} (rows : K → Option (List EntryData)) (faults : K → ℕ) (keeper : Option K) (history : List EntryData) (total : ℕ) → keeper ≡ None
+    → IsPen history (rows_of rows keeper) (faults_of faults total keeper) total
+closed_pen {K} rows faults keeper history total none = subst (λ (o : Option K). IsPen history (rows_of rows o) (faults_of faults total o) total) (sym none) (no_keeper history total)
 
 -- one more loss is covered by a count that rose
 pub covered : (total total' faults : ℕ) → HasRisen total faults → total' ≤ total + 1 → total' < 2 ^ 38 → total' ≤ faults

@@ -1,9 +1,10 @@
 -- A hall that was just opened.
 use Rattle.std.proofs.Common.{◌≡◌, ℕ, List, All, Option, Some, None, IfSome, sym, ◌∙◌, subst, arith}
+use Rattle.std.proofs.lemmas.List.Elements.{All-weaker}
 use Rattle.edit_entries.specs.Entries.{EntryData}
 use Rattle.edit_rules.specs.Verdicts.{Legal}
 use Rattle.hall_core.specs.Pens.{IsPen}
-use Rattle.hall_core.specs.Seats.{SeatData, IsNew}
+use Rattle.hall_core.specs.Seats.{SeatData, HasLostNothing, IsNew}
 
 kept_at : (rows : Option (List EntryData)) (h h' : List EntryData) → IfSome rows (λ all. all ≡ h) → h' ≡ h → IfSome rows (λ all. all ≡ h')
 kept_at None h h' kept same = tt
@@ -17,3 +18,6 @@ pub all_new : (rows : Option (List EntryData)) (h shown : List EntryData) (seats
     → IfSome rows (λ all. All (IsNew all) seats × Legal all)
 all_new None h shown seats kept legal same fresh = tt
 all_new (Some all) h shown seats kept legal same fresh = (subst (λ l. All (IsNew l) seats) (same ∙ sym kept) fresh, subst Legal (sym kept) legal)
+
+pub none_lost : (shown : List EntryData) (seats : List SeatData) → All (IsNew shown) seats → All HasLostNothing seats
+none_lost shown seats fresh = All-weaker (IsNew shown) HasLostNothing (λ s is. (is.1, is.2)) seats fresh

@@ -1,5 +1,6 @@
 // Where readers get their places, and their entry to the board. Both count how often they were
-// refused. These counts are trusted: no clause of the board shows that it refused.
+// refused, and no other module can raise these counts. They are trusted: no clause of the board
+// shows that it refused.
 ghost use Rattle.std.specs.Prelude.{◌≡◌, ◌≤◌, IfSome, IfNone, MatchBool};
 ghost use Rattle.std.specs.Fn.{FnOnceReturnsAt};
 ghost use mathlib.Core.List.{IsPrefix};
@@ -10,14 +11,21 @@ use crate::board_copy::ShowsBoard;
 use crate::published::PublishedDesk;
 use hall_log::{HallName, Prefix};
 use left_right::ReadHandle;
-use std::marker::PhantomData;
+use std::marker::{Model, PhantomData};
 use std::sync::Wait;
 
-/// Where readers get their places. It counts how often one was refused.
+/// Where readers get their places. Contracts see how often one was refused, at most 2^64 - 1.
 #[derive(Drop)]
 pub struct Places {
-    /// How often a place was refused. The count stays at the end of its type.
-    pub refused: u64,
+    refused: u64,
+}
+
+impl Model for Places {
+    ghost use Rattle.hall_core.specs.Seats.{PlacesData};
+
+    ghost Value = { PlacesData };
+
+    ghost view = { λ p. record { refused = p.refused } };
 }
 
 impl Places {
@@ -26,6 +34,13 @@ impl Places {
         ensures { result.refused ≡ 0 }
     {
         Places { refused: 0 }
+    }
+
+    /// How often a place was refused, at most 2^64 - 1. It takes no memory.
+    pub fn refused(&self) -> u64
+        ensures { result ≡ self.now.refused }
+    {
+        self.refused
     }
 
     /// The door of a new reader.
@@ -49,13 +64,20 @@ impl Places {
     }
 }
 
-/// The way of one reader to the board. It counts how often it was refused.
+/// The way of one reader to the board. Contracts see how often it was refused, at most 2^64 - 1.
 #[derive(Drop)]
 pub struct Door<B: HallName, S: ShowsBoard<B>> {
     reader: ReadHandle<S>,
-    /// How often the reader was refused. The count stays at the end of its type.
-    pub refusals: u64,
+    refusals: u64,
     of: PhantomData<B>,
+}
+
+impl<B: HallName, S: ShowsBoard<B>> Model for Door<B, S> {
+    ghost use Rattle.hall_core.specs.Seats.{DoorData};
+
+    ghost Value = { DoorData };
+
+    ghost view = { λ d. record { refusals = d.refusals } };
 }
 
 // Shows what is published to a closure, where it holds all that was seen and has so many entries.

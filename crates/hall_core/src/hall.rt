@@ -5,11 +5,12 @@ ghost use Rattle.edit_entries.specs.Entries.{EntryData};
 ghost use Rattle.edit_rules.specs.Verdicts.{Legal};
 ghost use Rattle.hall_core.specs.Closings.{Closes};
 ghost use Rattle.hall_core.specs.Rows.{Refuses};
-ghost use Rattle.hall_core.specs.Seats.{IsNew};
+ghost use Rattle.hall_core.specs.Seats.{HasLostNothing, IsNew};
 ghost use Rattle.hall_core.specs.Pens.{Edits};
 
 use crate::board_copy::{PrefixBoard, ShowsBoard};
 use crate::door::Places;
+use crate::keys::{EditLog, Keys};
 use crate::losses::{Allowance, LossTotal};
 use crate::pen::Pen;
 use crate::published::PublishedDesk;
@@ -178,7 +179,7 @@ fn published_at_first<B: HallName, T: Default + Drop, R: Wait + Drop>(
 
 /// Opens a hall over a keeper's rows, which are the history, with so many seats, which have seen
 /// them all (docs/RULES.md, "Histories that are shared"). The seats have lost nothing and were
-/// refused nothing.
+/// refused nothing. The keys close it.
 ///
 /// `KeeperFault` only where a call of the keeper failed. Where the rows are told, `RowRefused` only
 /// where the rules do not accept that row, which is the first such one, and a hall only where they
@@ -190,9 +191,10 @@ pub fn open_hall<K: Keeper, B: HallName, T: Default + Drop, R: Wait + Drop>(
     keeper: K,
     seats: u32,
     places: &mut Places,
-) -> Result<(BoardHall<K, B, T, R>, Vec<BoardSeat<B, T>>), OpenFault>
+) -> Result<(BoardHall<K, B, T, R>, Vec<BoardSeat<B, T>>, Keys<B>), OpenFault>
     requires { (0 < seats) × (seats ≤ 32) × (seats ≡ B.seats) }
     ensures seats { IfOk result (λ opened. length opened.1.items ≡ seats) }
+    ensures nothing { IfOk result (λ opened. All HasLostNothing opened.1.items) }
     ensures seen { IfOk result (λ opened. IfSome (K.rows keeper)
         (λ all. All (IsNew all) opened.1.items × Legal all)) }
     ensures refused { IfErr result (λ e. Refuses (K.rows keeper) e) }
@@ -208,6 +210,7 @@ pub fn open_hall<K: Keeper, B: HallName, T: Default + Drop, R: Wait + Drop>(
         drop(desk);
         return Err(OpenFault::NoMemory);
     }
+    let keys = Keys::new(&mut rest, seats);
     let published = published_at_first(alloc, rt, desk, (log_length, seen), seats)?;
     let taken = match seats_at(alloc, &published, &mut owed, &mut rest, seats, places) {
         Ok(taken) => taken,
@@ -218,29 +221,29 @@ pub fn open_hall<K: Keeper, B: HallName, T: Default + Drop, R: Wait + Drop>(
     };
     let pen = Pen {
         desk: published,
-        keeper: Some(keeper),
-        losses: LossTotal::new(owed, rest),
+        edit_log: EditLog::new(keeper, &mut rest),
+        losses: LossTotal::new(owed),
     };
     let hall = Hall {
         pen: Mutex::new(pen),
     };
-    Ok((hall, taken))
+    Ok((hall, taken, keys))
 }
 
 /// Takes the lock, hands the keeper back, and says whether its rows hold all that these seats have
 /// seen. The hall has no keeper then. It takes no memory.
 ///
-/// `None` where the hall was closed before. Where the keeper tells its rows, they are a legal
-/// history; false only where the refusals of one of the seats rose. Where these are all seats of
-/// the hall, their losses together are at most the keeper's count of faults.
+/// Where the keeper tells its rows, they are a legal history; false only where the refusals of one
+/// of the seats rose. Where these are all seats of the hall, their losses together are at most the
+/// keeper's count of faults.
 pub fn close_hall<W: Wait, K: Keeper, B: HallName, S: ShowsBoard<B>, R: Wait + Drop>(
     rt: &W,
     hall: &Hall<K, B, S, R>,
+    keys: Keys<B>,
     seats: &mut [Seat<B, S>],
-) -> (Option<K>, bool)
-    requires { B.seats ≡ B.parts }
-    ensures { IfSome result.0
-        (λ k. Closes (K.rows k) (K.faults k) B.seats result.1 seats.old seats.new) }
+) -> (K, bool)
+    requires { B.parts ≡ B.seats * 2 + 1 }
+    ensures { Closes (K.rows result.0) (K.faults result.0) B.seats result.1 seats.old seats.new }
 {
-    hall.pen.lock(rt).close(seats)
+    hall.pen.lock(rt).close(keys, seats)
 }

@@ -1,6 +1,10 @@
 //! Many callers at one history of edits: the pen behind a lock, a seat for each caller, and the
 //! board that they read without the lock.
 //!
+//! Each published board has a token of its prefix, and beside it what its opener wants to keep
+//! there until the board takes its next change: a type that begins empty, of which nothing more is
+//! known. It makes no report, and knows no connection.
+//!
 //! Serials and lengths of histories count entries, from 0. The main types are `Hall` and `Seat`;
 //! who opens a hall names it once (`HallName`). Rules: docs/RULES.md, "Histories that are shared"
 //! and "Seats". Definitions: specs/Pens.antt (the pen, and edits), specs/Seats.antt,
@@ -10,6 +14,7 @@
 mod board_copy;
 mod door;
 mod hall;
+mod keys;
 pub mod laws;
 mod losses;
 mod pen;
@@ -22,6 +27,7 @@ pub use door::{Door, Places};
 pub use hall::{BoardHall, BoardSeat, Hall, close_hall, edit, open_hall};
 pub use hall_log::{HallName, NamedLog, NewLog, Prefix};
 pub use keeper_core::Reply;
+pub use keys::Keys;
 pub use pen::Pen;
 pub use rows::OpenFault;
 pub use seat::Seat;

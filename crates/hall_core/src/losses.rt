@@ -19,7 +19,6 @@ pub(crate) struct Allowance<B: HallName> {
 #[derive(Drop)]
 pub(crate) struct LossTotal<B: HallName> {
     owed: ledger::Book<B>,
-    rest: Share<B>,
     pub(crate) total: u64,
     ghost all: { owed.total + total ≡ B.seats * 4294967295 },
     ghost few: { B.seats ≤ 32 },
@@ -41,15 +40,11 @@ impl<B: HallName> Allowance<B> {
 
 impl<B: HallName> LossTotal<B> {
     /// Of a hall whose seats have given nothing.
-    pub(crate) fn new(owed: ledger::Book<B>, rest: Share<B>) -> LossTotal<B>
+    pub(crate) fn new(owed: ledger::Book<B>) -> LossTotal<B>
         requires { (owed.total ≡ B.seats * 4294967295) × (B.seats ≤ 32) }
         ensures { result.total ≡ 0 }
     {
-        LossTotal {
-            owed,
-            rest,
-            total: 0,
-        }
+        LossTotal { owed, total: 0 }
     }
 
     /// Takes one of an allowance, unless that is spent.
@@ -58,11 +53,7 @@ impl<B: HallName> LossTotal<B> {
         ensures total { self.new.total ≤ self.old.total + 1 }
         ensures low { self.new.total < 2 ^ 38 }
     {
-        let LossTotal {
-            owed,
-            rest: _,
-            total,
-        } = self;
+        let LossTotal { owed, total } = self;
         let Allowance { losses, share } = allowance;
         owed.audit(share);
         if *losses < u32::MAX {
@@ -72,20 +63,11 @@ impl<B: HallName> LossTotal<B> {
         }
     }
 
-    /// A share of nothing.
-    pub(crate) fn nothing(&mut self) -> Share<B>
-        ensures same { self.new.total ≡ self.old.total }
-        ensures nothing { (result.parts ≡ 0) × (result.amount ≡ 0) }
-    {
-        self.rest.empty()
-    }
-
     /// How what is held stands to what was given.
     pub(crate) fn audit(&mut self, all: &mut Share<B>)
-        requires { B.seats ≡ B.parts }
         ensures total { self.new.total ≡ self.old.total }
         ensures all { (all.new.parts ≡ all.old.parts) × (all.new.amount ≡ all.old.amount) }
-        ensures whole { all.old.parts ≡ B.seats →
+        ensures whole { all.old.parts ≡ B.parts →
             all.old.amount + self.old.total ≡ B.seats * 4294967295 }
     {
         self.owed.audit(all);

@@ -1,15 +1,15 @@
 // What stands behind the hall's lock: the history with what is published of it, what keeps the
 // rows, and the total of losses.
-ghost use Rattle.std.specs.Prelude.{◌≡◌, ℕ, ◌≤◌, ◌+◌, ◌*◌, ◌++◌, ◌∷◌, [], length, OnOk, IfSome, MatchResult, None, min};
+ghost use Rattle.std.specs.Prelude.{◌≡◌, ◌≤◌, ◌+◌, ◌*◌, [], length, OnOk, None, min};
 ghost use Rattle.std.specs.List.{sum_by};
-ghost use Rattle.std.specs.Option.{option_map};
-ghost use Rattle.geda_defs.specs.Causes.{HasCause, HasRisen};
+ghost use Rattle.geda_defs.specs.Causes.{HasRisen};
 ghost use Rattle.edit_rules.specs.declared.verdict.Verdict.TheVariants.{Accept};
 ghost use Rattle.hall_core.specs.Histories.{IsJudged};
-ghost use Rattle.hall_core.specs.Pens.{Edits, IsSameButShown, Steps, faults_of, rows_of};
+ghost use Rattle.hall_core.specs.Pens.{Edits, IsSameButShown, Steps};
 ghost use Rattle.hall_core.specs.Closings.{Closes, Settles};
 
 use crate::board_copy::ShowsBoard;
+use crate::keys::{EditLog, Keys};
 use crate::losses::{Allowance, LossTotal};
 use crate::published::PublishedDesk;
 use crate::seat::Seat;
@@ -27,8 +27,7 @@ use std::sync::ledger::Share;
 /// rows and faults, and the total of all losses.
 pub struct Pen<K: Keeper, B: HallName, S: ShowsBoard<B>, R: Wait + Drop> {
     pub(crate) desk: PublishedDesk<B, S, R>,
-    // There is none once the hall is closed.
-    pub(crate) keeper: Option<K>,
+    pub(crate) edit_log: EditLog<K, B>,
     pub(crate) losses: LossTotal<B>,
 }
 
@@ -36,7 +35,7 @@ impl<K: Keeper, B: HallName, S: ShowsBoard<B>, R: Wait + Drop> Drop for Pen<K, B
     fn drop(self) {
         let Pen {
             desk: _,
-            keeper: _,
+            edit_log: _,
             losses: _,
         } = self;
     }
@@ -52,47 +51,29 @@ impl<K: Keeper, B: HallName, S: ShowsBoard<B>, R: Wait + Drop> Model for Pen<K, 
       shown = p.desk.shown;
       waiting = p.desk.waiting;
       change = p.desk.change;
-      rows = rows_of K.rows p.keeper;
-      faults = faults_of K.faults p.losses.total p.keeper;
+      rows = rows_of K.rows p.edit_log.keeper;
+      faults = faults_of K.faults p.losses.total p.edit_log.keeper;
       total = p.losses.total;
     } };
 
     ghost invariant = { λ p.
-        IsPen p.desk.history (rows_of K.rows p.keeper)
-        (faults_of K.faults p.losses.total p.keeper) p.losses.total };
-}
-
-// Keeps one more row, where there is a keeper.
-fn keep<K: Keeper>(keeper: &mut Option<K>, serial: u32, entry: &Entry) -> Result<(), KeepFault>
-    requires { IfSome (rows_of K.rows keeper.old) (λ all. serial ≡ length all) }
-    ensures rows { MatchResult result
-        (λ _. rows_of K.rows keeper.new
-        ≡ option_map (λ all. all ++ entry.now ∷ []) (rows_of K.rows keeper.old))
-        (λ _. rows_of K.rows keeper.new ≡ rows_of K.rows keeper.old) }
-    ensures cause { (other : ℕ) →
-        HasCause (faults_of K.faults other keeper.old) (faults_of K.faults other keeper.new)
-        result KeepFault.Failed }
-{
-    match keeper {
-        Some(keeper) => keeper.put(serial, entry),
-        None => Err(KeepFault::NoMemory),
-    }
+        IsPen p.desk.history (rows_of K.rows p.edit_log.keeper)
+        (faults_of K.faults p.losses.total p.edit_log.keeper) p.losses.total };
 }
 
 // Whether the listed entries hold all that each seat has seen. `all` is what is held of the ledger
-// by the seats before these.
+// by the keys and by the seats before these.
 fn settle<B: HallName, S: ShowsBoard<B>>(
     seats: &mut [Seat<B, S>],
     listed: &Prefix<B>,
     total: &mut LossTotal<B>,
     all: &mut Share<B>,
 ) -> bool
-    requires seats { B.seats ≡ B.parts }
     requires backed { all.old.parts ≡ 0 → all.old.amount ≡ 0 }
     ensures settles { Settles listed.now result seats.old seats.new }
     ensures total { total.new.total ≡ total.old.total }
     ensures share { (all.new.parts ≡ all.old.parts) × (all.new.amount ≡ all.old.amount) }
-    ensures losses { all.old.parts + length seats.old ≡ B.seats →
+    ensures losses { all.old.parts + length seats.old ≡ B.parts →
         all.old.amount + length seats.old * 4294967295 + total.old.total
         ≡ B.seats * 4294967295 + sum_by (λ seat. seat.losses) seats.old }
 {
@@ -116,15 +97,15 @@ fn settle<B: HallName, S: ShowsBoard<B>>(
 impl<K: Keeper, B: HallName, S: ShowsBoard<B>, R: Wait + Drop> Pen<K, B, S, R> {
     /// The keeper, whose rows are a legal history, and whether they hold all that these seats have
     /// seen.
-    pub(crate) fn close(&mut self, seats: &mut [Seat<B, S>]) -> (Option<K>, bool)
-        requires { B.seats ≡ B.parts }
-        ensures { IfSome result.0
-            (λ k. Closes (K.rows k) (K.faults k) B.seats result.1 seats.old seats.new) }
+    pub(crate) fn close(&mut self, keys: Keys<B>, seats: &mut [Seat<B, S>]) -> (K, bool)
+        requires { B.parts ≡ B.seats * 2 + 1 }
+        ensures { Closes (K.rows result.0) (K.faults result.0) B.seats
+            result.1 seats.old seats.new }
     {
         let _history = self.desk.front();
-        let mut all = self.losses.nothing();
+        let mut all = keys.into_share();
         let held = settle(seats, self.desk.listed(), &mut self.losses, &mut all);
-        (self.keeper.take(), held)
+        (self.edit_log.close(all), held)
     }
 
     // Publishes the whole history.
@@ -153,7 +134,7 @@ impl<K: Keeper, B: HallName, S: ShowsBoard<B>, R: Wait + Drop> Pen<K, B, S, R> {
             return Reply::NoMemory;
         }
         let front = self.desk.front();
-        match keep(&mut self.keeper, front, &entry) {
+        match self.edit_log.put(front, &entry) {
             Ok(()) => {}
             Err(KeepFault::Failed) => {
                 drop((entry, change, kept));

@@ -1,6 +1,6 @@
 // The list of entries that all callers share. It stands in the proofs alone; what the callers share
 // is its length.
-ghost use Rattle.std.specs.Prelude.{◌≡◌, ℕ, ◌+◌, ◌==◌, ◌<◌, ◌≤◌, ◌^◌, ◌++◌, ◌∷◌, [], ◌⊎◌, ◌↔◌, length, MatchBool, IsTrue};
+ghost use Rattle.std.specs.Prelude.{◌≡◌, ℕ, ◌+◌, ◌*◌, ◌==◌, ◌<◌, ◌≤◌, ◌^◌, ◌++◌, ◌∷◌, [], ◌⊎◌, ◌↔◌, length, MatchBool, IsTrue};
 ghost use mathlib.Core.List.{IsPrefix};
 ghost use Rattle.hall_log.specs.Histories.{IsHistory, MayFollow};
 ghost use Rattle.hall_log.specs.Logs.{IsLonger, head_of};
@@ -77,7 +77,8 @@ impl HallName for Brand {
 }
 
 /// A log of no entries and an empty ledger, which are not named yet. Contracts see the log, the
-/// ledger and its parts, of which each seat gets one.
+/// ledger and its parts, of which each seat gets one. Those that are left are one more, so that who
+/// holds them knows that no other one does.
 pub struct NewLog {
     head: Word<Entry, u64, LengthRule>,
     seen: Seen<Entry, u64, LengthRule>,
@@ -108,26 +109,27 @@ pub struct NamedLog<B: HallName> {
     rest: Share<B>,
     ghost empty: { seen ≡ [] },
     ghost owes: { owed.total ≡ 0 },
-    ghost whole: { (rest.parts ≡ B.seats) × (rest.amount ≡ 0) },
+    ghost whole: { (rest.parts ≡ B.seats * 2 + 1) × (rest.amount ≡ 0) },
 }
 
 impl NewLog {
     /// For a hall of so many seats. It takes no memory.
     pub fn new(seats: u32) -> NewLog
-        ensures { result.parts ≡ seats }
+        ensures { result.parts ≡ seats * 2 + 1 }
     {
         let (seen, mut first, _second) = Seen::open(Start::alone(), 0, 0);
         NewLog {
             head: Word::tracked(0, &mut first),
             seen,
-            blank: Blank::new(u64::from(seats)),
+            blank: Blank::new(u64::from(seats) * 2 + 1),
         }
     }
 
     /// The log under the name of a hall. It takes no memory.
     pub fn named<B: HallName>(self) -> NamedLog<B>
         requires book { self.book ≡ B.book }
-        requires ledger { (self.ledger ≡ B.name) × (self.parts ≡ B.parts) × (B.seats ≡ B.parts) }
+        requires ledger { (self.ledger ≡ B.name) × (self.parts ≡ B.parts) }
+        requires parts { B.parts ≡ B.seats * 2 + 1 }
     {
         let NewLog { head, seen, blank } = self;
         let (owed, rest) = blank.open::<B>();
@@ -153,7 +155,7 @@ impl<B: HallName> NamedLog<B> {
     pub fn into_parts(self) -> (LogLength<B>, Prefix<B>, ledger::Book<B>, Share<B>)
         ensures seen { result.1 ≡ [] }
         ensures owed { result.2.total ≡ 0 }
-        ensures rest { (result.3.parts ≡ B.seats) × (result.3.amount ≡ 0) }
+        ensures rest { (result.3.parts ≡ B.seats * 2 + 1) × (result.3.amount ≡ 0) }
     {
         let NamedLog {
             log_length,

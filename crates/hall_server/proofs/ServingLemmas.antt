@@ -8,7 +8,7 @@ use Rattle.hall_core.specs.declared.rows.OpenFault.TheVariants as opening
 use Rattle.keeper_core.specs.Faults.{NeverFails}
 use Rattle.keeper_core.specs.declared.keeper.KeepFault.{KeepFault}
 use Rattle.keeper_core.specs.declared.keeper.KeepFault.TheVariants as keeping
-use Rattle.project_files.specs.Counts.{Counts, Failed}
+use Rattle.outside.specs.Counts.{Counts, Failed}
 use Rattle.sinks.specs.Streams.{IsQuiet, Stream}
 use Rattle.hall_server.specs.Serving.{AreLegal, AreRefusedAt, Outside, ServesTo, outside}
 use Rattle.hall_server.specs.declared.fault.ServeFault.{ServeFault}

@@ -4,7 +4,7 @@ use Rattle.std.specs.declared.option.Option.{Option}
 use Rattle.edit_entries.specs.Entries.{EntryData}
 use Rattle.edit_rules.specs.Verdicts.{Legal}
 use Rattle.hall_core.specs.Rows.{IsRefusedAt}
-use Rattle.project_files.specs.Counts.{Counts, Failed}
+use Rattle.outside.specs.Counts.{Counts, Failed}
 use Rattle.sinks.specs.Streams.{IsQuiet, Stream, WrotePrefix, WroteWhole}
 use Rattle.hall_server.specs.declared.fault.ServeFault.{ServeFault}
 use Rattle.hall_server.specs.declared.fault.ServeFault.TheVariants as faults

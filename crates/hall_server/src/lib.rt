@@ -1,5 +1,10 @@
 //! Serving a hall: workers that answer the links of a gate, one worker a seat.
 //!
+//! On a connection a seat, with the hall that its edits go to, is what answers the requests of
+//! web_http: an edit goes under the hall's lock, a report is made within one look of the seat,
+//! without it, and only where there are as many entries as it wants. It knows no command and no
+//! status.
+//!
 //! The main call is `serve`; `serve_link` answers the requests of one link. Profile:
 //! docs/FORMATS.md, "HTTP". Rules: docs/RULES.md, "Serving", "Transcripts", "Ends of connections",
 //! "Seats". Definitions: specs/Serving.antt, specs/Stands.antt, and those that are cited there.

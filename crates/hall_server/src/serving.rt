@@ -1,6 +1,6 @@
 // Serving what a keeper keeps.
-ghost use Rattle.std.specs.Prelude.{◌≡◌, OnErr, OnOk};
-ghost use Rattle.project_files.specs.Counts.{Counts, counts};
+ghost use Rattle.std.specs.Prelude.{◌≡◌, ◌+◌, ◌*◌, OnErr, OnOk};
+ghost use Rattle.outside.specs.Counts.{Counts, counts};
 ghost use Rattle.sinks.specs.Streams.{WrotePrefix, WroteWhole, stream};
 ghost use Rattle.hall_server.specs.Serving.{ServesTo, outside, serving_line};
 ghost use Rattle.hall_server.specs.steps.Passing.{OpenServesTo};
@@ -96,14 +96,14 @@ fn serve_named<
 ) -> Result<(), ServeFault>
     requires book { log.book ≡ B.book }
     requires ledger { (log.ledger ≡ B.name) × (log.parts ≡ B.parts) }
-    requires seats { (B.seats ≡ B.parts) × (B.seats ≡ 8) }
+    requires seats { (B.parts ≡ B.seats * 2 + 1) × (B.seats ≡ 8) }
     ensures { (gate : Counts) → ServesTo (outside (K.never_fails keeper) (K.rows keeper)
         gate (counts places.old.refused places.new.refused))
         (stream (O.written out.old) (O.written out.new)
         (counts (O.faults out.old) (O.faults out.new))) result }
 {
     match open_hall(alloc, rt, log.named::<B>(), keeper, SEATS, places) {
-        Ok((hall, seats)) => {
+        Ok((hall, seats, _keys)) => {
             let served = serve_opened(rt, alloc, &hall, seats, gate, out);
             mem::forget(hall);
             served

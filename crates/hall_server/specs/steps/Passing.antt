@@ -6,7 +6,8 @@ use Rattle.hall_server.specs.Serving.{serving_line}
 use Rattle.hall_server.specs.declared.fault.ServeFault.{ServeFault}
 use Rattle.hall_server.specs.declared.fault.ServeFault.TheVariants as faults
 
--- the line is out, or a prefix of it where the output failed, or nothing where memory ran out before
+-- the line is out, or a prefix of it where the output failed, or nothing where memory ran out
+-- before
 abbrev pub OpenServesTo : Stream → Result (Unit {0}) ServeFault → Type 0
 OpenServesTo out (Ok _) = WroteWhole out serving_line
 OpenServesTo out (Err faults.OutputFault) = WrotePrefix out serving_line

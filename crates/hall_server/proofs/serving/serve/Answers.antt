@@ -1,4 +1,4 @@
-use Rattle.project_files.specs.Counts.{counts}
+use Rattle.outside.specs.Counts.{counts}
 use Rattle.sinks.specs.Streams.{stream}
 use Rattle.hall_server.proofs.ServingLemmas.{after_attaching}
 use Rattle.hall_server.proofs.serving.serve.Goals as goal
