@@ -43,6 +43,7 @@ pub struct Acceptor {
     listener: TcpListener,
     room: Vec<u8>,
     ready: VecDeque<TcpStream>,
+    takes_newest: bool,
     is_called: bool,
     failures: u32,
     retry_at: Duration,
@@ -81,6 +82,7 @@ impl Acceptor {
             listener,
             room,
             ready: VecDeque::with_capacity(alloc, MOST_EVENTS)?,
+            takes_newest: false,
             is_called: false,
             failures: 0,
             retry_at: Duration::ZERO,
@@ -93,8 +95,14 @@ impl Acceptor {
         &self.poll
     }
 
-    /// The next connection that can be served at once.
+    /// The next connection that can be served at once: in turn the one that has waited the longest
+    /// and the newest. So one more client has its reply soon beside many slow ones, and those that
+    /// wait all come to their turn.
     pub fn take_ready(&mut self) -> Option<TcpStream> {
+        self.takes_newest = !self.takes_newest;
+        if self.takes_newest {
+            return self.ready.pop_back();
+        }
         self.ready.pop_front()
     }
 

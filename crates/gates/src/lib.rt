@@ -1,5 +1,7 @@
 //! Where the connections of a server come from: a list in memory, or a TCP socket.
 //!
+//! It knows bytes, and no message.
+//!
 //! The main trait is `Gate`, whose connections are each a `Link` of web_heads. Contracts see how
 //! often a gate failed to bind; what comes through a socket is told by none. Rule: docs/RULES.md,
 //! "Gates".

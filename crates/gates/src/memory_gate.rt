@@ -2,12 +2,13 @@
 ghost use Rattle.std.specs.Prelude.{◌≡◌, ◌↔◌, ◌≤◌, ◌∷◌, [], IsErrOf, IsTrue};
 ghost use Rattle.std.specs.Prelude.{MatchBool, MatchOption, OnErr, OnOk};
 ghost use Rattle.geda_defs.specs.Causes.{HasCause, HasRisen};
-ghost use Rattle.gates.specs.MemoryGates.{GateFails, gate_after_call, gate_after_fault};
+ghost use Rattle.outside.specs.FailingCalls.{NextFails, after_call, after_fault};
 
 #[cfg(test)]
 mod tests;
 
 use crate::gate::{Gate, GateFault};
+use outside::FailingCalls;
 use std::marker::Model;
 use std::sync::{Mutex, Wait};
 use std::vec;
@@ -43,9 +44,7 @@ impl<L: Drop> LinksToCome<L> {
 pub struct MemoryGate<L, R: Wait> {
     rt: R,
     links: Mutex<LinksToCome<L>>,
-    failing: Vec<u64>,
-    calls: u64,
-    faults: u64,
+    planned: FailingCalls,
 }
 
 impl<L: Drop, R: Wait + Drop> Drop for MemoryGate<L, R> {
@@ -53,19 +52,17 @@ impl<L: Drop, R: Wait + Drop> Drop for MemoryGate<L, R> {
         let MemoryGate {
             rt: _,
             links: _,
-            failing: _,
-            calls: _,
-            faults: _,
+            planned: _,
         } = self;
     }
 }
 
 impl<L, R: Wait> Model for MemoryGate<L, R> {
-    ghost use Rattle.gates.specs.MemoryGates.{MemoryGateData};
+    ghost use Rattle.outside.specs.FailingCalls.{FailingCallsData};
 
-    ghost Value = { MemoryGateData };
+    ghost Value = { FailingCallsData };
 
-    ghost view = { λ g. record { failing = g.failing.items; calls = g.calls; faults = g.faults } };
+    ghost view = { λ g. g.planned };
 }
 
 impl<L, R: Wait> MemoryGate<L, R> {
@@ -82,9 +79,7 @@ impl<L, R: Wait> MemoryGate<L, R> {
         MemoryGate {
             rt,
             links: Mutex::new(links),
-            failing,
-            calls: 0,
-            faults: 0,
+            planned: FailingCalls::new(failing),
         }
     }
 
@@ -92,24 +87,7 @@ impl<L, R: Wait> MemoryGate<L, R> {
     pub fn calls(&self) -> u64
         ensures { result ≡ self.now.calls }
     {
-        self.calls
-    }
-
-    // Counts a bind, and says whether it is to fail. Such a one is counted as a fault too.
-    fn is_failing_call(&mut self) -> bool
-        ensures failing { IsTrue result ↔ GateFails self.old }
-        ensures after { MatchBool result
-            (self.new ≡ gate_after_fault self.old)
-            (self.new ≡ gate_after_call self.old) }
-        ensures later { self.old.faults ≤ self.new.faults }
-        ensures cause { IsTrue result → HasRisen self.old.faults self.new.faults }
-    {
-        self.calls = self.calls.saturating_add(1);
-        if self.failing.contains(&self.calls) {
-            self.faults = self.faults.saturating_add(1);
-            return true;
-        }
-        false
+        self.planned.calls()
     }
 }
 
@@ -124,11 +102,11 @@ impl<L: Link + Send + Drop, R: Wait> Gate for MemoryGate<L, R> {
     /// of binds rises by one, with `Failed` the count of faults too, and all else stays.
     fn bind(&mut self, _address: &str) -> Result<(), GateFault>
         ensures cause { HasCause self.old.faults self.new.faults result GateFault.Failed }
-        ensures failed { IsErrOf result GateFault.Failed ↔ GateFails self.old }
-        ensures ok { OnOk result (self.new ≡ gate_after_call self.old) }
-        ensures err { OnErr result (self.new ≡ gate_after_fault self.old) }
+        ensures failed { IsErrOf result GateFault.Failed ↔ NextFails self.old }
+        ensures ok { OnOk result (self.new ≡ after_call self.old) }
+        ensures err { OnErr result (self.new ≡ after_fault self.old) }
     {
-        if self.is_failing_call() {
+        if self.planned.is_next_failing() {
             return Err(GateFault::Failed);
         }
         Ok(())
