@@ -1,0 +1,4 @@
+pub mod Copies
+pub mod Faults
+pub mod Storing
+pub mod steps
