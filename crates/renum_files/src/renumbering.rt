@@ -8,7 +8,7 @@ ghost use Rattle.renum_files.specs.RenumberedFiles.{Gives, changed_sheets, files
 use crate::changed_sheets::changed_sheets;
 use crate::fault::RenumberFault;
 use crate::file_text::FileText;
-use crate::sheet_files::{has_too_much_text, sheet_files};
+use crate::sheet_texts::{has_too_much_text, sheet_files};
 use geda_model::Name;
 use project_files::MeasuredProject;
 use project_model::{Change, Project};

@@ -1,0 +1,98 @@
+// The file of a sheet, opened as a history.
+ghost use Rattle.std.specs.Prelude.{◌≡◌, [], IfOk, codes};
+ghost use Rattle.table_files.specs.OpenedFiles.{Gives, add_sheet, opened_file};
+ghost use Rattle.table_files.specs.OpenedFiles.{put_or_fault, put_sheet};
+
+use crate::fault::{TableFileFault, unread};
+use desk_entries::put_all;
+use edit_desk::Desk;
+use edit_entries::{Edit, EditFault, Entry};
+use edit_rules::sheet_of;
+use geda_model::{Block, Name};
+use geda_text::text_of;
+use std::alloc::{AllocError, Global};
+
+/// The session of all edits of a table.
+pub(crate) fn session(alloc: Global) -> Result<Name, AllocError>
+    ensures { IfOk result (λ name. name ≡ codes "fill") }
+{
+    match Name::new(alloc, "fill") {
+        Ok(name) => Ok(name),
+        Err(_) => Err(AllocError),
+    }
+}
+
+/// The entry that adds a sheet with this text.
+fn add_sheet(alloc: Global, sheet: &Name, text: &str) -> Result<Entry, AllocError>
+    ensures { IfOk result (λ entry. entry ≡ add_sheet sheet.now text.now) }
+{
+    let session = session(alloc)?;
+    let name = sheet.clone()?;
+    let text = Block::new(alloc, text)?;
+    Ok(Entry {
+        session,
+        number: 1,
+        base: 0,
+        edit: Edit::AddSheet { name, text },
+    })
+}
+
+/// Puts the entry that adds a sheet into a desk.
+fn put_sheet(
+    alloc: Global,
+    desk: &mut Desk,
+    sheet: &Name,
+    text: &str,
+) -> Result<Option<EditFault>, AllocError>
+    ensures { IfOk result (λ fault. (desk.new.history, fault)
+        ≡ put_sheet desk.old.history sheet.now text.now) }
+{
+    let entry = add_sheet(alloc, sheet, text)?;
+    let mut entries = Vec::new(alloc);
+    entries.push(entry)?;
+    let fault = put_all(alloc, desk, entries)?;
+    Ok(fault)
+}
+
+/// The history of the one entry that adds a sheet.
+fn opened_text(alloc: Global, sheet: &Name, text: &str) -> Result<Desk, TableFileFault>
+    ensures { Gives (λ desk. desk.history) result
+        (put_or_fault sheet.now (put_sheet [] sheet.now text.now)) }
+{
+    let mut desk = Desk::new(alloc);
+    match put_sheet(alloc, &mut desk, sheet, text)? {
+        None => Ok(desk),
+        Some(fault) => {
+            let file = sheet.clone()?;
+            Err(TableFileFault::EditRefused { file, fault })
+        }
+    }
+}
+
+/// The same of bytes. A sheet that was read is UTF-8, so that other bytes are want of memory here.
+fn opened_bytes(alloc: Global, sheet: &Name, bytes: &[u8]) -> Result<Desk, TableFileFault>
+    ensures { Gives (λ desk. desk.history) result
+        (put_or_fault sheet.now (put_sheet [] sheet.now bytes.now)) }
+{
+    match text_of(bytes) {
+        Some(text) => opened_text(alloc, sheet, text),
+        None => Err(TableFileFault::NoMemory),
+    }
+}
+
+/// The sheet that the bytes of the file of this name spell, as the history of the entry that adds
+/// it: session `fill`, number 1.
+///
+/// `Refused` exactly where the bytes spell none, with the line and the kind of their fault
+/// (docs/RULES.md, "Faults"); `EditRefused` exactly where the entry is refused.
+pub fn opened_file(alloc: Global, sheet: &Name, bytes: &[u8]) -> Result<Desk, TableFileFault>
+    ensures { Gives (λ desk. desk.history) result (opened_file sheet.now bytes.now) }
+{
+    match sheet_of(alloc, bytes) {
+        Ok(_) => opened_bytes(alloc, sheet, bytes),
+        Err(fault) => {
+            let file = sheet.clone()?;
+            Err(unread(file, fault))
+        }
+    }
+}
