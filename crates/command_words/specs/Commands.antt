@@ -13,7 +13,7 @@ use Rattle.net_list.specs.declared.form.Form.{Form}
 use Rattle.net_list.specs.declared.form.Form.TheVariants as forms
 use Rattle.option_words.specs.Words.{Parts, parts_of}
 use Rattle.command_words.specs.declared.command.Command.{Command}
-use Rattle.command_words.specs.declared.command.Command.TheVariants.{Netlist, Spice, Drc, Export, Symcheck, Renumber, Work, Serve}
+use Rattle.command_words.specs.declared.command.Command.TheVariants.{Netlist, Spice, Drc, Export, Symcheck, Renumber, Table, Fill, Work, Serve, Store}
 
 -- the greatest number of steps of the work
 abbrev pub most_steps : ℕ
@@ -93,6 +93,21 @@ symcheck_of words = option_map Symcheck (sheets_of words)
 abbrev pub renumber_of : List (List ℕ) → Option Command
 renumber_of words = option_map Renumber (sheets_of words)
 
+-- the table of the one sheet that is named
+abbrev pub table_of : List (List ℕ) → Option Command
+table_of (word ∷ []) = option_map Table (file_of word)
+table_of words = None
+
+-- a table that is filled into a sheet: they are two files that differ
+abbrev pub filling : List ℕ → List ℕ → Option Command
+filling sheet table = if bytes_eq sheet table then None else Some (Fill sheet table)
+
+-- the same of the two words that name them
+abbrev pub fill_of : List (List ℕ) → Option Command
+fill_of (sheet ∷ table ∷ []) =
+    option_and_then (λ s. option_and_then (filling s) (file_of table)) (file_of sheet)
+fill_of words = None
+
 -- 1 to 10 digits
 abbrev pub is_number : List ℕ → Bool
 is_number word =
@@ -116,6 +131,11 @@ abbrev pub serve_of : List (List ℕ) → Option Command
 serve_of (address ∷ store ∷ []) = Some (Serve address store)
 serve_of words = None
 
+-- the copying of what a store keeps into a database: both are any words
+abbrev pub store_of : List (List ℕ) → Option Command
+store_of (store ∷ database ∷ []) = Some (Store store database)
+store_of words = None
+
 -- the command of this name, with the words behind it: each command has one option or none
 abbrev pub command_with : List ℕ → List (List ℕ) → Option Command
 command_with command words =
@@ -129,10 +149,16 @@ command_with command words =
     then option_and_then (λ parts. symcheck_of parts.words) (parts_of None words)
     else if bytes_eq command (codes "renumber")
     then option_and_then (λ parts. renumber_of parts.words) (parts_of None words)
+    else if bytes_eq command (codes "table")
+    then option_and_then (λ parts. table_of parts.words) (parts_of None words)
+    else if bytes_eq command (codes "fill")
+    then option_and_then (λ parts. fill_of parts.words) (parts_of None words)
     else if bytes_eq command (codes "work")
     then option_and_then (λ parts. work_of parts.words) (parts_of None words)
     else if bytes_eq command (codes "serve")
     then option_and_then (λ parts. serve_of parts.words) (parts_of None words)
+    else if bytes_eq command (codes "store")
+    then option_and_then (λ parts. store_of parts.words) (parts_of None words)
     else None
 
 -- the command that the arguments ask for; none where they are used wrongly
@@ -148,5 +174,8 @@ IsAskable (Drc matrix sheets) = AllPairs ◌≢◌ sheets
 IsAskable (Export file) = ⊤
 IsAskable (Symcheck symbols) = AllPairs ◌≢◌ symbols
 IsAskable (Renumber sheets) = AllPairs ◌≢◌ sheets
+IsAskable (Table sheet) = ⊤
+IsAskable (Fill sheet table) = ⊤
 IsAskable (Work start count) = count ≤ most_steps
 IsAskable (Serve address store) = ⊤
+IsAskable (Store store database) = ⊤

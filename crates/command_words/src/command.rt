@@ -3,10 +3,11 @@ ghost use Rattle.std.specs.Prelude.{◌≡◌, ⊤, None, Some, IfOk, MatchOptio
 ghost use Rattle.std.specs.Prelude.{option_copied, string_bytes};
 ghost use Rattle.option_words.specs.Reads.{Gives, parts_seen};
 ghost use Rattle.option_words.specs.Words.{parts_of};
-ghost use Rattle.command_words.specs.Commands.{IsAskable, command_of, drc_of, export_of, form_of};
+ghost use Rattle.command_words.specs.Commands.{IsAskable, command_of, drc_of, export_of, fill_of};
+ghost use Rattle.command_words.specs.Commands.{filling, form_of, table_of};
 ghost use Rattle.command_words.specs.Commands.{is_spice, list_of, matrix_of, netlist_of};
 ghost use Rattle.command_words.specs.Commands.{renumber_of, serve_of, spice_of, symcheck_of};
-ghost use Rattle.command_words.specs.Commands.{work_of};
+ghost use Rattle.command_words.specs.Commands.{store_of, work_of};
 
 use crate::argument::Argument;
 use crate::files::{file_of, sheets_of};
@@ -53,6 +54,18 @@ pub enum Command {
         /// The sheets, at least one. Their names differ.
         sheets: Items<Name>,
     },
+    /// Prints the attributes of the components of a sheet as a table.
+    Table {
+        /// The sheet.
+        sheet: Name,
+    },
+    /// Fills a table into the components of a sheet, and writes the sheet if one of them changes.
+    Fill {
+        /// The sheet.
+        sheet: Name,
+        /// The file of the table, which has another name.
+        table: Name,
+    },
     /// Makes steps of the work on a board, and tells what they come to.
     Work {
         /// What the numbers that are drawn begin with.
@@ -66,6 +79,13 @@ pub enum Command {
         address: Argument,
         /// The name of the store.
         store: Argument,
+    },
+    /// Copies the history that a store keeps into a database.
+    Store {
+        /// The name of the store.
+        store: Argument,
+        /// The name of the database.
+        database: Argument,
     },
 }
 
@@ -185,6 +205,42 @@ fn renumber_of(alloc: Global, words: &[&str]) -> Result<Command, WordFault>
     })
 }
 
+/// The table of the one sheet that the words name.
+fn table_of(alloc: Global, words: &[&str]) -> Result<Command, WordFault>
+    ensures asked { Gives (λ command. command) result (table_of (map (λ w. w.now) words.now)) }
+    ensures any { IfOk result IsAskable }
+{
+    let [word] = words else {
+        return Err(WordFault::Usage);
+    };
+    let sheet = file_of(alloc, *word)?;
+    Ok(Command::Table { sheet })
+}
+
+/// A table that is filled into a sheet, whose files differ.
+fn filling(sheet: Name, table: Name) -> Option<Command>
+    ensures asked { result ≡ filling sheet table }
+    ensures any { MatchOption result ⊤ IsAskable }
+{
+    if sheet == table {
+        return None;
+    }
+    Some(Command::Fill { sheet, table })
+}
+
+/// The filling of a sheet by a table that the words name.
+fn fill_of(alloc: Global, words: &[&str]) -> Result<Command, WordFault>
+    ensures asked { Gives (λ command. command) result (fill_of (map (λ w. w.now) words.now)) }
+    ensures any { IfOk result IsAskable }
+{
+    let [sheet, table] = words else {
+        return Err(WordFault::Usage);
+    };
+    let sheet = file_of(alloc, *sheet)?;
+    let table = file_of(alloc, *table)?;
+    filling(sheet, table).ok_or(WordFault::Usage)
+}
+
 /// The work that the words name: from a start, and so many steps.
 fn work_of(words: &[&str]) -> Option<Command>
     ensures asked { result ≡ work_of (map (λ w. w.now) words.now) }
@@ -209,6 +265,19 @@ fn serve_of(alloc: Global, words: &[&str]) -> Result<Command, WordFault>
     let address = Argument::new(alloc, *address)?;
     let store = Argument::new(alloc, *store)?;
     Ok(Command::Serve { address, store })
+}
+
+/// The copying that the words name: of what a store keeps, into a database.
+fn store_of(alloc: Global, words: &[&str]) -> Result<Command, WordFault>
+    ensures asked { Gives (λ command. command) result (store_of (map (λ w. w.now) words.now)) }
+    ensures any { IfOk result IsAskable }
+{
+    let [store, database] = words else {
+        return Err(WordFault::Usage);
+    };
+    let store = Argument::new(alloc, *store)?;
+    let database = Argument::new(alloc, *database)?;
+    Ok(Command::Store { store, database })
 }
 
 /// The net list that the words behind `netlist` ask for.
@@ -264,6 +333,28 @@ fn renumber(alloc: Global, words: &[String]) -> Result<Command, WordFault>
     renumber_of(alloc, parts.words.as_slice())
 }
 
+/// The table that the words behind `table` ask for.
+fn table(alloc: Global, words: &[String]) -> Result<Command, WordFault>
+    ensures asked { Gives (λ command. command) result
+        (option_and_then (λ parts. table_of parts.words)
+        (parts_of None (map string_bytes words.now))) }
+    ensures any { IfOk result IsAskable }
+{
+    let parts = read_parts(alloc, None, words)?;
+    table_of(alloc, parts.words.as_slice())
+}
+
+/// The filling that the words behind `fill` ask for.
+fn fill(alloc: Global, words: &[String]) -> Result<Command, WordFault>
+    ensures asked { Gives (λ command. command) result
+        (option_and_then (λ parts. fill_of parts.words)
+        (parts_of None (map string_bytes words.now))) }
+    ensures any { IfOk result IsAskable }
+{
+    let parts = read_parts(alloc, None, words)?;
+    fill_of(alloc, parts.words.as_slice())
+}
+
 /// The work that the words behind `work` ask for.
 fn work(alloc: Global, words: &[String]) -> Result<Command, WordFault>
     ensures asked { Gives (λ command. command) result
@@ -286,6 +377,17 @@ fn serve(alloc: Global, words: &[String]) -> Result<Command, WordFault>
     serve_of(alloc, parts.words.as_slice())
 }
 
+/// The copying that the words behind `store` ask for.
+fn store(alloc: Global, words: &[String]) -> Result<Command, WordFault>
+    ensures asked { Gives (λ command. command) result
+        (option_and_then (λ parts. store_of parts.words)
+        (parts_of None (map string_bytes words.now))) }
+    ensures any { IfOk result IsAskable }
+{
+    let parts = read_parts(alloc, None, words)?;
+    store_of(alloc, parts.words.as_slice())
+}
+
 /// The command that the arguments of a command line ask for.
 ///
 /// `Usage` exactly where they ask for none (docs/FORMATS.md, "Command lines").
@@ -302,8 +404,11 @@ pub fn command_of(alloc: Global, arguments: &[String]) -> Result<Command, WordFa
         "export" => export(alloc, words),
         "symcheck" => symcheck(alloc, words),
         "renumber" => renumber(alloc, words),
+        "table" => table(alloc, words),
+        "fill" => fill(alloc, words),
         "work" => work(alloc, words),
         "serve" => serve(alloc, words),
+        "store" => store(alloc, words),
         _ => Err(WordFault::Usage),
     }
 }

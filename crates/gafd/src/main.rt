@@ -1,8 +1,9 @@
 //! `gafd netlist FILE...` prints the net list of gEDA schematics in the folder that it runs in and
 //! of those below them, `gafd drc FILE...` what the check finds on them, and `gafd export FILE` the
-//! canonical text of a schematic or of a symbol. `gafd renumber FILE...` gives numbers to
-//! components without one, in the files, and `gafd serve ADDRESS STORE` serves a history of edits
-//! over HTTP.
+//! canonical text of a schematic or of a symbol. `gafd table SHEET` prints the attributes of a
+//! schematic as a table. `gafd renumber FILE...` gives numbers to components without one, in the
+//! files, and `gafd fill SHEET TABLE` puts a table back. `gafd serve ADDRESS STORE` serves a history
+//! of edits over HTTP, and `gafd store STORE DB` copies one into a database.
 //!
 //! `gafd_run::run` is all of the program, over anything outside; `main` makes the real ones.
 #![tactic(auto)]
@@ -16,6 +17,7 @@ use gates::TcpGate;
 use hall_core::Places;
 use project_files::DirFolder;
 use sinks::StdSink;
+use sql_file_keeper::SqlFileKeeper;
 use std::process::ExitCode;
 use std::rt::Env;
 use std::{env, io};
@@ -41,6 +43,7 @@ fn main(rt: HostRuntime) -> ExitCode {
     let mut err = StdSink::new(rt.stderr());
     let mut gate = TcpGate::new(&rt);
     let keeper = FileKeeper::new(&rt);
+    let database = SqlFileKeeper::new(&rt);
     let mut places = Places::new();
     let status = match arguments(&rt) {
         Ok(arguments) => run(
@@ -53,6 +56,7 @@ fn main(rt: HostRuntime) -> ExitCode {
             &mut gate,
             keeper,
             &mut places,
+            database,
         ),
         Err(_) => report_want_of_memory(&mut err),
     };

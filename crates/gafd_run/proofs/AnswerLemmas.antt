@@ -1,5 +1,7 @@
 -- What holds of each answer that a command comes to.
-use Rattle.std.proofs.Common.{◌≡◌, ℕ, Bool, true, false, List, Option, Some, None, Ok, Err, inl, inr, sym, subst}
+use Rattle.std.proofs.Common.{◌≡◌, ℕ, Bool, true, false, List, Option, Some, None, Result, Ok, Err, inl, inr, sym, subst}
+use Rattle.std.specs.Result.{result_map_both}
+use Rattle.edit_entries.specs.Entries.{EntryData}
 use Rattle.std.specs.Prelude.{⊤}
 use Rattle.std.specs.declared.option.Option.{Option}
 use Rattle.geda_defs.specs.Contents.{Files}
@@ -12,7 +14,10 @@ use Rattle.gafd_run.specs.declared.fault.RunFault.TheVariants as faults
 use Rattle.spice_out.specs.declared.fault.SpiceFault.{SpiceFault}
 use Rattle.spice_out.specs.Faults.{spice_fault}
 use Rattle.spice_out.specs.SpiceText.{spice_text}
-use Rattle.gafd_run.specs.Answers.{AnswerData, ByNetList, ByNets, CircuitOf, Outcome, SheetsOf, SheetsTo, TextOf, all_well, circuit, circuit_or_fault}
+use Rattle.gafd_run.specs.Answers.{AnswerData, ByNetList, ByNets, CircuitOf, FillsTo, Opened, Outcome, SheetsOf, SheetsTo, TextOf, all_well, circuit, circuit_or_fault, done, filled, filled_down}
+use Rattle.gafd_run.specs.Faults.{table_fault}
+use Rattle.table_files.specs.declared.fault.TableFileFault.{TableFileFault}
+use Rattle.table_files.specs.FilledFiles.{FilledData, filled_file}
 
 -- it holds of an answer; a fault is none
 abbrev pub OfAnswer : (AnswerData → Type 0) → Outcome → Type 0
@@ -69,3 +74,21 @@ module _ (Good : AnswerData → Type 0) where
   of_text is_symbol name good told outcome come =
       of_some told (λ known end. FileComesTo (faults.Missing name) (TextOf is_symbol name) (known name) end)
       (λ files. by_file name (TextOf is_symbol name) (λ bytes. by_text is_symbol name bytes good) (files name)) outcome come
+
+  pub as_done : (text : List ℕ) → Good (all_well text) → EachBy Good (λ outcome. outcome ≡ done text)
+  as_done text good outcome is = as_one (done text) outcome is good
+
+  -- of a sheet that is opened
+  pub of_opened : (Next : List EntryData → Outcome → Type 0) → ((h : List EntryData) → EachBy Good (Next h)) → (told : Option Files) (sheet : List ℕ) → EachBy Good (Opened told sheet Next)
+  of_opened Next good told sheet outcome (Ok h, come, next) = good h outcome next
+  of_opened Next good told sheet outcome (Err fault, come, is) = as_one (Err fault) outcome is tt
+
+  by_filled : (end : Result FilledData TableFileFault) → ((f : FilledData) → Good (filled_down f)) → OfAnswer Good (result_map_both filled_down table_fault end)
+  by_filled (Ok f) good = good f
+  by_filled (Err fault) good = tt
+
+  -- of a table that is filled into it
+  pub of_filled : ((f : FilledData) → Good (filled_down f)) → (told : Option Files) (sheet table : List ℕ) (h : List EntryData) → EachBy Good (FillsTo told sheet table h)
+  of_filled good told sheet table h outcome come =
+      of_some told (λ known end. FileComesTo (faults.Missing table) (λ bytes e. e ≡ filled sheet table h bytes) (known table) end)
+      (λ files. by_file table (λ bytes e. e ≡ filled sheet table h bytes) (λ bytes end is. as_one (filled sheet table h bytes) end is (by_filled (filled_file h sheet table bytes) good)) (files table)) outcome come

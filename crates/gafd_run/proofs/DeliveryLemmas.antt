@@ -3,7 +3,7 @@ use Rattle.std.proofs.Common.{◌≡◌, ℕ, ◌≤◌, Option, Some, Ok, Err, 
 use Rattle.geda_defs.specs.Causes.{HasCause}
 use Rattle.geda_defs.specs.Contents.{Files, KeepsFiles}
 use Rattle.command_words.specs.declared.command.Command.{Command}
-use Rattle.project_files.specs.Counts.{counts}
+use Rattle.outside.specs.Counts.{counts}
 use Rattle.project_files.specs.declared.folder.FolderFault.{FolderFault}
 use Rattle.project_files.specs.declared.folder.FolderFault.TheVariants as folder
 use Rattle.project_files.proofs.Passing.{risen}

@@ -8,7 +8,9 @@ mod DeliveryLemmas
 mod AnswerLemmas
 mod ReadingLemmas
 mod NumberingLemmas
+mod TableLemmas
 mod NetListLemmas
 mod CircuitLemmas
 mod ServingLemmas
+mod StoringLemmas
 mod EndingLemmas

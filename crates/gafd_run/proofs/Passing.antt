@@ -6,7 +6,7 @@ use Rattle.geda_defs.specs.Contents.{Writes}
 use Rattle.command_words.specs.declared.command.Command.{Command}
 use Rattle.project_files.specs.declared.fault.FileFault.{FileFault}
 use Rattle.project_files.specs.declared.fault.FileFault.TheVariants as file_faults
-use Rattle.project_files.specs.Counts.{Counts, counts}
+use Rattle.outside.specs.Counts.{Counts, counts}
 use Rattle.project_files.specs.ProjectFiles.{IsAnswer, IsFolderAnswer}
 use Rattle.project_files.proofs.Passing.{risen}
 use Rattle.gafd_run.specs.declared.fault.RunFault.{RunFault}
@@ -56,6 +56,8 @@ module _ (folder : FolderRun) (command : Option Command) (out err : Stream) (fau
   is_quiet : (f : RunFault) → EndsWith folder command out (Err f) → TakesMemory f → StopsWriting folder command × IsQuiet out
   is_quiet (faults.Missing file) h named = (inl h.1, h.2)
   is_quiet (faults.Refused file line kind) h named = (inl h.1, h.2)
+  is_quiet (faults.EditRefused file fault) h named = (inl h.1, h.2)
+  is_quiet (faults.TableRefused file row kind) h named = (inl h.1, h.2)
   is_quiet (faults.BadToml file) h named = (inl h.1, h.2)
   is_quiet (faults.BadRows file) h named = (inl h.1, h.2)
   is_quiet (faults.NameClash refdes) h named = (inl h.1, h.2)
@@ -70,6 +72,7 @@ module _ (folder : FolderRun) (command : Option Command) (out err : Stream) (fau
   is_quiet faults.OutputFault h named = absurd named
   is_quiet faults.KeeperFault h named = absurd named
   is_quiet (faults.RowRefused serial) h named = (inl h.1, h.2)
+  is_quiet (faults.RowDiffers serial) h named = (inl h.1, h.2)
   is_quiet faults.GateFault h named = absurd named
   is_quiet faults.NoPlace h named = absurd named
   is_quiet faults.NoMemory h named = h

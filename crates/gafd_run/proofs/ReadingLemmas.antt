@@ -2,17 +2,19 @@
 use Rattle.std.proofs.Common.{◌≡◌, List, [], Option, Some, None, Ok, Err, inl, inr, refl, subst}
 use Rattle.std.specs.declared.option.Option.{Option}
 use Rattle.std.specs.List.{slice_get}
+use Rattle.attr_table.specs.SheetTables.{table_text}
+use Rattle.edit_rules.specs.Histories.{project}
 use Rattle.geda_defs.specs.Contents.{Files, KeepsFiles}
 use Rattle.command_words.specs.declared.command.Command.{Command}
 use Rattle.command_words.specs.declared.command.Command.TheVariants as commands
-use Rattle.project_files.specs.Counts.{Counts}
+use Rattle.outside.specs.Counts.{Counts}
 use Rattle.renum_files.specs.RenumberedFiles.{File}
 use Rattle.sinks.specs.Streams.{Stream}
 use Rattle.gafd_run.specs.declared.fault.RunFault.TheVariants as faults
-use Rattle.gafd_run.specs.Answers.{AnswerData, ComesTo, IsReading, Outcome, checked, is_symbol_name, listed}
+use Rattle.gafd_run.specs.Answers.{AnswerData, ComesTo, IsReading, Outcome, checked, is_symbol_name, listed, tabled}
 use Rattle.gafd_run.specs.Runs.{EndsWith, KeepsUnless, StopsWriting}
 use Rattle.gafd_run.specs.Writing.{FolderRun, WroteFiles, folder_run}
-use Rattle.gafd_run.proofs.AnswerLemmas.{as_one, of_circuit, of_sheets, of_text}
+use Rattle.gafd_run.proofs.AnswerLemmas.{as_done, as_one, of_circuit, of_opened, of_sheets, of_text}
 use Rattle.gafd_run.proofs.WritingLemmas.{none_written}
 
 abbrev WritesNone : AnswerData → Type 0
@@ -29,8 +31,11 @@ writes_none told (Some (commands.Export name)) reading answer come = of_text Wri
 writes_none told (Some (commands.Symcheck names)) reading answer (Ok files, come, is) = as_one WritesNone _ (Ok answer) is refl
 writes_none told (Some (commands.Symcheck names)) reading answer (Err fault, come, is) = as_one WritesNone _ (Ok answer) is tt
 writes_none told (Some (commands.Renumber names)) reading answer come = absurd reading
+writes_none told (Some (commands.Table sheet)) reading answer come = of_opened WritesNone (λ h end. end ≡ tabled sheet h) (λ h. as_done WritesNone (table_text (project h) sheet) refl) told sheet (Ok answer) come
+writes_none told (Some (commands.Fill sheet table)) reading answer come = absurd reading
 writes_none told (Some (commands.Work start count)) reading answer (text, come, is) = as_one WritesNone _ (Ok answer) is refl
 writes_none told (Some (commands.Serve address store)) reading answer come = absurd come
+writes_none told (Some (commands.Store store database)) reading answer come = absurd come
 
 module _ (folder : FolderRun) (command : Option Command) (out : Stream) (reading : IsReading command) where
   wrote_none : (answer : AnswerData) → ComesTo folder.old command (Ok answer) → WroteFiles folder answer.files → KeepsFiles folder.old folder.new

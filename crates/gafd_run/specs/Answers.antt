@@ -4,6 +4,9 @@ use Rattle.std.specs.declared.option.Option.{Option}
 use Rattle.std.specs.Fmt.{decimal}
 use Rattle.std.specs.List.{ends_with, list_any}
 use Rattle.std.specs.Result.{result_map_both}
+use Rattle.attr_table.specs.SheetTables.{table_text}
+use Rattle.edit_entries.specs.Entries.{EntryData}
+use Rattle.edit_rules.specs.Histories.{project}
 use Rattle.geda_defs.specs.Contents.{Files}
 use Rattle.project_model.specs.Projects.{ProjectData}
 use Rattle.geda_grammar.specs.Faults.{sheet_file, symbol_file}
@@ -22,7 +25,7 @@ use Rattle.spice_out.specs.Faults.{spice_fault}
 use Rattle.spice_out.specs.SpiceText.{spice_text}
 use Rattle.work_run.specs.RunText.{WorkComesTo}
 use Rattle.command_words.specs.declared.command.Command.{Command}
-use Rattle.command_words.specs.declared.command.Command.TheVariants.{Netlist, Spice, Drc, Export, Symcheck, Renumber, Work, Serve}
+use Rattle.command_words.specs.declared.command.Command.TheVariants.{Netlist, Spice, Drc, Export, Symcheck, Renumber, Table, Fill, Work, Serve, Store}
 use Rattle.project_files.specs.declared.fault.FileFault.{FileFault}
 use Rattle.project_files.specs.FileReads.{FileComesTo, ReadAs, Then}
 use Rattle.project_files.specs.Gathering.{ProjectFiles}
@@ -31,7 +34,9 @@ use Rattle.sym_check.specs.declared.report.CheckedFile.{CheckedFile}
 use Rattle.sym_check.specs.Report.{all_found, is_error, report_text}
 use Rattle.symbol_files.specs.CheckedFiles.{ChecksFrom}
 use Rattle.renum_files.specs.RenumberedFiles.{File, RenumberedData, renumbered_files}
-use Rattle.gafd_run.specs.Faults.{circuit_fault, renumber_fault, run_fault}
+use Rattle.table_files.specs.FilledFiles.{FilledData, filled_file}
+use Rattle.table_files.specs.OpenedFiles.{opened_file}
+use Rattle.gafd_run.specs.Faults.{circuit_fault, renumber_fault, run_fault, table_fault}
 use Rattle.gafd_run.specs.declared.fault.RunFault.{RunFault}
 use Rattle.gafd_run.specs.declared.fault.RunFault.TheVariants as faults
 
@@ -170,12 +175,52 @@ abbrev pub RenumbersTo : ProjectData → Outcome → Type 0
 RenumbersTo project outcome =
     outcome ≡ result_map_both written_down renumber_fault (renumbered_files project)
 
+-- the sheet of a file as the history of the edit that adds it
+abbrev pub opened : List ℕ → List ℕ → Result (List EntryData) RunFault
+opened sheet bytes = result_map_both (λ h. h) table_fault (opened_file sheet bytes)
+
+-- what the file of a sheet comes to, opened so
+abbrev pub OpensTo : List ℕ → Files → Result (List EntryData) RunFault → Type 0
+OpensTo sheet files read =
+    FileComesTo (faults.Missing sheet) (λ bytes end. end ≡ opened sheet bytes) (files sheet) read
+
+-- what comes of the file of a sheet that is opened
+abbrev pub Opened :
+    Option Files → List ℕ → (List EntryData → Outcome → Type 0) → Outcome → Type 0
+Opened files sheet Next outcome =
+    (read : Result (List EntryData) RunFault) × OfSome files (λ known. OpensTo sheet known read)
+    × Then read Next outcome
+
+-- the table of a sheet goes out
+abbrev pub tabled : List ℕ → List EntryData → Outcome
+tabled sheet h = done (table_text (project h) sheet)
+
+-- the line that tells how many components a table changes
+abbrev pub fill_line : ℕ → List ℕ
+fill_line count = codes "filled " ++ decimal count ++ codes "\n"
+
+-- that line goes out after the file is written
+abbrev pub filled_down : FilledData → AnswerData
+filled_down f = record { text = fill_line f.count; status = 0; files = f.files }
+
+-- what filling a table into a sheet comes to
+abbrev pub filled : List ℕ → List ℕ → List EntryData → List ℕ → Outcome
+filled sheet table h bytes =
+    result_map_both filled_down table_fault (filled_file h sheet table bytes)
+
+-- the same of the file of the table, which is read after that of the sheet
+abbrev pub FillsTo : Option Files → List ℕ → List ℕ → List EntryData → Outcome → Type 0
+FillsTo files sheet table h outcome = OfSome files
+    (λ known. FileComesTo (faults.Missing table) (λ bytes end. end ≡ filled sheet table h bytes)
+    (known table) outcome)
+
 -- what so many steps of the work from a start come to: their text goes out
 abbrev pub WorkOf : ℕ → ℕ → Outcome → Type 0
 WorkOf start count outcome =
     (text : List ℕ) × WorkComesTo start count text × (outcome ≡ done text)
 
--- what a command comes to over the files that a folder tells; a serving comes to nothing by them
+-- what a command comes to over the files that a folder tells; a serving and a copying come to
+-- nothing by them
 abbrev pub CommandComesTo : Option Files → Command → Outcome → Type 0
 CommandComesTo files (Netlist form names) outcome =
     OfFiles files (λ known. SheetsOf (listed form) known names outcome)
@@ -188,8 +233,13 @@ CommandComesTo files (Export name) outcome = OfSome files
 CommandComesTo files (Symcheck names) outcome = SymbolsOf files names outcome
 CommandComesTo files (Renumber names) outcome =
     OfFiles files (λ known. SheetsTo RenumbersTo known names outcome)
+CommandComesTo files (Table sheet) outcome =
+    Opened files sheet (λ h end. end ≡ tabled sheet h) outcome
+CommandComesTo files (Fill sheet table) outcome =
+    Opened files sheet (FillsTo files sheet table) outcome
 CommandComesTo files (Work start count) outcome = WorkOf start count outcome
 CommandComesTo files (Serve address store) outcome = ⊥
+CommandComesTo files (Store store database) outcome = ⊥
 
 -- what the arguments come to: what their command comes to, or a fault of usage
 abbrev pub ComesTo : Option Files → Option Command → Outcome → Type 0
@@ -199,6 +249,7 @@ ComesTo files (Some command) outcome = CommandComesTo files command outcome
 -- the arguments ask for a command that writes no file
 abbrev pub IsReading : Option Command → Type 0
 IsReading (Some (Renumber names)) = ⊥
+IsReading (Some (Fill sheet table)) = ⊥
 IsReading other = ⊤
 
 -- the files fix the outcome: the arguments don't ask for the work

@@ -3,7 +3,7 @@ use Rattle.std.specs.Prelude.{◌≡◌, ◌⊎◌, ℕ, List, Ok, Err, IsSome}
 use Rattle.std.specs.declared.option.Option.{Option}
 use Rattle.geda_defs.specs.Contents.{Files, KeepsFiles}
 use Rattle.command_words.specs.declared.command.Command.{Command}
-use Rattle.project_files.specs.Counts.{Failed}
+use Rattle.outside.specs.Counts.{Failed}
 use Rattle.sinks.specs.Streams.{IsQuiet, Stream, WrotePrefix, WroteWhole}
 use Rattle.gafd_run.specs.declared.fault.RunFault.TheVariants as faults
 use Rattle.gafd_run.specs.Faults.{error_line, status_of}

@@ -4,7 +4,7 @@ use Rattle.std.specs.declared.option.Option.{Option}
 use Rattle.std.specs.List.{slice_get}
 use Rattle.std.specs.Str.{bytes_eq}
 use Rattle.geda_defs.specs.Contents.{Files}
-use Rattle.project_files.specs.Counts.{Counts}
+use Rattle.outside.specs.Counts.{Counts}
 use Rattle.renum_files.specs.RenumberedFiles.{File}
 
 -- the files that a folder tells, and how often it failed, before a run and after it

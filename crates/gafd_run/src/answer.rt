@@ -7,7 +7,7 @@ ghost use Rattle.command_words.specs.Commands.{IsAskable, most_steps};
 ghost use Rattle.command_words.specs.declared.command.Command.TheVariants.{Drc, Export, Netlist};
 ghost use Rattle.command_words.specs.declared.command.Command.TheVariants.{Renumber, Spice};
 ghost use Rattle.command_words.specs.declared.command.Command.TheVariants.{Symcheck};
-ghost use Rattle.project_files.specs.Counts.{counts};
+ghost use Rattle.outside.specs.Counts.{counts};
 ghost use Rattle.project_files.specs.Measures.{LeavesIds, symbols_text};
 ghost use Rattle.gafd_run.specs.Answers.{ByNetList, CircuitOf, TextOf, WorkOf, checked};
 ghost use Rattle.gafd_run.specs.Answers.{RenumbersTo, is_symbol_name, listed, matrix_of};
@@ -17,6 +17,7 @@ ghost use Rattle.gafd_run.specs.steps.Checking.{MatrixFrom};
 ghost use Rattle.gafd_run.specs.steps.Passing.{AnswerOf, ComesOf, IsOnFiles, Over};
 
 use crate::fault::RunFault;
+use crate::tables::{fill, table};
 use backends::net_text;
 use command_words::Command;
 use drc_rules::{Matrix, MatrixFault};
@@ -64,7 +65,7 @@ impl Answer {
     ghost use Rattle.std.specs.Prelude.{◌≡◌};
     ghost use Rattle.gafd_run.specs.Answers.{all_well};
 
-    fn done(alloc: Global, text: Vec<u8>) -> Answer
+    pub(crate) fn done(alloc: Global, text: Vec<u8>) -> Answer
         ensures { result ≡ all_well text.items }
     {
         Answer {
@@ -331,7 +332,9 @@ pub fn answer_of<F: Folder>(
         Command::Export { file } => export(alloc, file, folder),
         Command::Symcheck { symbols } => symcheck(alloc, symbols, folder),
         Command::Renumber { sheets } => renumber(alloc, sheets, folder),
+        Command::Table { sheet } => table(alloc, sheet, folder),
+        Command::Fill { sheet, table } => fill(alloc, sheet, table, folder),
         Command::Work { start, count } => work(alloc, start, count),
-        Command::Serve { .. } => unreachable!(),
+        Command::Serve { .. } | Command::Store { .. } => unreachable!(),
     }
 }

@@ -1,7 +1,7 @@
 // Writing the files of an answer, and its text.
 ghost use Rattle.std.specs.Prelude.{OnErr, OnOk};
 ghost use Rattle.geda_defs.specs.Causes.{HasCause};
-ghost use Rattle.project_files.specs.Counts.{counts};
+ghost use Rattle.outside.specs.Counts.{counts};
 ghost use Rattle.sinks.specs.Streams.{stream};
 ghost use Rattle.gafd_run.specs.Writing.{WroteFiles, WroteSome, folder_run};
 ghost use Rattle.gafd_run.specs.steps.Passing.{Delivers};

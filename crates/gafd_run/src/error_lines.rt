@@ -3,19 +3,22 @@ ghost use Rattle.std.specs.Prelude.{◌≡◌, ◌++◌, IfOk, IsErr, codes, str
 ghost use Rattle.std.specs.Fmt.{decimal};
 ghost use Rattle.std.specs.Cow.{cow_str_bytes};
 ghost use Rattle.printed_texts.specs.PrintedTexts.{word};
-ghost use Rattle.gafd_run.specs.Faults.{error_line, kind_name, status_of};
-ghost use Rattle.project_files.specs.Counts.{counts};
+ghost use Rattle.gafd_run.specs.Faults.{edit_fault_name, error_line, kind_name, status_of};
+ghost use Rattle.gafd_run.specs.Faults.{table_kind_name};
+ghost use Rattle.outside.specs.Counts.{counts};
 ghost use Rattle.sinks.specs.Streams.{stream};
 ghost use Rattle.gafd_run.specs.Runs.{SaidLine};
 ghost use Rattle.gafd_run.specs.steps.Passing.{Reports, TakesMemory};
 
 use crate::fault::RunFault;
+use edit_entries::EditFault;
 use geda_grammar::ReadKind;
 use geda_model::Line;
 use printed_texts::name_words;
 use sinks::Sink;
 use std::alloc::{AllocError, Global};
 use std::borrow::CowStr;
+use table_files::TableKind;
 
 const OUT_OF_MEMORY: &str = "gafd: out of memory\n";
 
@@ -25,6 +28,8 @@ fn status_of(fault: &RunFault) -> u8
     match fault {
         RunFault::Missing { .. }
         | RunFault::Refused { .. }
+        | RunFault::EditRefused { .. }
+        | RunFault::TableRefused { .. }
         | RunFault::BadToml { .. }
         | RunFault::BadRows { .. }
         | RunFault::TooManyObjects
@@ -40,6 +45,7 @@ fn status_of(fault: &RunFault) -> u8
         RunFault::KeeperFault => 5,
         RunFault::RowRefused { .. } => 6,
         RunFault::GateFault => 8,
+        RunFault::RowDiffers { .. } => 10,
         RunFault::NoPlace => 11,
         RunFault::NoMemory => 71,
     }
@@ -63,6 +69,56 @@ fn kind_name(kind: ReadKind) -> &'static str
         ReadKind::NotUtf8 => "NotUtf8",
         ReadKind::TooLarge => "TooLarge",
     }
+}
+
+fn edit_fault_name(fault: EditFault) -> &'static str
+    ensures { result.now ≡ edit_fault_name fault }
+{
+    match fault {
+        EditFault::NoSheet => "NoSheet",
+        EditFault::SheetExists => "SheetExists",
+        EditFault::NoSymbol => "NoSymbol",
+        EditFault::SymbolExists => "SymbolExists",
+        EditFault::NoObject { .. } => "NoObject",
+        EditFault::NotOnKind { .. } => "NotOnKind",
+        EditFault::BadText { .. } => "BadText",
+        EditFault::OutOfRange { .. } => "OutOfRange",
+        EditFault::Stale { .. } => "Stale",
+        EditFault::NotYours => "NotYours",
+        EditFault::UndoneAlready { .. } => "UndoneAlready",
+        EditFault::UndoBlocked { .. } => "UndoBlocked",
+        EditFault::SheetInUse { .. } => "SheetInUse",
+        EditFault::BaseAhead { .. } => "BaseAhead",
+        EditFault::NumberGap { .. } => "NumberGap",
+        EditFault::NumberReused { .. } => "NumberReused",
+        EditFault::TooManyObjects => "TooManyObjects",
+        EditFault::ProjectFull => "ProjectFull",
+        EditFault::HistoryFull => "HistoryFull",
+        EditFault::NoSuchEntry => "NoSuchEntry",
+        EditFault::NoAttribute { .. } => "NoAttribute",
+    }
+}
+
+fn table_kind_name(kind: TableKind) -> &'static str
+    ensures { result.now ≡ table_kind_name kind }
+{
+    match kind {
+        TableKind::TooLarge => "TooLarge",
+        TableKind::NoHeader => "NoHeader",
+        TableKind::NotUtf8 => "NotUtf8",
+        TableKind::BadName => "BadName",
+        TableKind::BadWidth => "BadWidth",
+        TableKind::BadId => "BadId",
+        TableKind::BadValue => "BadValue",
+    }
+}
+
+/// The line of a sheet of which an edit is refused.
+fn edit_line(alloc: Global, file: &str, kind: &str) -> Result<String, AllocError>
+    ensures { IfOk result (λ text. string_bytes text
+        ≡ codes "gafd: " ++ file.now ++ codes ": " ++ kind.now ++ codes "\n") }
+{
+    format!(in alloc; "gafd: {file}: {kind}\n")
 }
 
 /// The line of a file that is refused.
@@ -91,6 +147,14 @@ fn row_line(alloc: Global, serial: u32) -> Result<String, AllocError>
     format!(in alloc; "gafd: stored row {serial} refused\n")
 }
 
+/// The line of a row that differs.
+fn difference_line(alloc: Global, serial: u32) -> Result<String, AllocError>
+    ensures { IfOk result (λ text. string_bytes text
+        ≡ codes "gafd: row " ++ decimal serial ++ codes " differs\n") }
+{
+    format!(in alloc; "gafd: row {serial} differs\n")
+}
+
 /// The line of a fault. Only one that names a file, a package or a row takes memory.
 fn error_line(alloc: Global, fault: &RunFault) -> Result<CowStr<'static>, AllocError>
     ensures line { IfOk result (λ line. cow_str_bytes line ≡ error_line fault.now) }
@@ -103,6 +167,14 @@ fn error_line(alloc: Global, fault: &RunFault) -> Result<CowStr<'static>, AllocE
         }
         RunFault::Refused { file, line, kind } => {
             let text = refused_line(alloc, file.as_str(), *line, kind_name(*kind))?;
+            Ok(CowStr::Owned(text))
+        }
+        RunFault::EditRefused { file, fault } => {
+            let text = edit_line(alloc, file.as_str(), edit_fault_name(*fault))?;
+            Ok(CowStr::Owned(text))
+        }
+        RunFault::TableRefused { file, row, kind } => {
+            let text = refused_line(alloc, file.as_str(), *row, table_kind_name(*kind))?;
             Ok(CowStr::Owned(text))
         }
         RunFault::BadToml { file } => {
@@ -125,6 +197,7 @@ fn error_line(alloc: Global, fault: &RunFault) -> Result<CowStr<'static>, AllocE
         RunFault::OutputFault => Ok(CowStr::Borrowed("gafd: output fault\n")),
         RunFault::KeeperFault => Ok(CowStr::Borrowed("gafd: keeper fault\n")),
         RunFault::RowRefused { serial } => Ok(CowStr::Owned(row_line(alloc, *serial)?)),
+        RunFault::RowDiffers { serial } => Ok(CowStr::Owned(difference_line(alloc, *serial)?)),
         RunFault::GateFault => Ok(CowStr::Borrowed("gafd: gate fault\n")),
         RunFault::NoPlace => Ok(CowStr::Borrowed("gafd: no place\n")),
         RunFault::NoMemory => Ok(CowStr::Borrowed(OUT_OF_MEMORY)),

@@ -1,9 +1,12 @@
 // Why the program ends otherwise than with an answer.
 ghost use Rattle.std.specs.Prelude.{◌≡◌};
 ghost use Rattle.gafd_run.specs.Faults.{circuit_fault, renumber_fault, run_fault, serve_fault};
+ghost use Rattle.gafd_run.specs.Faults.{table_fault};
+ghost use Rattle.gafd_run.specs.Faults.{storing_fault};
 ghost use Rattle.gafd_run.specs.steps.Passing.{FromElaboration, FromFolder, FromWords};
 ghost use Rattle.gafd_run.specs.declared.fault.RunFault.TheVariants.{NoMemory, OutputFault};
 
+use edit_entries::EditFault;
 use geda_grammar::ReadKind;
 use geda_model::{Line, Name};
 use hall_server::ServeFault;
@@ -14,6 +17,8 @@ use renum_files::RenumberFault;
 use sinks::SinkFault;
 use spice_out::SpiceFault;
 use std::alloc::{AllocError, AllocFailed};
+use store_copy::StoringFault;
+use table_files::{TableFileFault, TableKind};
 
 /// Why the program ends otherwise than with an answer (docs/FORMATS.md, "Statuses").
 #[derive(Debug, Drop)]
@@ -31,6 +36,22 @@ pub enum RunFault {
         line: u32,
         /// The kind of its fault.
         kind: ReadKind,
+    },
+    /// An edit of a sheet is refused.
+    EditRefused {
+        /// The name of the sheet's file.
+        file: Name,
+        /// Why.
+        fault: EditFault,
+    },
+    /// A table is refused.
+    TableRefused {
+        /// The name of its file.
+        file: Name,
+        /// The record of its fault, from 1.
+        row: u32,
+        /// The kind of its fault.
+        kind: TableKind,
     },
     /// The file of the matrix is no TOML document, or too long.
     BadToml {
@@ -78,6 +99,11 @@ pub enum RunFault {
     KeeperFault,
     /// The rules do not accept a stored row.
     RowRefused {
+        /// The serial of the first such row, which counts from 0.
+        serial: u32,
+    },
+    /// The database has another row than the store.
+    RowDiffers {
         /// The serial of the first such row, which counts from 0.
         serial: u32,
     },
@@ -186,6 +212,21 @@ impl From<RenumberFault> for RunFault {
     }
 }
 
+impl From<TableFileFault> for RunFault {
+    ghost from_gives = { λ fault e. e ≡ table_fault fault };
+
+    fn from(fault: TableFileFault) -> RunFault {
+        match fault {
+            TableFileFault::Refused { file, line, kind } => RunFault::Refused { file, line, kind },
+            TableFileFault::EditRefused { file, fault } => RunFault::EditRefused { file, fault },
+            TableFileFault::TableRefused { file, row, kind } => {
+                RunFault::TableRefused { file, row, kind }
+            }
+            TableFileFault::NoMemory => RunFault::NoMemory,
+        }
+    }
+}
+
 impl From<ServeFault> for RunFault {
     ghost from_gives = { λ fault e. e ≡ serve_fault fault };
 
@@ -197,6 +238,20 @@ impl From<ServeFault> for RunFault {
             ServeFault::NoPlace => RunFault::NoPlace,
             ServeFault::OutputFault => RunFault::OutputFault,
             ServeFault::NoMemory => RunFault::NoMemory,
+        }
+    }
+}
+
+impl From<StoringFault> for RunFault {
+    ghost from_gives = { λ fault e. e ≡ storing_fault fault };
+
+    fn from(fault: StoringFault) -> RunFault {
+        match fault {
+            StoringFault::KeeperFault => RunFault::KeeperFault,
+            StoringFault::RowRefused { serial } => RunFault::RowRefused { serial },
+            StoringFault::RowDiffers { serial } => RunFault::RowDiffers { serial },
+            StoringFault::OutputFault => RunFault::OutputFault,
+            StoringFault::NoMemory => RunFault::NoMemory,
         }
     }
 }

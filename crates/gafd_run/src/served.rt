@@ -1,5 +1,5 @@
 // The serving of a store at an address.
-ghost use Rattle.project_files.specs.Counts.{counts};
+ghost use Rattle.outside.specs.Counts.{counts};
 ghost use Rattle.sinks.specs.Streams.{stream};
 ghost use Rattle.hall_server.specs.Serving.{outside};
 ghost use Rattle.gafd_run.specs.Endings.{ServingEnds};

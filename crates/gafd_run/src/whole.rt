@@ -3,9 +3,10 @@ ghost use Rattle.std.specs.Prelude.{◌≡◌, List, Some, String};
 ghost use Rattle.std.specs.declared.alloc.Global.{Global};
 ghost use Rattle.geda_defs.specs.Contents.{Files};
 ghost use Rattle.command_words.specs.Commands.{IsAskable, command_of};
-ghost use Rattle.project_files.specs.Counts.{counts};
+ghost use Rattle.outside.specs.Counts.{counts};
 ghost use Rattle.sinks.specs.Streams.{stream};
 ghost use Rattle.hall_server.specs.Serving.{outside};
+ghost use Rattle.store_copy.specs.Storing.{keepers};
 ghost use Rattle.gafd_run.specs.Answers.{ComesTo, IsFixed, Outcome};
 ghost use Rattle.gafd_run.specs.Endings.{Completes, RunEnds};
 ghost use Rattle.gafd_run.specs.Runs.{Ends, EndsWith, KeepsUnless};
@@ -17,6 +18,7 @@ use crate::delivery::deliver;
 use crate::error_lines::report;
 use crate::fault::RunFault;
 use crate::served::served;
+use crate::stored::stored;
 use command_words::{Command, command_of};
 use gates::Gate;
 use hall_core::Places;
@@ -85,6 +87,7 @@ fn run_command<
     E: Sink,
     G: Gate + Sync,
     K: Keeper + Send,
+    D: Keeper,
 >(
     rt: &W,
     alloc: Global,
@@ -95,10 +98,13 @@ fn run_command<
     gate: &mut G,
     keeper: K,
     places: &mut Places,
+    database: D,
 ) -> u8
     ensures end { RunEnds (outside (K.never_fails keeper) (K.rows keeper)
         (counts (G.faults gate.old) (G.faults gate.new))
         (counts places.old.refused places.new.refused))
+        (keepers (K.never_fails keeper) (D.never_fails database)
+        (K.rows keeper) (D.rows database))
         (folder_run (F.files folder.old) (F.files folder.new)
         (counts (F.faults folder.old) (F.faults folder.new)))
         (command_of arguments.now)
@@ -118,6 +124,10 @@ fn run_command<
         Command::Serve { address, store } => {
             served(rt, alloc, address, store, out, err, gate, keeper, places)
         }
+        Command::Store {
+            store,
+            database: name,
+        } => { stored(alloc, store, name, out, err, keeper, database) }
         command => ended(alloc, command, folder, out, err),
     }
 }
@@ -128,8 +138,17 @@ fn run_command<
 /// For each fault one line goes to `err`; a failing `err` changes no status. Of a command on files
 /// nothing is written and nothing goes to `out` before all is computed, and nothing goes to `out`
 /// before all files are written. `serve` binds the gate, opens a hall over the keeper, and prints
-/// its line before it serves. All files stay, but those that `renumber` writes.
-pub fn run<W: Threads + Wait + Sync, F: Folder, O: Sink, E: Sink, G: Gate + Sync, K: Keeper + Send>(
+/// its line before it serves. `store` copies what one keeper keeps into the other, and prints how
+/// many rows that were. All files stay, but those that `renumber` and `fill` write.
+pub fn run<
+    W: Threads + Wait + Sync,
+    F: Folder,
+    O: Sink,
+    E: Sink,
+    G: Gate + Sync,
+    K: Keeper + Send,
+    D: Keeper,
+>(
     rt: &W,
     alloc: Global,
     arguments: &[String],
@@ -139,6 +158,7 @@ pub fn run<W: Threads + Wait + Sync, F: Folder, O: Sink, E: Sink, G: Gate + Sync
     gate: &mut G,
     keeper: K,
     places: &mut Places,
+    database: D,
 ) -> u8
     // The arguments come to an answer, whose files are written and whose text is out, or to a
     // fault; or links were served; or the folder, the output, the gate, the keeper or a place
@@ -146,6 +166,8 @@ pub fn run<W: Threads + Wait + Sync, F: Folder, O: Sink, E: Sink, G: Gate + Sync
     ensures end { RunEnds (outside (K.never_fails keeper) (K.rows keeper)
         (counts (G.faults gate.old) (G.faults gate.new))
         (counts places.old.refused places.new.refused))
+        (keepers (K.never_fails keeper) (D.never_fails database)
+        (K.rows keeper) (D.rows database))
         (folder_run (F.files folder.old) (F.files folder.new)
         (counts (F.faults folder.old) (F.faults folder.new)))
         (command_of arguments.now)
@@ -161,6 +183,8 @@ pub fn run<W: Threads + Wait + Sync, F: Folder, O: Sink, E: Sink, G: Gate + Sync
     ensures complete { Completes (outside (K.never_fails keeper) (K.rows keeper)
         (counts (G.faults gate.old) (G.faults gate.new))
         (counts places.old.refused places.new.refused))
+        (keepers (K.never_fails keeper) (D.never_fails database)
+        (K.rows keeper) (D.rows database))
         (folder_run (F.files folder.old) (F.files folder.new)
         (counts (F.faults folder.old) (F.faults folder.new)))
         (command_of arguments.now)
@@ -168,7 +192,9 @@ pub fn run<W: Threads + Wait + Sync, F: Folder, O: Sink, E: Sink, G: Gate + Sync
         (counts (O.faults out.old) (O.faults out.new)))
         result }
 {
-    run_command(rt, alloc, arguments, folder, out, err, gate, keeper, places)
+    run_command(
+        rt, alloc, arguments, folder, out, err, gate, keeper, places, database,
+    )
 }
 
 /// The law that arguments come to one outcome over files, where they don't ask for the work: its

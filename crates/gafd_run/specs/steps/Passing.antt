@@ -4,7 +4,7 @@ use Rattle.std.specs.Prelude.{◌≡◌, ◌⊎◌, ℕ, Result, Ok, Err, Some, 
 use Rattle.std.specs.declared.option.Option.{Option}
 use Rattle.geda_defs.specs.Contents.{Files}
 use Rattle.command_words.specs.declared.command.Command.{Command}
-use Rattle.command_words.specs.declared.command.Command.TheVariants.{Serve}
+use Rattle.command_words.specs.declared.command.Command.TheVariants.{Serve, Store}
 use Rattle.gafd_run.specs.declared.fault.RunFault.{RunFault}
 use Rattle.gafd_run.specs.declared.fault.RunFault.TheVariants as faults
 use Rattle.hierarchy.specs.declared.fault.ElabFault.{ElabFault}
@@ -15,7 +15,7 @@ use Rattle.project_files.specs.declared.folder.FolderFault.{FolderFault}
 use Rattle.project_files.specs.declared.folder.FolderFault.TheVariants as folder
 use Rattle.gafd_run.specs.Answers.{AnswerData, Outcome, ComesTo}
 use Rattle.gafd_run.specs.Writing.{FolderRun, WroteFiles, WroteSome}
-use Rattle.project_files.specs.Counts.{Counts, Failed}
+use Rattle.outside.specs.Counts.{Counts, Failed}
 use Rattle.sinks.specs.Streams.{IsQuiet, Stream, WrotePrefix, WroteWhole}
 use Rattle.gafd_run.specs.Runs.{SaidLine}
 use Rattle.gafd_run.specs.Faults.{error_line, status_of}
@@ -58,9 +58,10 @@ Delivers folder out answer (Err faults.OutputFault) =
 Delivers folder out answer (Err faults.NoMemory) = WroteSome folder answer.files × IsQuiet out
 Delivers folder out answer (Err fault) = ⊥
 
--- the command is done on files: it does not serve
+-- the command is done on files: it does not serve or copy a store
 abbrev pub IsOnFiles : Command → Type 0
 IsOnFiles (Serve address store) = ⊥
+IsOnFiles (Store store database) = ⊥
 IsOnFiles other = ⊤
 
 -- what a command comes to over the files that a folder tells
@@ -71,6 +72,8 @@ Over files command outcome = ComesTo files (Some command) outcome
 abbrev pub TakesMemory : RunFault → Type 0
 TakesMemory (faults.Missing file) = ⊤
 TakesMemory (faults.Refused file line kind) = ⊤
+TakesMemory (faults.EditRefused file fault) = ⊤
+TakesMemory (faults.TableRefused file row kind) = ⊤
 TakesMemory (faults.BadToml file) = ⊤
 TakesMemory (faults.BadRows file) = ⊤
 TakesMemory (faults.NameClash refdes) = ⊤
@@ -78,6 +81,7 @@ TakesMemory (faults.PinSet refdes) = ⊤
 TakesMemory (faults.TwoNets refdes) = ⊤
 TakesMemory (faults.NoValue refdes) = ⊤
 TakesMemory (faults.RowRefused serial) = ⊤
+TakesMemory (faults.RowDiffers serial) = ⊤
 TakesMemory other = ⊥
 
 -- a fault is reported as it is, or as want of memory where its line takes memory

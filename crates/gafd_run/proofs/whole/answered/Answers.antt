@@ -1,6 +1,6 @@
 use Rattle.std.proofs.Common.{Some, refl}
 use Rattle.std.proofs.lemmas.Result.{err_from_is_err_and}
-use Rattle.project_files.specs.Counts.{counts}
+use Rattle.outside.specs.Counts.{counts}
 use Rattle.sinks.specs.Streams.{stream}
 use Rattle.gafd_run.specs.Writing.{folder_run}
 use Rattle.gafd_run.proofs.DeliveryLemmas.{answer_failed, delivered, delivery_failed}
