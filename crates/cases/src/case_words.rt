@@ -1,6 +1,7 @@
-// What a case asks: a command, the connections that come, the rows of the store, the calls that
-// fail, and the call of the keeper that waits:
-// `serve here store with ann bob over rows failing keeper:4 holding 8 until bob 1`.
+// What a case asks: a command, the connections that come, the rows of the store and of the database,
+// the calls that fail, and the call of the keeper that waits:
+// `serve here store with ann bob over rows failing keeper:4 holding 8 until bob 1`,
+// `store here there over rows into others failing database:2`.
 use crate::held_keeper::HeldCall;
 use crate::scripts::milestone_of;
 use case_tables::{CaseFault, number_of};
@@ -14,6 +15,8 @@ pub struct ServingCase<'a> {
     pub links: &'a str,
     /// The file of the rows.
     pub rows: &'a str,
+    /// The file of the rows of the database.
+    pub database: &'a str,
     /// The calls that fail.
     pub failing: &'a str,
     /// The call that waits, and for what.
@@ -28,12 +31,14 @@ fn parted<'a>(text: &'a str, mark: &str) -> (&'a str, &'a str) {
 pub fn serving_case(text: &str) -> ServingCase<'_> {
     let (text, held) = parted(text, " holding ");
     let (text, failing) = parted(text, " failing ");
+    let (text, database) = parted(text, " into ");
     let (text, rows) = parted(text, " over ");
     let (words, links) = parted(text, " with ");
     ServingCase {
         words,
         links,
         rows,
+        database,
         failing,
         held,
     }

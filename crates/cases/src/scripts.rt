@@ -70,23 +70,33 @@ impl Script {
     }
 }
 
-/// How many connections are named.
-pub fn name_count(names: &str) -> usize {
-    let mut count = 0usize;
-    for _ in names.split_whitespace() {
-        count = count.saturating_add(1);
+/// How many connections a word names, and the file of each: `900*ann`, or `ann` alone.
+pub fn counted_name(word: &str) -> Result<(usize, &str), CaseFault> {
+    match word.split_once('*') {
+        Some((count, name)) => Ok((number_of(count)? as usize, name)),
+        None => Ok((1, word)),
     }
-    count
+}
+
+/// How many connections are named.
+pub fn name_count(names: &str) -> Result<usize, CaseFault> {
+    let mut all = 0usize;
+    for word in names.split_whitespace() {
+        let (count, _) = counted_name(word)?;
+        all = all.saturating_add(count);
+    }
+    Ok(all)
 }
 
 /// The place of a connection among those that are named; `keeper` stands behind them.
 fn place_of(names: &str, wanted: &str) -> Result<usize, CaseFault> {
     let mut place = 0usize;
-    for name in names.split_whitespace() {
+    for word in names.split_whitespace() {
+        let (count, name) = counted_name(word)?;
         if name == wanted {
             return Ok(place);
         }
-        place = place.saturating_add(1);
+        place = place.saturating_add(count);
     }
     if wanted == "keeper" {
         return Ok(place);

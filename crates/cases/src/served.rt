@@ -2,10 +2,11 @@
 use crate::case_words::serving_case;
 use crate::programs::{put_lines, put_marked};
 use crate::progress::{Progress, Traces};
+use crate::scripts::counted_name;
 use crate::servings::{Ran, run_case};
 use case_tables::{CaseFault, TableFiles, text_in};
 use http_lines::lines_of;
-use std::alloc::Global;
+use std::alloc::{AllocError, Global};
 use std::sync::{Mutex, Wait};
 use std::thread::Threads;
 use std::time::Clock;
@@ -31,7 +32,22 @@ pub fn status<W: Threads + Wait + Clock + Sync>(
     status_line(alloc, &ran)
 }
 
-/// Puts the replies of each connection behind its name.
+/// What so many connections have written, from a place on.
+fn written_from<W: Wait + Clock>(
+    alloc: Global,
+    progress: &Progress<'_, W>,
+    place: usize,
+    count: usize,
+) -> Result<Vec<u8>, AllocError> {
+    let mut written = Vec::new(alloc);
+    for next in 0..count {
+        let one = progress.written(alloc, place.saturating_add(next))?;
+        written.extend_from_slice(one.as_slice())?;
+    }
+    Ok(written)
+}
+
+/// Puts the replies of each connection behind its name, or of so many behind one: `900*ann`.
 fn put_replies<W: Wait + Clock>(
     rt: &W,
     alloc: Global,
@@ -41,11 +57,12 @@ fn put_replies<W: Wait + Clock>(
 ) -> Result<(), CaseFault> {
     let progress = Progress::new(rt, traces);
     let mut place = 0usize;
-    for name in names.split_whitespace() {
-        let written = progress.written(alloc, place)?;
+    for word in names.split_whitespace() {
+        let (count, _) = counted_name(word)?;
+        let written = written_from(alloc, &progress, place, count)?;
         let lines = lines_of(alloc, written.as_slice(), false)?;
-        write!(to, "> {name}\n{}", lines.as_str())?;
-        place = place.saturating_add(1);
+        write!(to, "> {word}\n{}", lines.as_str())?;
+        place = place.saturating_add(count);
     }
     Ok(())
 }

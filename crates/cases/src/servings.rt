@@ -2,7 +2,7 @@
 use crate::case_words::{ServingCase, held_call_of};
 use crate::held_keeper::{HeldCall, HeldKeeper};
 use crate::progress::{Progress, Traces};
-use crate::scripts::{name_count, script_of};
+use crate::scripts::{counted_name, name_count, script_of};
 use crate::shared_link::SharedLink;
 use case_tables::{CaseFault, TableFiles, arguments_of, failing_calls};
 use edit_entries::Entry;
@@ -12,7 +12,7 @@ use hall_core::Places;
 use http_lines::entries_of;
 use keeper_core::MemoryKeeper;
 use project_files::MemoryFolder;
-use std::alloc::{AllocError, Global};
+use std::alloc::Global;
 use std::collections::BTreeMap;
 use std::sync::{Mutex, Wait};
 use std::thread::Threads;
@@ -44,8 +44,8 @@ pub struct Ran {
 /// What a serving begins with, but its connections.
 #[derive(Drop)]
 struct Start {
-    rows: Vec<Entry>,
-    failing_calls: Vec<u64>,
+    keeper: MemoryKeeper,
+    database: MemoryKeeper,
     failing_binds: Vec<u64>,
     held: Option<HeldCall>,
 }
@@ -60,23 +60,25 @@ pub fn outputs_of(alloc: Global, room: usize, failing: &str) -> Result<Outputs, 
     })
 }
 
-/// The rows of a case.
-fn rows_of(
-    alloc: Global,
-    case: &ServingCase<'_>,
-    files: &TableFiles,
-) -> Result<Vec<Entry>, CaseFault> {
-    if case.rows.is_empty() {
+/// The rows of the file of this name; none where there is no name.
+fn rows_of(alloc: Global, name: &str, files: &TableFiles) -> Result<Vec<Entry>, CaseFault> {
+    if name.is_empty() {
         return Ok(Vec::new(alloc));
     }
-    entries_of(alloc, case.rows, files)
+    entries_of(alloc, name, files)
 }
 
 fn start_of(alloc: Global, case: &ServingCase<'_>, files: &TableFiles) -> Result<Start, CaseFault> {
     let held = held_call_of(case.links, case.held)?;
     Ok(Start {
-        rows: rows_of(alloc, case, files)?,
-        failing_calls: failing_calls(alloc, case.failing, "keeper")?,
+        keeper: MemoryKeeper::new(
+            rows_of(alloc, case.rows, files)?,
+            failing_calls(alloc, case.failing, "keeper")?,
+        ),
+        database: MemoryKeeper::new(
+            rows_of(alloc, case.database, files)?,
+            failing_calls(alloc, case.failing, "database")?,
+        ),
         failing_binds: failing_calls(alloc, case.failing, "gate")?,
         held,
     })
@@ -92,10 +94,13 @@ fn links_of<'a, W: Wait + Clock>(
 ) -> Result<Vec<SharedLink<'a, W>>, CaseFault> {
     let mut links = Vec::new(alloc);
     let mut place = 0usize;
-    for name in names.split_whitespace() {
-        let script = script_of(alloc, names, name, files)?;
-        links.push(SharedLink::new(Progress::new(rt, traces), place, script))?;
-        place = place.saturating_add(1);
+    for word in names.split_whitespace() {
+        let (count, name) = counted_name(word)?;
+        for _ in 0..count {
+            let script = script_of(alloc, names, name, files)?;
+            links.push(SharedLink::new(Progress::new(rt, traces), place, script))?;
+            place = place.saturating_add(1);
+        }
     }
     Ok(links)
 }
@@ -127,14 +132,13 @@ fn run_with<'a, W: Threads + Wait + Clock + Sync>(
         place,
     } = wires;
     let Start {
-        rows,
-        failing_calls,
+        keeper,
+        database,
         failing_binds,
         held,
     } = start;
     let mut gate = MemoryGate::new(rt, links, failing_binds);
     let mut places = Places::new();
-    let keeper = MemoryKeeper::new(rows, failing_calls);
     let keeper = HeldKeeper::new(keeper, progress, place, held);
     let status = run(
         rt,
@@ -146,6 +150,7 @@ fn run_with<'a, W: Threads + Wait + Clock + Sync>(
         &mut gate,
         keeper,
         &mut places,
+        database,
     );
     drop(gate);
     drop(places);
@@ -164,8 +169,8 @@ pub fn status_in<W: Threads + Wait + Clock + Sync>(
     let traces = traces_of(alloc, "")?;
     let wires = Wires {
         start: Start {
-            rows: Vec::new(alloc),
-            failing_calls: Vec::new(alloc),
+            keeper: MemoryKeeper::new(Vec::new(alloc), Vec::new(alloc)),
+            database: MemoryKeeper::new(Vec::new(alloc), Vec::new(alloc)),
             failing_binds: Vec::new(alloc),
             held: None,
         },
@@ -192,7 +197,7 @@ fn status_of<W: Threads + Wait + Clock + Sync>(
         start,
         links,
         progress: Progress::new(rt, traces),
-        place: name_count(case.links),
+        place: name_count(case.links)?,
     };
     let mut folder = MemoryFolder::new(BTreeMap::new(alloc), Vec::new(alloc));
     let status = run_with(rt, alloc, &arguments, &mut folder, outputs, wires);
@@ -201,8 +206,8 @@ fn status_of<W: Threads + Wait + Clock + Sync>(
 }
 
 /// The traces of the connections of these names, and of the keeper.
-fn traces_of(alloc: Global, names: &str) -> Result<Mutex<Traces>, AllocError> {
-    let places = name_count(names).saturating_add(1);
+fn traces_of(alloc: Global, names: &str) -> Result<Mutex<Traces>, CaseFault> {
+    let places = name_count(names)?.saturating_add(1);
     Ok(Mutex::new(Traces::new(alloc, places)?))
 }
 

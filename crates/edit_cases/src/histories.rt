@@ -7,7 +7,7 @@ use case_tables::{CaseFault, TableFiles, number_of, text_in};
 use edit_desk::Desk;
 use edit_entries::Entry;
 use edit_rules::Verdict;
-use http_lines::entry_of;
+use http_lines::{entry_of, last_lines};
 use project_model::Change;
 use std::alloc::{AllocError, Global};
 
@@ -65,24 +65,13 @@ fn all_verdicts(alloc: Global, file: &str, files: &TableFiles) -> Result<String,
     text
 }
 
-/// So many lines at the end of a text.
-fn last_lines(alloc: Global, text: &str, count: usize) -> Result<String, AllocError> {
-    let before = text.lines().count().saturating_sub(count);
-    let mut out = String::new(alloc);
-    for line in text.lines().skip(before) {
-        writeln!(out, "{line}")?;
-    }
-    Ok(out)
-}
-
 /// The verdicts on the entries of a file, or so many at the end: `h`, `h last 2`.
 pub fn verdicts(alloc: Global, words: &str, files: &TableFiles) -> Result<String, CaseFault> {
     match words.split_once(" last ") {
         None => all_verdicts(alloc, words, files),
         Some((file, count)) => {
-            let count = number_of(count)?;
             let text = all_verdicts(alloc, file, files)?;
-            Ok(last_lines(alloc, text.as_str(), count as usize)?)
+            Ok(last_lines(alloc, text.as_str(), number_of(count)?)?)
         }
     }
 }

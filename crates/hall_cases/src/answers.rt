@@ -13,6 +13,7 @@ fn row(alloc: Global, kind: &str, cells: &[&str]) -> Result<String, CaseFault> {
         "head of bytes" => made_inputs::head_of_bytes(alloc, cells),
         "headers" => made_inputs::headers(alloc, cells),
         "body of bytes" => made_inputs::body_of_bytes(alloc, cells),
+        "target of bytes" => made_inputs::target_of_bytes(alloc, cells),
         "many" => made_inputs::many(alloc, cells),
         _ => Err(CaseFault::BadCase),
     }
@@ -27,6 +28,8 @@ fn question<W: Wait>(
 ) -> Result<String, CaseFault> {
     match kind {
         "connections" => questions::connections(rt, alloc, words, files),
+        "connections and groups" => questions::connections_and_groups(rt, alloc, words, files),
+        "bodies" => questions::bodies(rt, alloc, words, files),
         "openings" => questions::opening(rt, alloc, words, files),
         "steps of groups" => questions::steps(rt, alloc, words, files),
         "each call of the keeper fails" => questions::each_call(rt, alloc, words, files),

@@ -1,10 +1,10 @@
 // A hall with two seats, which serve connections in turn.
-ghost use Rattle.std.specs.Prelude.{◌≡◌};
+ghost use Rattle.std.specs.Prelude.{◌≡◌, ◌+◌, ◌*◌};
 
 use crate::connections::{Connection, link_of};
 use crate::hall_fault::HallFault;
 use hall_core::{
-    Hall, HallName, NewLog, Places, Seat, ShowsBoard, ShowsKept, close_hall, open_hall,
+    Hall, HallName, Keys, NewLog, Places, Seat, ShowsBoard, ShowsKept, close_hall, open_hall,
 };
 use hall_server::{KeptReports, serve_link};
 use keeper_core::MemoryKeeper;
@@ -13,16 +13,25 @@ use std::marker::Brand;
 use std::mem;
 use std::sync::Wait;
 
+/// What is seen of the groups of a board.
+#[derive(Clone, Copy)]
+pub struct GroupsLook {
+    /// The steps that they took.
+    pub steps: u64,
+    /// Whether those of all sheets are kept.
+    pub are_kept: bool,
+}
+
 /// What came of a hall.
 #[derive(Drop)]
 pub struct Served {
     /// Its connections.
     pub connections: Vec<Connection>,
-    /// How many entries there are in the end, and the steps that the groups of the board took; none
-    /// where the look at them was refused.
-    pub last_look: Option<(u32, u64)>,
+    /// How many entries there are in the end, and the groups of the board; none where the look at
+    /// them was refused.
+    pub last_look: Option<(u32, GroupsLook)>,
     /// Its keeper.
-    pub keeper: Option<MemoryKeeper>,
+    pub keeper: MemoryKeeper,
     /// Whether the keeper's rows hold all that the seats have seen.
     pub held: bool,
 }
@@ -60,9 +69,14 @@ fn serve_inputs<W: Wait, B: HallName, S: ShowsKept<B, KeptReports<B>>, R: Wait +
 }
 
 /// The look of the first seat.
-fn last_look<B: HallName, S: ShowsBoard<B>>(seats: &mut Vec<Seat<B, S>>) -> Option<(u32, u64)> {
+fn last_look<B: HallName, S: ShowsBoard<B>>(
+    seats: &mut Vec<Seat<B, S>>,
+) -> Option<(u32, GroupsLook)> {
     let seat = seats.get_mut(0)?;
-    seat.look(|board| board.asked())
+    seat.look(|board| GroupsLook {
+        steps: board.asked(),
+        are_kept: board.is_fresh(),
+    })
 }
 
 /// Serves the inputs, and closes the hall.
@@ -70,14 +84,15 @@ fn serve_and_close<W: Wait, B: HallName, S: ShowsKept<B, KeptReports<B>>, R: Wai
     rt: &W,
     alloc: Global,
     hall: &Hall<MemoryKeeper, B, S, R>,
+    keys: Keys<B>,
     seats: &mut Vec<Seat<B, S>>,
     inputs: Vec<Vec<u8>>,
 ) -> Result<Served, HallFault>
-    requires { B.seats ≡ B.parts }
+    requires { B.parts ≡ B.seats * 2 + 1 }
 {
     let connections = serve_inputs(rt, alloc, hall, seats, inputs)?;
     let last_look = last_look(seats);
-    let (keeper, held) = close_hall(rt, hall, seats.as_mut_slice());
+    let (keeper, held) = close_hall(rt, hall, keys, seats.as_mut_slice());
     Ok(Served {
         connections,
         last_look,
@@ -95,15 +110,15 @@ fn serve_named<W: Wait, B: HallName>(
     inputs: Vec<Vec<u8>>,
 ) -> Result<Served, HallFault>
     requires book { log.book ≡ B.book }
-    requires ledger { (log.ledger ≡ B.name) × (log.parts ≡ B.parts) × (B.seats ≡ B.parts) }
-    requires seats { B.seats ≡ 2 }
+    requires ledger { (log.ledger ≡ B.name) × (log.parts ≡ B.parts) }
+    requires seats { (B.parts ≡ B.seats * 2 + 1) × (B.seats ≡ 2) }
 {
     let mut places = Places::new();
     let named = log.named::<B>();
     match open_hall(alloc, rt, named, keeper, 2, &mut places) {
-        Ok((hall, seats)) => {
+        Ok((hall, seats, keys)) => {
             let mut seats = seats;
-            let served = serve_and_close(rt, alloc, &hall, &mut seats, inputs);
+            let served = serve_and_close(rt, alloc, &hall, keys, &mut seats, inputs);
             mem::forget(seats);
             mem::forget(hall);
             served

@@ -32,6 +32,19 @@ pub fn head_of_bytes(alloc: Global, cells: &[&str]) -> Result<String, CaseFault>
     first_line(alloc, &served)
 }
 
+/// A request whose target has so many bytes, and begins like this.
+pub fn target_of_bytes(alloc: Global, cells: &[&str]) -> Result<String, CaseFault> {
+    let count = number_of(cell(cells, 0))?;
+    let front = cell(cells, 1);
+    let mut input = format!(in alloc; "GET {front}")?.into_bytes();
+    for _ in front.len()..count as usize {
+        input.push(b'x')?;
+    }
+    input.extend_from_slice(b" HTTP/1.1\r\n\r\n")?;
+    let served = answered(alloc, input)?;
+    first_line(alloc, &served)
+}
+
 /// A request with so many headers.
 pub fn headers(alloc: Global, cells: &[&str]) -> Result<String, CaseFault> {
     let mut input = b"GET /sheets HTTP/1.1\r\n".to_vec(alloc)?;
@@ -56,24 +69,23 @@ pub fn body_of_bytes(alloc: Global, cells: &[&str]) -> Result<String, CaseFault>
     Ok(format!(in alloc; "{} {body}", served.end_name())?)
 }
 
-fn lines_with(text: &str, start: &str) -> u32 {
+/// How often a text has another one.
+fn times_in(text: &str, piece: &str) -> u32 {
     let mut count: u32 = 0;
-    for line in text.lines() {
-        if line.starts_with(start) {
-            count = count.saturating_add(1);
-        }
+    for _ in text.split(piece).skip(1) {
+        count = count.saturating_add(1);
     }
     count
 }
 
-/// So many times one request: the end, how many replies there are, and how many say close.
+/// So many times one request: the end, how many replies are 200, and how many say close.
 pub fn many(alloc: Global, cells: &[&str]) -> Result<String, CaseFault> {
     let request = bytes_of(alloc, cell(cells, 1))?;
     let mut input = Vec::new(alloc);
     put_times(&mut input, number_of(cell(cells, 0))?, request.as_slice())?;
     let served = answered(alloc, input)?;
     let text = text_in(alloc, served.written())?;
-    let replies = lines_with(text.as_str(), "HTTP/1.1 ");
-    let closing = lines_with(text.as_str(), "Connection: close");
+    let replies = times_in(text.as_str(), "HTTP/1.1 200 OK\r\n");
+    let closing = times_in(text.as_str(), "Connection: close\r\n");
     Ok(format!(in alloc; "{} {replies} {closing}", served.end_name())?)
 }

@@ -1,10 +1,9 @@
 // What is asked of halls.
 use crate::hall_fault::{HallFault, fault_line};
-use crate::halls::{Served, serve_new};
+use crate::halls::{GroupsLook, Served, serve_new};
 use crate::keepers::{keeper_failing_at, keeper_of};
 use case_tables::{CaseFault, TableFiles, number_of};
-use http_lines::{input_of, lines_of};
-use keeper_core::MemoryKeeper;
+use http_lines::{AnswerLines, input_of, last_lines, lines_of, put_bodies};
 use std::alloc::Global;
 use std::sync::Wait;
 
@@ -50,9 +49,7 @@ fn serve_failing<W: Wait>(
     serve_new(rt, alloc, keeper, inputs)
 }
 
-/// The connections of files, by the two seats in turn: `ann bob`. A call of the keeper may be one
-/// that fails: `ann failing 4`.
-pub fn connections<W: Wait>(
+fn all_connections<W: Wait>(
     rt: &W,
     alloc: Global,
     words: &str,
@@ -62,6 +59,70 @@ pub fn connections<W: Wait>(
     let call = number_of(call)?;
     match serve_failing(rt, alloc, names, u64::from(call), files) {
         Ok(served) => whole_lines(alloc, &served),
+        Err(fault) => fault_line(alloc, fault),
+    }
+}
+
+/// The connections of files, by the two seats in turn: `ann bob`. A call of the keeper may be one
+/// that fails: `ann failing 4`. So many lines at the end may be asked for alone: `ann last 9`.
+pub fn connections<W: Wait>(
+    rt: &W,
+    alloc: Global,
+    words: &str,
+    files: &TableFiles,
+) -> Result<String, CaseFault> {
+    match words.split_once(" last ") {
+        None => all_connections(rt, alloc, words, files),
+        Some((words, count)) => {
+            let text = all_connections(rt, alloc, words, files)?;
+            Ok(last_lines(alloc, text.as_str(), number_of(count)?)?)
+        }
+    }
+}
+
+/// The status and the lines of the body of each reply; equal lines that follow each other stand
+/// once.
+fn body_lines(alloc: Global, served: &Served) -> Result<String, CaseFault> {
+    let mut lines = AnswerLines::new(alloc);
+    for connection in served.connections.iter() {
+        put_bodies(alloc, &mut lines, connection.written())?;
+    }
+    Ok(lines.into_text()?)
+}
+
+/// The bodies of the replies on the connections of files, a line of a body in each line: `ann bob`.
+pub fn bodies<W: Wait>(
+    rt: &W,
+    alloc: Global,
+    words: &str,
+    files: &TableFiles,
+) -> Result<String, CaseFault> {
+    match serve_failing(rt, alloc, words, 0, files) {
+        Ok(served) => body_lines(alloc, &served),
+        Err(fault) => fault_line(alloc, fault),
+    }
+}
+
+/// The connections, and whether the groups of all sheets of the board are kept in the end.
+fn lines_and_groups(alloc: Global, served: &Served) -> Result<String, CaseFault> {
+    let mut out = whole_lines(alloc, served)?;
+    out.push_str(match served.last_look {
+        Some((_, GroupsLook { are_kept: true, .. })) => "> groups kept\n",
+        Some(_) => "> groups given up\n",
+        None => "> NoEntry\n",
+    })?;
+    Ok(out)
+}
+
+/// The same as of `connections`, and what became of the groups of the board.
+pub fn connections_and_groups<W: Wait>(
+    rt: &W,
+    alloc: Global,
+    words: &str,
+    files: &TableFiles,
+) -> Result<String, CaseFault> {
+    match serve_failing(rt, alloc, words, 0, files) {
+        Ok(served) => lines_and_groups(alloc, &served),
         Err(fault) => fault_line(alloc, fault),
     }
 }
@@ -89,11 +150,13 @@ fn front_line(alloc: Global, served: &Served) -> Result<String, CaseFault> {
 
 /// Words for the steps of a board, of which the rules fix the greatest number alone.
 fn steps_line(alloc: Global, served: &Served, most: u32) -> Result<String, CaseFault> {
-    match served.last_look {
-        Some((_, 0)) => Ok(String::from_str(alloc, "> none\n")?),
-        Some((_, steps)) if steps <= u64::from(most) => Ok(String::from_str(alloc, "> some\n")?),
-        Some((_, steps)) => Ok(format!(in alloc; "> {steps}\n")?),
-        None => Ok(String::from_str(alloc, "> NoEntry\n")?),
+    let Some((_, GroupsLook { steps, .. })) = served.last_look else {
+        return Ok(String::from_str(alloc, "> NoEntry\n")?);
+    };
+    match steps {
+        0 => Ok(String::from_str(alloc, "> none\n")?),
+        steps if steps <= u64::from(most) => Ok(String::from_str(alloc, "> some\n")?),
+        steps => Ok(format!(in alloc; "> {steps}\n")?),
     }
 }
 
@@ -125,18 +188,10 @@ fn put_again<W: Wait>(
 ) -> Result<u64, HallFault> {
     put_brief(alloc, out, &served)?;
     writeln!(out, "> held {}", served.held)?;
-    let keeper = served.keeper.ok_or(CaseFault::BadCase)?;
     let inputs = inputs_of(alloc, names, files)?;
-    let again = serve_new(rt, alloc, keeper, inputs)?;
+    let again = serve_new(rt, alloc, served.keeper, inputs)?;
     put_brief(alloc, out, &again)?;
-    Ok(calls_of(&again.keeper))
-}
-
-fn calls_of(keeper: &Option<MemoryKeeper>) -> u64 {
-    match keeper {
-        Some(keeper) => keeper.calls(),
-        None => 0,
-    }
+    Ok(again.keeper.calls())
 }
 
 /// The same where a call of the keeper fails.

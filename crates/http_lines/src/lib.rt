@@ -11,5 +11,5 @@ mod replies;
 mod requests;
 
 pub use entries::{entries_of, entry_of};
-pub use replies::{AnswerLines, lines_of};
+pub use replies::{AnswerLines, last_lines, lines_of, put_bodies};
 pub use requests::{input_of, put_request};

@@ -107,3 +107,33 @@ pub fn lines_of(alloc: Global, written: &[u8], is_brief: bool) -> Result<String,
     }
     Ok(lines.into_text()?)
 }
+
+/// Puts the status of a reply, and the lines of its body.
+fn put_body(alloc: Global, lines: &mut AnswerLines, reply: &str) -> Result<(), AllocError> {
+    let (status, _) = reply.split_once(' ').unwrap_or((reply, ""));
+    lines.put(String::from_str(alloc, status)?)?;
+    let (_, body) = reply.split_once("\r\n\r\n").unwrap_or(("", reply));
+    for line in body.lines() {
+        lines.put(String::from_str(alloc, line)?)?;
+    }
+    Ok(())
+}
+
+/// Puts the replies of a connection: the status of each, and the lines of its body.
+pub fn put_bodies(alloc: Global, lines: &mut AnswerLines, written: &[u8]) -> Result<(), CaseFault> {
+    let text = text_in(alloc, written)?;
+    for reply in text.as_str().split("HTTP/1.1 ").skip(1) {
+        put_body(alloc, lines, reply)?;
+    }
+    Ok(())
+}
+
+/// So many lines at the end of a text.
+pub fn last_lines(alloc: Global, text: &str, count: u32) -> Result<String, AllocError> {
+    let before = text.lines().count().saturating_sub(count as usize);
+    let mut out = String::new(alloc);
+    for line in text.lines().skip(before) {
+        writeln!(out, "{line}")?;
+    }
+    Ok(out)
+}

@@ -12,6 +12,7 @@ fn question(
     match kind {
         "instances" => hierarchies::instances(alloc, words, files),
         "groups" => boards::groups(alloc, words, files),
+        "groups again" => boards::groups_again(alloc, words, files),
         "bound" => boards::bound(alloc, words, files),
         "changed" => changes::changed(alloc, words, files),
         "spice text" => spice_texts::lines(alloc, words, files),

@@ -5,4 +5,4 @@ abbrev pub ghosts-serve_named-B-Ledger : goal.ghosts-serve_named-B-Ledger
 ghosts-serve_named-B-Ledger g a = record { name = a.log.ledger; parts = a.log.parts }
 
 abbrev pub ghosts-serve_named-B-HallName : goal.ghosts-serve_named-B-HallName
-ghosts-serve_named-B-HallName g a = record { book = a.log.book; seats = a.log.parts }
+ghosts-serve_named-B-HallName g a = record { book = a.log.book; seats = 2 }
