@@ -1,5 +1,7 @@
 //! The text of a net list in each form. Layouts: docs/FORMATS.md, "List text", "Tango text", "PCB
 //! text" and "Bill of materials". Definitions: specs/Forms.antt and those that it cites.
+//!
+//! It stands on the value of a net list, and knows nothing of how it was made.
 #![tactic(auto)]
 
 mod articles;

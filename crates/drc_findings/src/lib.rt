@@ -1,5 +1,7 @@
 //! The findings of the check: their order, what they print, and how they are gathered.
 //!
+//! A law says that findings in order are just those that were found.
+//!
 //! The main type is `Finding`. Rules: docs/RULES.md, "Findings", and docs/FORMATS.md, "Report".
 //! Definitions: specs/Findings.antt, specs/Order.antt and specs/Report.antt.
 #![tactic(auto)]

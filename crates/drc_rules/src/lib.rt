@@ -1,5 +1,7 @@
 //! The check of a project: which rules its components, nets and sheets break.
 //!
+//! The net list is read, and nothing is asked of how it was made.
+//!
 //! `findings` answers all of them in order, and `report_text` prints them. Rules: docs/RULES.md,
 //! "Findings". Definitions: specs/Findings.antt, which stands on specs/OnNets.antt and on those of
 //! component_checks.

@@ -1,6 +1,8 @@
 //! The grammar of gEDA schematic and symbol files: which bytes spell a sheet, a symbol or one
 //! object, which fault other bytes have and at which line, and the one text that is written.
 //!
+//! Its code is the enums that reader and writer share.
+//!
 //! Lines are counted from 1. A file is rows (specs/Rows.antt), and rows spell objects
 //! (specs/Grammar.antt). Rules: docs/RULES.md, "Grammar", "Faults". The laws are functions
 //! without a body: what they promise holds of every list of bytes.

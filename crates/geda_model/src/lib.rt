@@ -1,5 +1,8 @@
 //! Schematic sheets and symbols as values. Every type keeps the ranges of its fields.
 //!
+//! `Name`, `Word`, `Line` and `Block` are texts behind their constructors, and lists keep the
+//! ranges of what they hold. The limits of files stand here, once for contracts and once for code.
+//!
 //! Coordinates, lengths and widths are in mils (1/1000 inch), x to the right and y up. Text sizes
 //! are in points, angles in degrees counterclockwise, and a colour is an index. Contracts see each
 //! type as plain data (specs/Data.antt, Shapes.antt, Sheets.antt). Rule: docs/RULES.md, "Ranges".

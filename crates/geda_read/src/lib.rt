@@ -1,6 +1,9 @@
 //! The reader of gEDA schematic and symbol files: every spelling of a sheet, a symbol or one
 //! object, or the first line at fault and why. Lines count from 1.
 //! Rules: docs/RULES.md, "Grammar", "Faults". Definitions: geda_grammar.
+//!
+//! It keeps what is open between lines; the kind of a fault is looked for only where a line is
+//! refused.
 #![tactic(auto)]
 
 mod fault;

@@ -1,5 +1,7 @@
 //! The canonical text of sheets, symbols, objects and version lines, and how long it is.
 //!
+//! The length is counted without writing the text.
+//!
 //! A sheet has one canonical text, which every file that spells it comes down to. Lengths are in
 //! bytes. Rule: docs/RULES.md, "Canonical text". Definitions: geda_grammar, specs/Canonical.antt.
 #![tactic(auto)]

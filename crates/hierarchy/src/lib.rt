@@ -1,6 +1,9 @@
 //! The instances of the sheets of a project, from the roots down through the components with
 //! sheets below them, and what is left out of them.
 //!
+//! It knows sheets by their places, and walks down in rounds, without recursion. A law says that an
+//! instance is known by its route and its sheet.
+//!
 //! The answer is a `Hierarchy`. Rules: docs/RULES.md, "Instances", "Sources that are left out" and
 //! "Limits of a hierarchy". Definitions: specs/Instances.antt, which stands on SheetTable.antt,
 //! Ways.antt, Lost.antt and Crowded.antt.

@@ -1,6 +1,9 @@
 //! The objects of a project in the instances of its sheets, and what tells the ports of each
 //! instance. They are made once, and lent to whoever goes over them.
 //!
+//! The labels of the components above instances are found once, and tell which refdes is that of a
+//! port. It knows no conductor, and no rule of the check.
+//!
 //! The main type is `InstanceObjects`. Places of instances count from 0. Rules: docs/RULES.md,
 //! "Conductors" and "Ports". Definitions: specs/Occurrences.antt, specs/Ports.antt and
 //! specs/InstanceObjects.antt.

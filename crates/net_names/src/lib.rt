@@ -1,6 +1,9 @@
 //! The net list of a project: which pins join, the packages that have them, and the nets' names.
 //! Rules: docs/RULES.md, "Nets", "Packages", "Names of nets" and "No-connection directives".
 //! Definitions: specs/NetLists.antt.
+//!
+//! Laws say that each pin of a listed part is a member of the one net of its class, and that no two
+//! nets have one name.
 #![tactic(auto)]
 
 mod class_pins;

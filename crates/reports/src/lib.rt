@@ -1,6 +1,9 @@
 //! The reports on a project: its net list in each form, its check, and its sheets and symbols as
 //! texts.
 //!
+//! `net_list` and `check` want no board: the program calls them on its project, and `report` hands
+//! over the groups of its board, so that each text has one function.
+//!
 //! The main call is `report`. Layouts: docs/FORMATS.md, "Reports". Definitions: specs/Reports.antt
 //! and those that it cites.
 #![tactic(auto)]

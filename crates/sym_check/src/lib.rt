@@ -1,5 +1,8 @@
 //! What is wrong with a symbol, before it is drawn on a sheet.
 //!
+//! Which texts stand twice is asked of sets that one pass fills. Laws say that the findings of a
+//! symbol are one list, and that slots on which nothing is found have their pin numbers.
+//!
 //! `check_symbol` answers its findings in order, and `report_text` prints those of several files.
 //! The main type is `SymFinding`. Places of pins count from 0, coordinates are in mils. Rules:
 //! docs/RULES.md, "Symbol check", and docs/FORMATS.md, "Symbol report". Definitions: specs/.

@@ -1,5 +1,8 @@
 //! HTTP on a connection: each request is answered, in order, by what a service makes of it.
 //!
+//! Its clause says on which first part of the history each reply stands, which requests were
+//! refused or lost, and how the connection ended.
+//!
 //! The main call is `serve`, over a `Service` and a `Link`. Profile: docs/FORMATS.md, "HTTP".
 //! Rules: docs/RULES.md, "Transcripts", "Ends of connections". Definitions: specs/Serving.antt and
 //! those that it cites.

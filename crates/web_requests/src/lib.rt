@@ -1,6 +1,9 @@
 //! The request that an HTTP message is: an edit, a report, or one that is answered by its fault
 //! alone; and the text of its reply, byte for byte: what it is answered after a history.
 //!
+//! matchit decides the route of a path. What a request is answered after a history is said of the
+//! entries alone, as if all were made anew.
+//!
 //! The main call is `request_of`. A reply is written into a `ReplyText`, which has memory for the
 //! one reply that may not fail. Profile: docs/FORMATS.md, "HTTP". Rules: docs/RULES.md, "Requests"
 //! and "Answers". Definitions: specs/Requests.antt, specs/Answers.antt, and those that they cite.
