@@ -16,6 +16,11 @@ Usage:
                                 above; one asks ten times a second, and is told how long a reply
                                 took at most; and one edits once a second, or not at all
   serving.py starts [ROWS...]   from the call to `serving`, over stores of 10,000 and 200,000 rows
+  serving.py memory [PARTS...]  of boards of so many parts, 1,000 and 10,000 where none are named,
+                                on one sheet and as instances of sheets: the processor's time of a
+                                start, the memory at rest, and at most while one and while eight ask
+                                for the check at once; and the addresses, which LimitAS= bounds.
+                                Status 1 where eight take over 1.3 times what one takes, and 64 MiB
 
 GAFD names the program, else the one that is built; TMPDIR names the disk.
 """
@@ -36,11 +41,15 @@ sys.dont_write_bytecode = True
 
 import paths
 import part_shapes
+import sheet_shapes
 from built import built
 from served import Served, free_port
 from writers import Writer
 
 WRITERS = 8
+# What eight may take of memory beside one who asks alone: a share, and what the workers have of
+# their own, in MiB.
+MOST_OF_ONE, WORKERS_OWN = 1.3, 64
 NGINX = """
 daemon off; pid nginx.pid; error_log stderr crit; worker_processes auto;
 events {{ worker_connections 64; }}
@@ -134,11 +143,10 @@ def replies(seconds):
             nginx.wait()
 
 
-class Board(Writer):
-    """Who brings a board of so many parts, and moves its first object to and fro."""
+class Bringing(Writer):
+    """Who brings the files of a board, and moves its first object to and fro."""
 
-    def brings(self, parts):
-        files = part_shapes.board(parts)
+    def brings(self, files):
         for name, text in sorted(files.items(), reverse=True):
             kind = "add_symbol" if name.endswith(".sym") else "add_sheet"
             self.puts({"kind": kind, "name": name, "text": text}, 0)
@@ -194,8 +202,8 @@ def netlists(seconds, counts):
     path = "/netlist/list"
     for parts in counts:
         with tempfile.TemporaryDirectory() as room, Served(room + "/store") as server:
-            board = Board(server.port, "board")
-            board.brings(parts)
+            board = Bringing(server.port, "board")
+            board.brings(part_shapes.board(parts))
             length = len(board.ask("GET", path)[2])
             for mover, what in ((None, "no edit"), (board, "an edit a second")):
                 before, begun = spent(server.process), time.monotonic()
@@ -238,6 +246,65 @@ def starts(counts):
         print(f"{count:7} rows: {min(times):6.2f} s, best of three; {peak:6.0f} MiB at most so far")
 
 
+class Board:
+    """A store with a board in it, and what a server over it takes of the machine."""
+
+    def __init__(self, room, files):
+        self.store = room + "/store"
+        with Served(self.store) as server:
+            bringing = Bringing(server.port, "board")
+            bringing.brings(files)
+            bringing.link.close()
+
+    def at_start(self):
+        """The processor's seconds of a start, and the memory behind it in MiB."""
+        with Served(self.store) as server:
+            return spent(server.process), memory(server.process, "VmRSS")
+
+    def while_asked(self, count):
+        """The most memory and addresses in MiB while so many ask for the check, each once."""
+        with Served(self.store) as server:
+            beside(count, Asked(server.port, "/drc"))
+            return [memory(server.process, name) for name in ("VmHWM", "VmPeak")]
+
+
+class Asked:
+    def __init__(self, port, path):
+        self.port, self.path = port, path
+
+    def __call__(self, _):
+        reader = Writer(self.port, "reader")
+        reader.link.settimeout(600)
+        status = reader.ask("GET", self.path)[0]
+        reader.link.close()
+        if status != 200:
+            raise SystemExit(f"{self.path} was answered {status}")
+
+
+def memory(process, name):
+    """A field of the system's account of a process, in MiB."""
+    told = pathlib.Path(f"/proc/{process.pid}/status").read_text()
+    return int(re.search(rf"^{name}:\s*(\d+) kB", told, re.M)[1]) / 1024
+
+
+def memories(counts):
+    """Whether eight askers take little more than one, on each board."""
+    is_little = True
+    for shape in (part_shapes.board, sheet_shapes.instances):
+        for count in counts:
+            with tempfile.TemporaryDirectory() as room:
+                board = Board(room, shape(count))
+                seconds, rest = board.at_start()
+                (one, _), (eight, addresses) = map(board.while_asked, (1, WRITERS))
+            is_little = is_little and eight <= MOST_OF_ONE * one + WORKERS_OWN
+            print(
+                f"{shape.__name__:9} {count:6} parts: start {seconds:5.2f} s, {rest:5.0f} MiB at"
+                f" rest, {one:5.0f} while one asks, {eight:5.0f} while eight ask,"
+                f" {addresses:5.0f} of addresses", flush=True,
+            )
+    return is_little
+
+
 def main():
     built()
     command, numbers = (sys.argv[1:2] or [""])[0], [int(word) for word in sys.argv[2:]]
@@ -249,6 +316,8 @@ def main():
         netlists(*numbers[:1] or [5], numbers[1:] or [1_000, 10_000])
     elif command == "starts":
         starts(numbers or [10_000, 200_000])
+    elif command == "memory":
+        return 0 if memories(numbers or [1_000, 10_000]) else 1
     else:
         sys.exit(__doc__)
     return 0

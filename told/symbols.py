@@ -244,6 +244,9 @@ def table_rows():
             files[name] = []
         elif line.startswith("| "):
             files[name].append(line[2:])
+        elif line.startswith("times "):
+            _, count, drawn = line.split(" ", 2)
+            files[name] += [drawn.replace("#", str(time)) for time in range(int(count))]
         elif line and not line.startswith("#"):
             left, right = line.split("=>")
             read = {known: table_file(lines).encode() for known, lines in files.items()}
