@@ -6,6 +6,7 @@ import re
 import sys
 from typing import Callable, NamedTuple
 
+from .boards import at
 from .commands import copy, diff, ids, renumber, sheets
 from .folder import Folder
 from .pulls import pull
@@ -13,7 +14,9 @@ from .pushes import push
 from .revert import revert
 from .server import Server
 from .store import backup, check, history
+from .tables import fill, table
 from .undo import undo
+from .view import View
 from .words import NAME, Refused, Stop, told
 
 USAGE = """\
@@ -41,8 +44,16 @@ symbol's name ends in .sym.
   revert STORE SERIAL   sends the contrary of anybody's edit. STORE is that of the server, or a copy
                         of it; it calls `gafd`, or the program that GAFD names
   renumber              gives each `R?` on the server a number; `pull` brings them
+  table [SHEET...]      prints the attributes of the components of the sheets, or of all, as a table
+                        for a spreadsheet, with a column for the sheet. It calls `gafd`, as `fill`
+  fill [SHEET] TABLE    sends what was changed in the last table of this folder, an edit for each
+                        component. An empty cell changes nothing. Where others changed a component
+                        since, nothing is sent, and they are told by refdes
   sheets                prints the names of the server's sheets, in the order in which they came
   ids FILE              prints the ids of a sheet's objects, each with what it is
+  at N FOLDER           writes the board as it was after N edits into an empty FOLDER: from the
+                        gafd_view that --view names, or with --store STORE from a store or a copy,
+                        for which it calls `gafd`. It asks no server
   copy URL              puts all sheets and their symbols into the empty server at URL, and compares
                         the netlists of both
   history STORE [ID...] prints the edits of a store, or of a copy, a line each; with IDs those that
@@ -54,6 +65,9 @@ symbol's name ends in .sym.
 
 `--server URL` names the server, as http://127.0.0.1:8080 or https://lab.example/amp; else
 GAFD_SERVER does, else the folder remembers the last one. A password is taken from ~/.netrc.
+`--view URL`, else GAFD_VIEW, else the last one that the folder remembers, is a gafd_view of the
+same board: with it lines tell who changed what, "changed by bob, edit 12" in place of "changed by
+others". An empty URL is none.
 `--session NAME`, else GAFD_SESSION, is who you are to the server; else it is your name in ~/.netrc,
 else your login name.
 
@@ -80,17 +94,25 @@ def a_count(word):
     return int(word)
 
 
+def a_number(word):
+    if not re.fullmatch("[0-9]{1,6}", word):
+        raise argparse.ArgumentTypeError(f"{word} is no number of edits")
+    return int(word)
+
+
 FLAGS = {
     "--mine": {"dest": "taken", "action": "store_const", "const": "mine"},
     "--theirs": {"dest": "taken", "action": "store_const", "const": "theirs"},
     "--over": {"action": "store_true"},
     "--copy": {"action": "store_true"},
     "--lepton": {"action": "store_true"},
+    "--store": {"metavar": "STORE"},
 }
 WORDS = {
     "FILE": {"dest": "file", "type": a_name},
     "FILE...": {"dest": "files", "type": a_name, "nargs": "+"},
     "[FILE...]": {"dest": "files", "type": a_name, "nargs": "*"},
+    "N": {"dest": "edits", "type": a_number},
     "[N]": {"dest": "count", "type": a_count, "nargs": "?", "default": 1},
     "[ID...]": {"dest": "ids", "type": int, "nargs": "*"},
     "SERIAL": {"dest": "serial", "type": int},
@@ -117,9 +139,12 @@ COMMANDS = {
     "undo": Command(undo, [], ["[N]"]),
     "revert": Command(revert, [], ["STORE", "SERIAL"]),
     "renumber": Command(renumber, [], []),
+    "table": Command(table, [], ["[FILE...]"]),
+    "fill": Command(fill, [], ["FILE..."]),
     "sheets": Command(sheets, [], []),
     "ids": Command(ids, [], ["FILE"]),
     "copy": Command(copy, [], ["URL"]),
+    "at": Command(at, ["--store"], ["N", "FOLDER"], False),
     "history": Command(history, [], ["STORE", "[ID...]"], False),
     "backup": Command(backup, [], ["STORE", "FOLDER"], False),
     "check": Command(check, [], ["STORE"], False),
@@ -129,11 +154,12 @@ COMMANDS = {
 def arguments():
     parser = argparse.ArgumentParser(
         prog="gafd_sync", description=USAGE, formatter_class=argparse.RawDescriptionHelpFormatter,
-        usage="gafd_sync [--server URL] [--session NAME] COMMAND ...", add_help=False,
+        usage="gafd_sync [--server URL] [--session NAME] [--view URL] COMMAND ...", add_help=False,
     )
     parser.add_argument("--help", "-h", action="help", help=argparse.SUPPRESS)
     parser.add_argument("--server", help=argparse.SUPPRESS)
     parser.add_argument("--session", type=a_name, help=argparse.SUPPRESS)
+    parser.add_argument("--view", help=argparse.SUPPRESS)
     commands = parser.add_subparsers(
         dest="command", required=True, metavar="COMMAND", help=argparse.SUPPRESS
     )
@@ -167,6 +193,7 @@ def server_of(asked, folder):
         raise Stop("which server? --server URL or GAFD_SERVER names it", 2)
     session = asked.session or os.environ.get("GAFD_SESSION")
     server = Server(url, session)
+    server.view = asked.view
     server.session = session or a_session(server.user or login())
     if not NAME.fullmatch(server.session):
         raise Stop(f"{server.session} is no name of a session", 2)
@@ -176,14 +203,24 @@ def server_of(asked, folder):
     return server
 
 
+def view_of(asked, folder):
+    """The page that is asked for, which the folder remembers, or none."""
+    if asked.view is not None:
+        return View(asked.view)
+    return View(os.environ.get("GAFD_VIEW") or folder.load("view"))
+
+
 def main():
-    asked, folder, server = arguments(), Folder(), None
+    asked, folder, server, view = arguments(), Folder(), None, None
     command = COMMANDS[asked.command]
     try:
+        asked.view = view = view_of(asked, folder)
         server = server_of(asked, folder) if command.asks_server else None
         status = command.call(asked, server, folder)
         if asked.command in ("pull", "push"):
             folder.keep("server", server.url)
+            if view.url or folder.load("view"):
+                folder.keep("view", view.url or "")
         return status
     except Refused as refused:
         print(f"gafd_sync: {told(refused.fault)}", file=sys.stderr)
@@ -201,6 +238,8 @@ def main():
         # An open connection keeps one of the eight workers.
         if server:
             server.link.close()
+        if view:
+            view.close()
 
 
 def run():

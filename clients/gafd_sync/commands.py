@@ -4,7 +4,7 @@ import pathlib
 from .differences import show_conflicts, show_lines, show_symbol_conflict, show_theirs, show_yours
 from .merge import plan_of, who_changed
 from .pushes import GONE
-from .server import GREATEST, Server
+from .server import Server, in_order
 from .sheets import item_of, sheet_of
 from .stack import Stack
 from .words import Refused, Stop, told
@@ -37,8 +37,8 @@ def diff_sheet(server, folder, name, sheet):
         return
     plan = plan_of(origin[1], stand.objects, sheet.texts)
     show_yours(name, plan)
-    show_theirs(name, plan, stand.objects)
-    show_conflicts(name, plan, stand.objects)
+    show_theirs(name, plan, stand.objects, server.view)
+    show_conflicts(name, plan, stand.objects, server.view)
 
 
 def diff_symbol(server, folder, name):
@@ -52,16 +52,11 @@ def diff_symbol(server, folder, name):
     if state == "you":
         show_lines(name, "you", text, mine)
     elif state == "theirs":
-        show_lines(name, "others", mine, text)
+        show_lines(name, server.view.symbol_changer(name), mine, text)
     elif state == "both":
-        show_symbol_conflict(name, origin, text, mine)
+        show_symbol_conflict(name, origin, text, mine, server.view)
     elif state == "unknown":
         print(f"{name}: differs from the server's, and it is not known which is newer")
-
-
-def in_order(stands):
-    """The names of sheets by their least ids, those without objects last."""
-    return sorted(stands, key=lambda name: (min(stands[name].objects, default=GREATEST), name))
 
 
 def renumber(asked, server, folder):

@@ -26,10 +26,16 @@ def change_lines(was, text):
     return lines_between(was, text)
 
 
-def show_conflicts(name, plan, now):
+def and_you(who):
+    return f"{who}{',' if ',' in who else ''} and by you"
+
+
+def show_conflicts(name, plan, now, view):
+    view.look(plan.conflicts)
     for key in plan.conflicts:
         was = plan.known[key]
-        print(f"{name}: changed by others and by you: {key}, {item_of(was)}")
+        who = view.changer(key, was, now.get(key))
+        print(f"{name}: changed by {and_you(who)}: {key}, {item_of(was)}")
         for who, text in (("theirs", now.get(key)), ("yours", plan.replaced.get(key))):
             for line in change_lines(was, text):
                 print(f"    {who:6} {line}")
@@ -64,14 +70,22 @@ def show_changes(name, who, olds, news):
         show_change(name, who, key, olds[key], text)
 
 
-def show_theirs(name, plan, now):
-    """Prints what others changed, but for what both did."""
-    keys = [key for key in plan.theirs if key not in set(plan.conflicts)]
-    changed = [key for key in keys if key in plan.known and key in now]
-    show_changes(name, "others", plan.known, {key: now[key] for key in changed})
+def show_theirs(name, plan, now, view):
+    """Prints what others changed, but for what both did; of one changer all together."""
+    conflicts, changed, left = set(plan.conflicts), {}, []
+    keys = [key for key in plan.theirs if key not in conflicts]
+    view.look(keys)
     for key in keys:
-        if key not in plan.known or key not in now:
-            show_change(name, "others", key, plan.known.get(key), now.get(key))
+        was, text = plan.known.get(key), now.get(key)
+        who = view.changer(key, was, text)
+        if was and text:
+            changed.setdefault(who, {})[key] = text
+        else:
+            left.append((who, key, was, text))
+    for who, texts in changed.items():
+        show_changes(name, who, plan.known, texts)
+    for one in left:
+        show_change(name, *one)
 
 
 def show_yours(name, plan):
@@ -92,8 +106,8 @@ def show_lines(name, who, was, text):
         print(f"    {line}")
 
 
-def show_symbol_conflict(name, was, theirs, yours):
-    print(f"{name}: changed by others and by you")
+def show_symbol_conflict(name, was, theirs, yours, view):
+    print(f"{name}: changed by {and_you(view.symbol_changer(name))}")
     for who, text in (("theirs", theirs), ("yours", yours)):
         for line in lines_between(was, text):
             print(f"    {who:6} {line}")

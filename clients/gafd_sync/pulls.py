@@ -37,10 +37,10 @@ def pull_sheet(asked, folder, name, stand):
             return 1
         plan = plan_of(origin[1] if origin else stand.objects, stand.objects, mine)
         if plan.conflicts and not asked.taken:
-            show_conflicts(name, plan, stand.objects)
+            show_conflicts(name, plan, stand.objects, asked.view)
             print(f"{name}: not written; {WHOSE.format(name)}")
             return 1
-        show_theirs(name, plan, stand.objects)
+        show_theirs(name, plan, stand.objects, asked.view)
     # Where nothing came, what you drew stays as it stands.
     if plan is None or plan.is_empty() or plan.theirs:
         texts = merged(plan, stand.objects, asked.taken) if plan else stand.objects.values()
@@ -69,11 +69,11 @@ def pull_symbol(asked, server, folder, name):
         )
         return 1
     if state == "both" and not asked.taken:
-        show_symbol_conflict(name, origin, text, mine)
+        show_symbol_conflict(name, origin, text, mine, asked.view)
         print(f"{name}: not written; {WHOSE.format(name)}")
         return 1
     if mine and origin and origin != text:
-        show_lines(name, "others", origin, text)
+        show_lines(name, asked.view.symbol_changer(name), origin, text)
     if state == "theirs" or (state, asked.taken) == ("both", "theirs"):
         # What is as it was pulled stands in the history still.
         if folder.renew(name, text, mine != origin):

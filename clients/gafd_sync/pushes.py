@@ -141,7 +141,7 @@ class FilePush(Push):
         plan = plan_of(start, now.objects, sheet.texts)
         if plan.conflicts:
             self.is_left = True
-            show_conflicts(name, plan, now.objects)
+            show_conflicts(name, plan, now.objects, self.server.view)
             print(f"{name}: nothing was sent; {WHOSE.format(name)}")
             return 1
         return status | self.changes(name, plan, now.front)
@@ -191,7 +191,7 @@ class FilePush(Push):
             print(f"{name}: others changed it; `pull` brings it")
             return 0
         if state == "both":
-            show_symbol_conflict(name, origin, text, mine)
+            show_symbol_conflict(name, origin, text, mine, self.server.view)
             print(f"{name}: was not sent; {WHOSE.format(name)}")
             return 1
         print(

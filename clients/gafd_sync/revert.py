@@ -1,39 +1,9 @@
 """`revert`: the contrary of anybody's edit, as edits of one's own."""
-import contextlib
-import json
-import os
-import pathlib
-import select
-import shutil
-import socket
-import subprocess
-import tempfile
-from typing import NamedTuple
-
+from .boards import boards_around
 from .differences import change_lines
 from .merge import Plan
 from .pushes import Edit, Push
-from .rows import Rows, row_name
-from .server import Server
 from .sheets import item_of
-from .words import Stop
-
-LONGEST_START = 120
-
-
-class Board(NamedTuple):
-    """A board at one moment: its sheets, and the texts of its symbols, both by name."""
-
-    sheets: dict
-    symbols: dict
-
-    def names(self):
-        return set(self.sheets)
-
-    def objects(self):
-        """The sheet and the text of each object, by id."""
-        stands = self.sheets.items()
-        return {key: (name, it) for name, stand in stands for key, it in stand.objects.items()}
 
 
 def revert(asked, server, folder):
@@ -55,54 +25,6 @@ def revert(asked, server, folder):
     push.end()
     print("\n".join(kept or ["`pull` brings it"] if plans or whole else ["nothing of it stands"]))
     return 0 if is_all else 1
-
-
-def boards_around(store, serial):
-    """The board before an edit and behind it, as the program makes it of the rows."""
-    rows = Rows(store)
-    if serial >= rows.count or any(missing <= serial for missing in rows.missing):
-        raise Stop(f"{store} has no row {serial}, or lacks one before it")
-    named = json.loads(rows.data(serial))["edit"].get("name", "")
-    with tempfile.TemporaryDirectory() as room:
-        for at in range(serial):
-            shutil.copy(rows.path(at), pathlib.Path(room, row_name(at)))
-        before = board_of(room, named)
-        shutil.copy(rows.path(serial), pathlib.Path(room, row_name(serial)))
-        return before, board_of(room, named)
-
-
-def program():
-    found = os.environ.get("GAFD") or shutil.which("gafd")
-    if not found:
-        raise Stop("there is no `gafd` on the PATH, and GAFD names none")
-    return found
-
-
-def board_of(store, named):
-    """The board that a store has, with the symbols that its sheets name, and one more. A server
-    over it is started for it, and ended."""
-    with contextlib.closing(socket.socket()) as probe:
-        probe.bind(("127.0.0.1", 0))
-        address = f"127.0.0.1:{probe.getsockname()[1]}"
-    words = [program(), "serve", address, store]
-    process = subprocess.Popen(words, stdout=subprocess.PIPE, stderr=subprocess.STDOUT)
-    try:
-        ready, _, _ = select.select([process.stdout], [], [], LONGEST_START)
-        said = process.stdout.readline() if ready else b"no answer"
-        if said != b"serving\n":
-            raise Stop(f"{' '.join(words)}: {said.decode(errors='replace').strip()}")
-        server = Server(address, "revert")
-        with contextlib.closing(server.link):
-            stands = server.all_sheets()
-            texts = [text for stand in stands.values() for text in stand.objects.values()]
-            names = {item_of(text).symbol for text in texts} | {named}
-            names = {name for name in names if name and name.endswith(".sym")}
-            texts = {name: text for name in names if (text := server.symbol(name)) is not None}
-            return Board(stands, texts)
-    finally:
-        process.kill()
-        process.wait()
-        process.stdout.close()
 
 
 def files_back(server, before, after, now):

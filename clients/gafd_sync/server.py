@@ -60,6 +60,8 @@ class Server:
         self.path = parts.path.rstrip("/")
         self.headers = {} if self.user is None else {"Authorization": word}
         self.front, self.number = 0, None
+        # Who tells whose changes these are; set where lines on changes are printed.
+        self.view = None
 
     def edit_as(self, session):
         """From now on it edits under this session."""
@@ -184,6 +186,11 @@ class Server:
         self.number += 1
         self.front = max(self.front, reply.front)
         return reply.fault()
+
+
+def in_order(stands):
+    """The names of sheets by their least ids, those without objects last."""
+    return sorted(stands, key=lambda name: (min(stands[name].objects, default=GREATEST), name))
 
 
 def password(parts):

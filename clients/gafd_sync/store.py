@@ -2,7 +2,8 @@
 import os
 import pathlib
 
-from .rows import NoRow, Rows, Unfinished, entry_of, row_name
+from .databases import DatabaseRows, database_faults, rows_of
+from .rows import NoRow, Unfinished, entry_of, row_name
 from .sheets import item_of, sheet_of
 from .words import Stop
 
@@ -11,7 +12,7 @@ MOST_LINES = 20
 
 def history(asked, server, folder):
     wanted, next_id, made = set(asked.ids), 0, {}
-    for serial, row in enumerate(entries(Rows(asked.store))):
+    for serial, row in enumerate(entries(rows_of(asked.store))):
         edit = row["edit"]
         kind = edit["kind"]
         ids = set(edit.get("ids", [])) | ({edit["id"]} if "id" in edit else set())
@@ -56,7 +57,7 @@ def shown(edit):
 
 def backup(asked, server, folder):
     """Copies rows in their order, and none of a store that lacks one."""
-    rows, copied = Rows(asked.store), pathlib.Path(asked.folder)
+    rows, copied = rows_of(asked.store), pathlib.Path(asked.folder)
     if rows.missing:
         raise Stop(
             f"{asked.store} lacks {row_name(rows.missing[0])}, and has rows behind it: nothing was"
@@ -95,8 +96,11 @@ def put_row(path, data):
 
 def check(asked, server, folder):
     """Whether a server can serve a store, and go on with it."""
-    rows = Rows(asked.store)
-    faults = [*folder_faults(rows), *row_faults(rows)]
+    rows = rows_of(asked.store)
+    if isinstance(rows, DatabaseRows):
+        faults = list(database_faults(rows, order_faults))
+    else:
+        faults = [*folder_faults(rows), *row_faults(rows)]
     for fault in faults[:MOST_LINES]:
         print(f"{asked.store}: {fault}")
     if len(faults) > MOST_LINES:

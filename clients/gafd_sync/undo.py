@@ -96,7 +96,8 @@ def restored(server, folder, name, ids):
             folder.set_origin(name, stand.front, objects)
             stays(name)
             return
-        show_theirs(name, plan_of(objects, stand.objects, list(objects.values())), stand.objects)
+        plan = plan_of(objects, stand.objects, list(objects.values()))
+        show_theirs(name, plan, stand.objects, server.view)
         if folder.renew(name, stand.text, True):
             print(f"{name}: written, {len(stand.objects)} objects, as after {stand.front} edits")
         folder.set_origin(name, stand.front, stand.objects)
