@@ -127,8 +127,7 @@ class BoardFiles:
         return before._replace(stamp=stamp, refusal=refusal)
 
     def call(self, *words):
-        """The status of a call of `gafd`, what it printed, and the line that tells what went wrong.
-        The status of a call of `gafd`, what it printed, and the line that tells what went wrong."""
+        """The status of a call of `gafd`, what it printed, and the line on what went wrong."""
         try:
             done = subprocess.run([self.run, *words], cwd=self.room, capture_output=True,
                                   timeout=LONGEST)

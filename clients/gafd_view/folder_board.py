@@ -110,8 +110,8 @@ class FolderBoard:
 class Ids:
     """The ids of the objects of each sheet.
 
-    An object that stands as it was keeps its id, and so does one that changed, and is known again by
-    its letter and its name or place.
+    An object that stands as it was keeps its id, and so does one that changed, and is known again
+    by its letter and its name or place.
     """
 
     def __init__(self):
@@ -137,7 +137,6 @@ class Ids:
 
 
 def known_by(one):
-    """What an object is known by when it has changed: its refdes or netname, else where it begins.
-    What an object is known by when it has changed: its refdes or netname, else where it begins."""
+    """What a changed object is known by: its refdes or netname, else where it begins."""
     names = one.values("refdes") or one.values("netname")
     return one.letter, names[0] if names else tuple(one.text.split("\n")[0].split(" ")[1:3])

@@ -10,8 +10,7 @@ TOP = pathlib.Path(__file__).resolve().parent.parent.parent
 
 
 def program():
-    """The program that GAFD names, else `gafd` on the PATH, else that beside this one, else None.
-    The program that GAFD names, else `gafd` on the PATH, else that beside this one, else None."""
+    """The program that GAFD names, else the one on the PATH, else that beside this one, or None."""
     found = [os.environ.get("GAFD"), shutil.which("gafd"), TOP / "crates/gafd/out/gafd",
              TOP / "out/gafd", TOP / "gafd", TOP / "bin/gafd"]
     paths = (pathlib.Path(it).resolve() for it in found if it)

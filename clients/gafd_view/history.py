@@ -49,8 +49,7 @@ class History:
         return self.store / f"{serial:010}.json"
 
     def entry(self, serial):
-        """A row as it stands, and the time of its file; None where it is not there, or not whole.
-        A row as it stands, and the time of its file; None where it is not there, or not whole."""
+        """A row with the time of its file; None where it is not there, or not whole."""
         try:
             text = self.path(serial).read_text(encoding="utf-8")
             entry = json.loads(text) if text.endswith("\n") else None
@@ -92,9 +91,27 @@ class History:
             return [None if it is None else self.row(it)
                     for it in (last, numbering if is_later else None)]
 
+    def whose(self, numbers):
+        """Of each object the serials of the last row that changed it, and of the one that brought
+        it, or None; the serial of the last numbering; and these rows."""
+        self.catch_up()
+        with self.lock:
+            touched = self.touched
+            last, brought = ([it.get(one) for one in numbers]
+                             for it in (touched.last, touched.brought))
+            serials = {*last, *brought, touched.numbering} - {None}
+            rows = [row for it in sorted(serials) if (row := self.row(it))]
+        return {"last": last, "brought": brought, "numbering": touched.numbering, "rows": rows}
+
+    def who_symbol(self, name):
+        """The last row that changed a symbol, or None."""
+        self.catch_up()
+        with self.lock:
+            serial = self.touched.last_symbol.get(name)
+            return None if serial is None else self.row(serial)
+
     def changed(self, serial):
-        """The sheets and the symbols that the rows from a serial on changed; None for all sheets.
-        The sheets and the symbols that the rows from a serial on changed; None for all sheets."""
+        """The sheets and symbols that the rows from a serial on changed; None for all sheets."""
         self.catch_up()
         with self.lock:
             rows = self.touched.rows[serial:]
@@ -119,12 +136,18 @@ class History:
 
 
 class Row(NamedTuple):
-    """What an edit changed: ids of objects, names of sheets, or None for any sheet, and of symbols.
-    What an edit changed: ids of objects, names of sheets, or None for any sheet, and of symbols."""
+    """What an edit changed: ids of objects, names of sheets, or None for any sheet, and of symbols;
+    and whether it brought these objects, or took them away."""
 
     ids: Sequence[int] = ()
     sheets: Optional[frozenset] = frozenset()
     symbols: frozenset = frozenset()
+    brings: bool = False
+    takes: bool = False
+
+    def undone(self):
+        """What its undo changed."""
+        return self._replace(brings=self.takes, takes=self.brings)
 
 
 class Touched:
@@ -132,7 +155,7 @@ class Touched:
 
     def __init__(self):
         self.rows, self.next_id, self.numbering = [], 0, None
-        self.last, self.sheet_of = {}, {}
+        self.last, self.brought, self.last_symbol, self.sheet_of = {}, {}, {}, {}
 
     @property
     def length(self):
@@ -140,9 +163,10 @@ class Touched:
 
     def add(self, edit):
         row = self.row_of(edit)
-        for one in row.ids:
-            self.last[one] = self.length
-        if edit["kind"] == "renumber":
+        for known in (self.last, self.brought) if row.brings else (self.last,):
+            known.update(dict.fromkeys(row.ids, self.length))
+        self.last_symbol.update(dict.fromkeys(row.symbols, self.length))
+        if row.sheets is None:
             self.numbering = self.length
         self.rows.append(row)
 
@@ -156,9 +180,9 @@ class Touched:
         if kind == "renumber":
             return Row(sheets=None)
         if kind == "undo":
-            return self.rows[edit["serial"]]
+            return self.rows[edit["serial"]].undone()
         ids = edit.get("ids", [edit["id"]] if "id" in edit else [])
-        return Row(ids, frozenset(self.sheet_of[it] for it in ids))
+        return Row(ids, frozenset(self.sheet_of[it] for it in ids), takes=kind == "delete")
 
     def added(self, sheet, text, has_version):
         """Objects have ids from the next one on, in the order in which they come."""
@@ -166,4 +190,4 @@ class Touched:
         self.next_id += count_objects(text, has_version)
         ids = range(first, self.next_id)
         self.sheet_of.update(dict.fromkeys(ids, sheet))
-        return Row(ids, frozenset([sheet]))
+        return Row(ids, frozenset([sheet]), brings=True)

@@ -1,5 +1,4 @@
-"""The files of the page, which lie in the folder `page` beside this one, or in one archive with it.
-The files of the page, which lie in the folder `page` beside this one, or in one archive with it."""
+"""The files of the page, in the folder `page` beside this one, or in one archive with it."""
 import functools
 import pkgutil
 import re

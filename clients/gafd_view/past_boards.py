@@ -1,5 +1,4 @@
-"""A board as it was after its first edits: a server of its own, over the first rows of the store.
-A board as it was after its first edits: a server of its own, over the first rows of the store."""
+"""A board as it was: a server of its own, over the first rows of the store."""
 import atexit
 import pathlib
 import select
@@ -24,8 +23,7 @@ class PastBoards:
         atexit.register(self.close)
 
     def ask(self, front, path):
-        """The answer to a GET as it was after so many edits; OSError where there are not so many.
-        The answer to a GET as it was after so many edits; OSError where there are not so many."""
+        """The answer to a GET after so many edits; OSError where there are not so many."""
         if self.run is None:
             return fault(501, "NoProgram")
         with self.lock:

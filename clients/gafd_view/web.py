@@ -19,6 +19,7 @@ READING = (r"((?:netlist/(?:list|bom)|drc|sheets(?:/[^/?]+)?|(?:symbols|objects)
            r"(?:\?min=[0-9]{1,10})?)")
 BOARD = re.compile("/board/" + READING)
 PAST = re.compile("/at/([0-9]{1,7})/" + READING)
+IDS = re.compile(r"[0-9]{1,10}(?:,[0-9]{1,10}){0,999}")
 MOST_BYTES = 4_194_304
 MOST_READERS = 100
 # A connection that is silent for so many seconds ends.
@@ -87,7 +88,7 @@ class Handler(BaseHTTPRequestHandler):
             return self.board_answer(lambda: self.server.past.ask(int(route[1]), route[2]))
         path, _, query = self.path.partition("?")
         asked = {"/about": self.about, "/watch": self.watch, "/changed": self.changed,
-                 "/history": self.history, "/who": self.who}
+                 "/history": self.history, "/who": self.who, "/whose": self.whose}
         if path in asked:
             return asked[path](dict(urllib.parse.parse_qsl(query)))
         return self.page_file(path[1:] or "index.html")
@@ -142,6 +143,16 @@ class Handler(BaseHTTPRequestHandler):
             return self.refuse(number)
         row, numbering = self.server.history.who(number)
         return self.json({"row": row, "numbering": numbering})
+
+    def whose(self, query):
+        """Who last changed some objects, and who brought them; or who last changed a symbol."""
+        history, symbol = self.server.history, query.get("symbol")
+        ids = IDS.fullmatch(query.get("ids", "")) and query["ids"].split(",")
+        if history is None or not (symbol or ids):
+            return self.refuse(None if history else 0)
+        if symbol:
+            return self.json({"row": history.who_symbol(symbol)})
+        return self.json(history.whose([int(it) for it in ids]))
 
     def changed(self, query):
         """The sheets and symbols that changed since a front, where the history or the files tell

@@ -16,14 +16,25 @@ import { changeWords, label } from "./words.js";
 
 const STEP = 1;
 
-/** The symbols of some objects as they were. */
+/** The symbols of some objects as they were, and the names of those that are others now. */
 async function pastSymbols(ask, objects) {
-  const symbols = new Map();
+  const [symbols, others] = [new Map(), new Set()];
   await forEachAtOnce(symbolNames(objects), async (name) => {
     const { status, text } = await ask(`symbols/${encodeURIComponent(name)}`);
     if (status === 200) symbols.set(name, readObjects(text));
+    if ((status === 200 ? text : null) !== (board.symbolTexts.get(name) ?? null)) others.add(name);
   });
-  return symbols;
+  return { symbols, others };
+}
+
+/** What changed since: objects, and components of which the symbol is another now. */
+function changesSince({ objects, others }) {
+  const changes = changesOf(objects, shownObjects());
+  const told = new Set(changes.changed.map(([was]) => was.id));
+  const now = new Map(shownObjects().map((it) => [it.id, it]));
+  const placed = objects.filter((it) => it.letter === "C" && !it.parts && others.has(it.basename)
+    && now.has(it.id) && !told.has(it.id));
+  return { ...changes, placed: placed.map((it) => [it, now.get(it.id)]) };
 }
 
 /** Compares the shown sheet with what it was after so many edits. */
@@ -34,10 +45,10 @@ export async function compareWith(front) {
     const ask = askPast(front);
     const [past, list] = await Promise.all([readSheetBy(ask, sheet), ask("netlist/list")]);
     const objects = past.objects || [];
-    const symbols = await pastSymbols(ask, objects);
+    const { symbols, others } = await pastSymbols(ask, objects);
     if (shown.at.sheet !== sheet) return;
     const pastList = list.status === 200 ? readNetList(list.text) : null;
-    shown.comparison = { front, sheet, objects, symbols, list: pastList };
+    shown.comparison = { front, sheet, objects, symbols, others, list: pastList };
     showComparison();
     notice(`added, gone and changed since edit ${front}; Escape ends it`, 6);
   } catch (error) {
@@ -66,7 +77,9 @@ export function showComparison() {
     endComparison();
     return compareWith(comparison.front);
   }
-  const { changed, added, gone } = changesOf(comparison.objects, shownObjects());
+  const changes = changesSince(comparison);
+  const { added, gone } = changes;
+  const changed = [...changes.changed, ...changes.placed];
   const canvas = newCanvas(comparison.symbols, shown.sizes);
   const draw = (object, kind) => {
     const drawn = drawObject({ ...object, id: `past${object.id}` }, canvas);
@@ -77,7 +90,7 @@ export function showComparison() {
   for (const object of added) elementOf(object.id)?.classList.add("is-added");
   for (const [, object] of changed) elementOf(object.id)?.classList.add("is-changed");
   document.body.classList.add("comparing");
-  return listChanges(comparison, { changed, added, gone });
+  return listChanges(comparison, changes);
 }
 
 function row(kind, words, link = "") {
@@ -86,11 +99,13 @@ function row(kind, words, link = "") {
 }
 
 /** The changes of the sheet, and those of the net list, in place of the other lists. */
-function listChanges({ front, sheet, list }, { changed, added, gone }) {
+function listChanges({ front, sheet, list }, { changed, placed, added, gone }) {
   const at = instanceOf(sheet);
   const rows = [
     ...added.map((it) => row("added", label(it, at), `id:${sheet}:${it.id}`)),
     ...changed.map(([was, is]) => row("changed", changeWords(was, is, at), `id:${sheet}:${is.id}`)),
+    ...placed.map(([, is]) => row("changed", `${label(is, at)}: its symbol ${is.basename}`,
+      `id:${sheet}:${is.id}`)),
     ...gone.map((it) => row("gone", label(it, at))),
   ];
   const nets = list ? netListChanges(list, board.list) : { gone: [], added: [] };

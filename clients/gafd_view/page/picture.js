@@ -52,10 +52,11 @@ export function boxesOf(ids) {
 /** Lights the wires and pins of the lit net, or of a group without one, and the chosen objects. */
 export function light() {
   const { net, group, nets: { netOf, groupOf } } = shown;
-  for (const one of byId("drawn").querySelectorAll("[data-key]")) {
-    const { key } = one.dataset;
-    one.classList.toggle("lit", net ? netOf.get(key) === net : group !== null
-      && groupOf.get(key) === group);
+  const isLit = (key) => (net ? netOf.get(key) === net : groupOf.get(key) === group);
+  // Where nothing is to be lit, only what was has to be looked at.
+  const places = net || group !== null ? "[data-key]" : ".lit";
+  for (const one of byId("drawn").querySelectorAll(places)) {
+    one.classList.toggle("lit", places !== ".lit" && isLit(one.dataset.key));
   }
   for (const one of byId("drawn").querySelectorAll(".chosen")) one.classList.remove("chosen");
   for (const id of shown.chosen) elementOf(id)?.classList.add("chosen");

@@ -3,36 +3,78 @@
 
 import { pinsOf } from "./placing.js";
 
+/** Pieces that lie on one line, as spans along it. */
+class Line {
+  constructor() {
+    this.spans = [];
+    this.isSorted = false;
+  }
+
+  put(from, to, piece) {
+    this.spans.push({ from: Math.min(from, to), to: Math.max(from, to), reach: 0, piece });
+  }
+
+  /** By where they begin, each with how far it and those before it reach. */
+  sort() {
+    this.spans.sort((one, other) => one.from - other.from);
+    let reach = -Infinity;
+    for (const one of this.spans) {
+      reach = Math.max(reach, one.to);
+      one.reach = reach;
+    }
+    this.isSorted = true;
+  }
+
+  /** The pieces that go on to both sides of a place. */
+  across(at) {
+    if (!this.isSorted) this.sort();
+    let [low, high] = [0, this.spans.length];
+    while (low < high) {
+      const middle = (low + high) >> 1;
+      if (this.spans[middle].from < at) low = middle + 1;
+      else high = middle;
+    }
+    const found = [];
+    for (let place = low - 1; place >= 0 && this.spans[place].reach > at; place--) {
+      if (this.spans[place].to > at) found.push(this.spans[place].piece);
+    }
+    return found;
+  }
+}
+
+const NONE = [];
+
 /** Pieces by their ends, and the upright and level ones by the line on which they lie. */
 export class Ends {
   constructor(pieces) {
     this.ends = new Map();
     this.level = new Map();
     this.upright = new Map();
-    const put = (map, key, piece) => {
-      if (!map.has(key)) map.set(key, []);
-      map.get(key).push(piece);
-    };
     for (const piece of pieces) {
-      for (const [x, y] of endsOf(piece)) put(this.ends, `${x},${y}`, piece);
-      if (piece.x1 === piece.x2 && piece.y1 !== piece.y2) put(this.upright, piece.x1, piece);
-      if (piece.y1 === piece.y2 && piece.x1 !== piece.x2) put(this.level, piece.y1, piece);
+      for (const [x, y] of endsOf(piece)) found(this.ends, `${x},${y}`, () => []).push(piece);
+      const { x1, y1, x2, y2 } = piece;
+      if (x1 === x2 && y1 !== y2) found(this.upright, x1, () => new Line()).put(y1, y2, piece);
+      if (y1 === y2 && x1 !== x2) found(this.level, y1, () => new Line()).put(x1, x2, piece);
     }
   }
 
   /** The pieces with an end at a point. */
   at(x, y) {
-    return this.ends.get(`${x},${y}`) || [];
+    return this.ends.get(`${x},${y}`) || NONE;
   }
 
   /** The level and upright pieces that go on to both sides of a point. */
   across(x, y) {
-    const isInside = (a, b, c) => Math.min(a, b) < c && c < Math.max(a, b);
-    return [
-      ...(this.level.get(y) || []).filter((it) => isInside(it.x1, it.x2, x)),
-      ...(this.upright.get(x) || []).filter((it) => isInside(it.y1, it.y2, y)),
-    ];
+    const level = this.level.get(y)?.across(x) || NONE;
+    const upright = this.upright.get(x)?.across(y) || NONE;
+    return upright.length ? [...level, ...upright] : level;
   }
+}
+
+/** What a map has under a key; where it has nothing, what is made for it. */
+function found(map, key, make) {
+  if (!map.has(key)) map.set(key, make());
+  return map.get(key);
 }
 
 export function endsOf(piece) {

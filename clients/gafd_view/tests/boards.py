@@ -1,5 +1,4 @@
-"""Boards and pages for the tests: a server and a store, who edits, and the program that is tested.
-Boards and pages for the tests: a server and a store, who edits, and the program that is tested."""
+"""Boards and pages for the tests: a server with its store, who edits, and what is tested."""
 import http.client
 import json
 import pathlib

@@ -8,8 +8,7 @@ import sys
 
 
 def other_python():
-    """The system's python3, which has the packages of the system, where another one is on the PATH.
-    The system's python3, which has the packages of the system, where another one is on the PATH."""
+    """The system's python3, which has its packages, where another one is on the PATH."""
     path = "/usr/bin/python3"
     is_other = os.path.realpath(path) != os.path.realpath(sys.executable)
     return path if os.access(path, os.X_OK) and is_other else None

@@ -214,6 +214,24 @@ class Marking(PageCase):
         page.until(lambda: "second" in page.text("sheet"))
 
 
+    def test_a_symbol_that_was_replaced_is_shown_and_told(self):
+        page, bob = self.page(), self.bob()
+        text = (EXAMPLES / "cap.sym").read_text()
+        serial = bob.edit(kind="replace_symbol", name="cap.sym",
+                          text=text + "T 0 0 9 10 1 0 0 0 1\nnew look\n")
+        page.until(lambda: page.text("sheet").count("new look") == 4)
+        page.tab("history")
+        page.until(lambda: "changed the symbol cap.sym" in page.text("list"))
+        page.script(f"document.querySelector('[data-compare=\"{serial}\"]').click()")
+        page.until(lambda: page.all(".comparing"), 60)
+        self.assertEqual(len(page.all("#drawn .is-changed")), 4)
+        self.assertIn("C1: its symbol cap.sym", page.text("list"))
+        page.keys(Keys.ESCAPE)
+        bob.edit(kind="undo", serial=serial)
+        page.until(lambda: "new look" not in page.text("sheet"))
+        self.assertEqual(page.faults(), [])
+
+
 class Comparing(PageCase):
     def test_two_fronts_stand_beside_each_other(self):
         c1, c2 = (self.ann.id_of("stereo.sch", it) for it in ("C1", "C2"))

@@ -108,6 +108,30 @@ class Histories(Case):
         self.assertEqual(who(new), [("setup", made, "add_object"), ("bob", numbered, "renumber")])
         self.assertEqual(who(10 ** 9), [None, ("bob", numbered, "renumber")])
 
+    def test_who_changed_many_objects_and_symbols_is_told(self):
+        bob, (c1, c2) = self.bob(), (self.ann.id_of("stereo.sch", it) for it in ("C1", "C2"))
+        moved = bob.edit(kind="move", ids=sorted([c1, c2]), dx=100, dy=0)
+        gone = self.ann.edit(kind="delete", ids=[c2])
+        numbered = bob.edit(kind="renumber")
+        told = json.loads(self.view.ask(f"/whose?ids={c1},{c2},999999")[1])
+        rows = [(it["serial"], it["session"]) for it in told.pop("rows")]
+        self.assertEqual(told, {"last": [moved, gone, None], "brought": [11, 11, None],
+                                "numbering": numbered})
+        self.assertEqual(rows, [(11, "setup"), (moved, "bob"), (gone, "setup"), (numbered, "bob")])
+        back = self.ann.edit(kind="undo", serial=gone)
+        unnumbered = bob.edit(kind="undo", serial=numbered)
+        told = json.loads(self.view.ask(f"/whose?ids={c2}")[1])
+        self.assertEqual((told["last"], told["brought"], told["numbering"]),
+                         ([back], [back], unnumbered))
+        text = (EXAMPLES / "res.sym").read_text() + "T 0 0 9 10 1 0 0 0 1\nnew\n"
+        changed = bob.edit(kind="replace_symbol", name="res.sym", text=text)
+        row = json.loads(self.view.ask("/whose?symbol=res.sym")[1])["row"]
+        self.assertEqual((row["serial"], row["edit"]["kind"]), (changed, "replace_symbol"))
+        self.assertEqual(self.view.ask("/whose?symbol=no.sym")[1], '{"row": null}')
+        many = ",".join(map(str, range(1001)))
+        for query in ("", "?ids=", "?ids=1,", "?ids=x", "?ids=" + many):
+            self.assertEqual(self.view.ask("/whose" + query)[0], 400, query[:20])
+
     def test_what_changed_since_a_front_is_told(self):
         bob, c1 = self.bob(), self.ann.id_of("stereo.sch", "C1")
 
