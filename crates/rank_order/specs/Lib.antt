@@ -1,0 +1,4 @@
+pub mod Ranks
+pub mod Chains
+pub mod Classes
+pub mod Keys
