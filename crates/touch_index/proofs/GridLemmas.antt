@@ -11,9 +11,8 @@ use Rattle.geda_geom.specs.Touch.{Touch, IsBetween, IsEnd, SomeEnd, IsInside}
 use Rattle.touch_index.specs.declared.grid.Grid.{Grid}
 use Rattle.touch_index.specs.declared.grid.LinePoint.{LinePoint}
 use Rattle.touch_index.specs.declared.spans.Span.{Span}
-use Rattle.touch_index.specs.declared.spans.SpanSet.{SpanSet}
-use Rattle.touch_index.specs.steps.Spans.{Holds, HasAllMeeting}
-use Rattle.touch_index.specs.steps.Grid.{lifted, row_point, column_point, between, Along, Through, ends_of, InGrid, Covers, Meets}
+use Rattle.touch_index.specs.steps.Spans.{DoMeet, Holds, HasAllMeeting}
+use Rattle.touch_index.specs.steps.Grid.{IsThrough, lifted, row_point, column_point, between, Along, Through, ends_of, InGrid, Covers, Meets}
 
 -- coordinates stay in order
 pub lifted_low : (x y : ℤ) → x <ℤ y → lifted x ≤ lifted y
@@ -109,51 +108,51 @@ some_end Q (Segment a b) h = elim h [ inl q ↦ (a, inl (refl, refl), q) | inr q
 some_end Q (End at) q = (at, (refl, refl), q)
 
 -- spans through one point meet
-through_both : (spans : SpanSet) (k : Key) (keys : List Key) (p : LinePoint) → Through (HasAllMeeting spans keys) p → Through (λ s. Holds spans s k) p → Contains keys k
-through_both spans k keys p own other = own.1 other.0 k other.1 (record {
-  together = own.2.line ∙ sym other.2.line;
-  before = let low = own.2.from in let high = other.2.to in omega (arith, low, high);
-  after = let low = other.2.from in let high = own.2.to in omega (arith, low, high);
-})
+meet_at : (s t : Span) (p : LinePoint) → IsThrough s p → IsThrough t p → DoMeet s t
+meet_at s t p own other = record {
+  together = own.line ∙ sym other.line;
+  before = let low = own.from in let high = other.to in omega (arith, low, high);
+  after = let low = other.from in let high = own.to in omega (arith, low, high);
+}
 
-module _ (grid : Grid) (k : Key) (keys : List Key) (own c : Conductor) (meets : Meets grid own keys) (covers : Covers grid c k) where
-  abbrev MeetsRow : Span → Type 0
-  MeetsRow = HasAllMeeting grid.rows keys
+-- of what touches some spans meet, in the rows or in the columns
+module _ (R C S T : Span → Type 0) (Q : Type 0) (in_rows : (s t : Span) → R s → S t → DoMeet s t → Q) (in_columns : (s t : Span) → C s → T t → DoMeet s t → Q)
+    (own c : Conductor) (meets : InGrid R C own) (covers : InGrid S T c) where
+  by_row : (p : LinePoint) → Through R p → Through S p → Q
+  by_row p own other = in_rows own.0 other.0 own.1 other.1 (meet_at own.0 other.0 p own.2 other.2)
 
-  abbrev MeetsColumn : Span → Type 0
-  MeetsColumn = HasAllMeeting grid.columns keys
+  by_column : (p : LinePoint) → Through C p → Through T p → Q
+  by_column p own other = in_columns own.0 other.0 own.1 other.1 (meet_at own.0 other.0 p own.2 other.2)
 
-  abbrev HasRow : Span → Type 0
-  HasRow s = Holds grid.rows s k
+  end_at_end : (p : Point) → IsEnd own p → IsEnd c p → Q
+  end_at_end p is other = by_row (row_point p) (row_at_end R C own p meets is) (row_at_end S T c p covers other)
 
-  abbrev HasColumn : Span → Type 0
-  HasColumn s = Holds grid.columns s k
-
-  end_at_end : (p : Point) → IsEnd own p → IsEnd c p → Contains keys k
-  end_at_end p is other =
-      through_both grid.rows k keys (row_point p) (row_at_end MeetsRow MeetsColumn own p meets is) (row_at_end HasRow HasColumn c p covers other)
-
-  end_inside : (p : Point) → IsEnd own p → IsInside c p → Contains keys k
-  end_inside p is inside = elim (at_inside HasRow HasColumn c p covers inside) [
-    | inl row ↦ through_both grid.rows k keys (row_point p) (row_at_end MeetsRow MeetsColumn own p meets is) row
-    | inr column ↦ through_both grid.columns k keys (column_point p) (column_at_end MeetsRow MeetsColumn own p meets is) column
+  end_inside : (p : Point) → IsEnd own p → IsInside c p → Q
+  end_inside p is inside = elim (at_inside S T c p covers inside) [
+    | inl row ↦ by_row (row_point p) (row_at_end R C own p meets is) row
+    | inr column ↦ by_column (column_point p) (column_at_end R C own p meets is) column
   ]
 
-  inside_over : (p : Point) → IsInside own p → IsEnd c p → Contains keys k
-  inside_over p inside is = elim (at_inside MeetsRow MeetsColumn own p meets inside) [
-    | inl row ↦ through_both grid.rows k keys (row_point p) row (row_at_end HasRow HasColumn c p covers is)
-    | inr column ↦ through_both grid.columns k keys (column_point p) column (column_at_end HasRow HasColumn c p covers is)
+  inside_over : (p : Point) → IsInside own p → IsEnd c p → Q
+  inside_over p inside is = elim (at_inside R C own p meets inside) [
+    | inl row ↦ by_row (row_point p) row (row_at_end S T c p covers is)
+    | inr column ↦ by_column (column_point p) column (column_at_end S T c p covers is)
+  ]
+
+  pub touching_meets : Touch own c → Q
+  touching_meets touch = elim touch [
+    | inl ends ↦ let at = some_end (IsEnd c) own ends in end_at_end at.0 at.1 at.2
+    | inr inside ↦ elim inside [
+      | inl first ↦ let at = some_end (IsInside c) own first in end_inside at.0 at.1 at.2
+      | inr second ↦ let at = some_end (IsInside own) c second in inside_over at.0 at.2 at.1
+    ]
   ]
 
 -- the key of what touches is in the list
 pub touching_is_near : (grid : Grid) (k : Key) (keys : List Key) (own c : Conductor) → Meets grid own keys → Covers grid c k → Touch own c → Contains keys k
-touching_is_near grid k keys own c meets covers touch = elim touch [
-  | inl ends ↦ let at = some_end (IsEnd c) own ends in end_at_end grid k keys own c meets covers at.0 at.1 at.2
-  | inr inside ↦ elim inside [
-    | inl first ↦ let at = some_end (IsInside c) own first in end_inside grid k keys own c meets covers at.0 at.1 at.2
-    | inr second ↦ let at = some_end (IsInside own) c second in inside_over grid k keys own c meets covers at.0 at.2 at.1
-  ]
-]
+touching_is_near grid k keys own c meets covers touch =
+    touching_meets (HasAllMeeting grid.rows keys) (HasAllMeeting grid.columns keys) (λ s. Holds grid.rows s k) (λ s. Holds grid.columns s k) (Contains keys k)
+    (λ s t all holds meet. all t k holds meet) (λ s t all holds meet. all t k holds meet) own c meets covers touch
 
 -- what is so of a success is so of what follows from it
 pub on_ok : {A E P Q R : Type 0} (r : Result A E) → (P → Q → R) → OnOk r P → OnOk r Q → OnOk r R
@@ -174,6 +173,14 @@ pub covers_later : (old new : Grid) (k : Key) → ((s : Span) → Holds old.rows
 covers_later old new k rows columns c has = record {
   rows = along_to (λ s. Holds old.rows s k) (λ s. Holds new.rows s k) (row_point (ends_of c).0) (row_point (ends_of c).1) rows has.rows;
   columns = along_to (λ s. Holds old.columns s k) (λ s. Holds new.columns s k) (column_point (ends_of c).0) (column_point (ends_of c).1) columns has.columns;
+}
+
+-- what is so of a span by two claims
+pub along_both : (P Q : Span → Type 0) (a b : LinePoint) → Along P a b → Along Q a b → Along (λ s. P s × Q s) a b
+along_both P Q a b p q = record {
+  along = λ e. (p.along e, q.along e);
+  first = λ ne. (p.first ne, q.first ne);
+  second = λ ne. (p.second ne, q.second ne);
 }
 
 pub along_at : (P : Span → Type 0) (a b x y : LinePoint) → a ≡ x → b ≡ y → Along P a b → Along P x y

@@ -1,5 +1,8 @@
 -- The map of conductors, as a finite map and against the grid.
-use Rattle.std.proofs.Common.{rules, ◌≡◌, ◌≢◌, Bool, true, false, cond, [], ◌∷◌, Option, Some, None, Result, Ok, Err, OnErr, is_err, refl, sym, ap, subst, ◌∙◌}
+use Rattle.std.proofs.Common.{rules, ◌≡◌, ◌≢◌, ◌⊎◌, inl, inr, Bool, true, false, cond, List, [], ◌∷◌, Option, Some, None, Result, Ok, Err, OnErr, OnOk, is_err, refl, sym, ap, subst, ◌∙◌}
+use Rattle.std.specs.BTreeMap.{is_at}
+use Rattle.std.specs.BTreeSet.{BTreeSet}
+use Rattle.std.specs.List.{list_any}
 use Rattle.std.specs.Option.{unwrap_or}
 use Rattle.std.specs.Cmp.{IsEquivalence, eq_by_cmp_equiv}
 use Rattle.std.specs.Cmp.Rules.{comparing}
@@ -8,11 +11,17 @@ use Rattle.std.specs.FinMap.{from_entries, get, insert, remove, get-from_entries
 use Rattle.std.proofs.lemmas.Map.Views.{tells_apart}
 use Rattle.geda_geom.specs.declared.conductor.Key.{Key}
 use Rattle.geda_geom.specs.declared.conductor.Conductor.{Conductor}
+use Rattle.geda_geom.specs.declared.conductor.Point.{Point}
 use Rattle.touch_index.specs.declared.grid.Grid.{Grid}
+use Rattle.touch_index.specs.declared.grid.LinePoint.{LinePoint}
+use Rattle.touch_index.specs.declared.spans.Mark.{Mark}
 use Rattle.geda_geom.specs.Keys.{by_key}
-use Rattle.touch_index.specs.steps.Spans.{KeepsSpans, KeepsOthers}
-use Rattle.touch_index.specs.steps.Grid.{Covers}
+use Rattle.touch_index.specs.steps.Marks.{by_mark}
+use Rattle.touch_index.specs.steps.Spans.{IsMarked, KeepsSpans, KeepsOthers}
+use Rattle.touch_index.specs.steps.Grid.{Covers, column_point, ends_of, row_point}
+use Rattle.touch_index.specs.steps.Drawn.{AddsMarks, AreDrawn, HasNoMarks, HasPlaces, IsDrawn, IsMarkOf, LosesMarks}
 use Rattle.touch_index.specs.steps.Sifting.{Entries, DifferAt, IsIndexed, conductor_at, is_same_key}
+use Rattle.touch_index.proofs.DrawnLemmas.{along_key}
 use Rattle.touch_index.proofs.GridLemmas.{covers_later}
 use Rattle.geda_geom.proofs.KeyLemmas.{by_key_total, exact_keys}
 
@@ -25,6 +34,13 @@ same_key_equiv = search (comparing, rules)
 
 pub same_key_exact : (x y : Key) → is_same_key x y ≡ true → x ≡ y
 same_key_exact x y e = tells_apart exact_keys x y (sym (key_ties x y) ∙ e)
+
+pub key_or_apart : (a b : Key) → (a ≡ b) ⊎ (a ≢ b)
+key_or_apart a b = go (is_same_key a b) refl
+  where
+    go : (t : Bool) → is_same_key a b ≡ t → (a ≡ b) ⊎ (a ≢ b)
+    go true e = inl (same_key_exact a b e)
+    go false e = inr (λ s. let p : true ≡ false = sym (same_key_equiv.refl a) ∙ ap (is_same_key a) s ∙ e in absurd (cc))
 
 turned : (k q : Key) → is_same_key k q ≡ eq_by_cmp by_key q k
 turned k q = key_ties k q ∙ (eq_by_cmp_equiv by_key_total).symm k q
@@ -78,7 +94,91 @@ indexed_less m n old new key updates rows columns indexed k d h = go (is_same_ke
         let apart : k ≢ key = λ same. let both : true ≡ false = sym (same_key_equiv.refl key) ∙ ap (is_same_key key) (sym same) ∙ e in absurd (cc) in
         covers_later old new k (λ s. rows s k apart) (λ s. columns s k apart) d (indexed k d p)
 
+-- what is so of a success
+pub ok_holds : {A E P : Type 0} (r : Result A E) → is_err r ≡ false → OnOk r P → P
+ok_holds (Ok x) e p = p
+ok_holds (Err x) e p = absurd (cc)
+
 -- what is so of an error
 pub err_holds : {A E P : Type 0} (r : Result A E) → is_err r ≡ true → OnErr r P → P
 err_holds (Ok x) e p = absurd (cc)
 err_holds (Err x) e p = p
+
+-- marks of conductors that are there, where one comes
+drawn_apart : (es : Entries) (key : Key) → conductor_at es key ≡ None → (lie : Point → LinePoint) (m : Mark) → IsDrawn (conductor_at es) lie m → m.key ≢ key
+drawn_apart es key none lie m drawn e =
+    let p : ◌≡◌ {A = Option Conductor} None (Some drawn.conductor) = sym none ∙ ap (conductor_at es) (sym e) ∙ drawn.there in absurd (cc)
+
+drawn_alike : (f g : Key → Option Conductor) (lie : Point → LinePoint) (m : Mark) → g m.key ≡ f m.key → IsDrawn f lie m → IsDrawn g lie m
+drawn_alike f g lie m same drawn = record { conductor = drawn.conductor; there = same ∙ drawn.there; places = drawn.places; mark = drawn.mark }
+
+at_other : (es fs : Entries) (key : Key) (value : Option Conductor) → DifferAt key value es fs → (q : Key) → q ≢ key → conductor_at fs q ≡ conductor_at es q
+at_other es fs key value updates q apart = updates q ∙ go (is_same_key key q) refl
+  where
+    go : (b : Bool) → is_same_key key q ≡ b → cond b value (conductor_at es q) ≡ conductor_at es q
+    go true e = absurd (apart (sym (same_key_exact key q e)))
+    go false e = refl
+
+at_key : (es fs : Entries) (key : Key) (value : Option Conductor) → DifferAt key value es fs → conductor_at fs key ≡ value
+at_key es fs key value updates = updates key ∙ ap (λ (b : Bool). cond b value (conductor_at es key)) (same_key_equiv.refl key)
+
+module _ (es fs : Entries) (key : Key) (v : Conductor) (none : conductor_at es key ≡ None) (updates : DifferAt key (Some v) es fs) (places : HasPlaces v) where
+  mark_more : (lie : Point → LinePoint) (m : Mark) → IsDrawn (conductor_at es) lie m ⊎ IsMarkOf lie v key m → IsDrawn (conductor_at fs) lie m
+  mark_more lie m either = elim either [
+    | inl was ↦ drawn_alike (conductor_at es) (conductor_at fs) lie m (at_other es fs key (Some v) updates m.key (drawn_apart es key none lie m was)) was
+    | inr is ↦
+        let own = along_key (lie (ends_of v).0) (lie (ends_of v).1) key m is in
+        record {
+          conductor = v;
+          there = ap (conductor_at fs) own ∙ at_key es fs key (Some v) updates;
+          places = places;
+          mark = subst (λ (k : Key). IsMarkOf lie v k m) (sym own) is;
+        }
+  ]
+
+-- a conductor more
+pub drawn_more : (es fs : Entries) (old new : Grid) (key : Key) (v : Conductor) → conductor_at es key ≡ None → DifferAt key (Some v) es fs → AddsMarks v key old new
+    → AreDrawn (conductor_at es) old → AreDrawn (conductor_at fs) new
+drawn_more es fs old new key v none updates adds drawn = record {
+  rows = λ m h. mark_more es fs key v none updates adds.places row_point m (elim (adds.rows m h) [ inl was ↦ inl (drawn.rows m was) | inr is ↦ inr is ]);
+  columns = λ m h. mark_more es fs key v none updates adds.places column_point m (elim (adds.columns m h) [ inl was ↦ inl (drawn.columns m was) | inr is ↦ inr is ]);
+}
+
+-- the marks of a conductor that did not come in go again
+pub drawn_left : (at : Key → Option Conductor) (old mid new : Grid) (key : Key) (v : Conductor) → AddsMarks v key old mid → LosesMarks v key mid new → AreDrawn at old → AreDrawn at new
+drawn_left at old mid new key v adds loses drawn = record {
+  rows = λ m h. let left = loses.rows m h in elim (adds.rows m left.0) [ inl was ↦ drawn.rows m was | inr is ↦ absurd (left.1 is) ];
+  columns = λ m h. let left = loses.columns m h in elim (adds.columns m left.0) [ inl was ↦ drawn.columns m was | inr is ↦ absurd (left.1 is) ];
+}
+
+module _ (es fs : Entries) (key : Key) (v : Conductor) (there : conductor_at es key ≡ Some v) (updates : DifferAt key None es fs) where
+  mark_less : (lie : Point → LinePoint) (m : Mark) → IsDrawn (conductor_at es) lie m → (IsMarkOf lie v key m → ⊥) → IsDrawn (conductor_at fs) lie m
+  mark_less lie m drawn gone = elim (key_or_apart m.key key) [
+    | inl e ↦
+        let same : drawn.conductor ≡ v = ap (λ (o : Option Conductor). unwrap_or o v) (sym drawn.there ∙ ap (conductor_at es) e ∙ there) in
+        absurd (gone (subst (λ (d : Conductor). IsMarkOf lie d key m) same (subst (λ (k : Key). IsMarkOf lie drawn.conductor k m) e drawn.mark)))
+    | inr apart ↦ drawn_alike (conductor_at es) (conductor_at fs) lie m (at_other es fs key None updates m.key apart) drawn
+  ]
+
+-- a conductor less
+pub drawn_less : (es fs : Entries) (old new : Grid) (key : Key) (v : Conductor) → conductor_at es key ≡ Some v → DifferAt key None es fs → LosesMarks v key old new
+    → AreDrawn (conductor_at es) old → AreDrawn (conductor_at fs) new
+drawn_less es fs old new key v there updates loses drawn = record {
+  rows = λ m h. let left = loses.rows m h in mark_less es fs key v there updates row_point m (drawn.rows m left.0) left.1;
+  columns = λ m h. let left = loses.columns m h in mark_less es fs key v there updates column_point m (drawn.columns m left.0) left.1;
+}
+
+-- no conductors, and no marks
+pub indexed_none : (es : Entries) (grid : Grid) → es ≡ [] → IsIndexed es grid
+indexed_none es grid none k c h =
+    let p : ◌≡◌ {A = Option Conductor} None (Some c) = sym (ap (λ (fs : Entries). conductor_at fs k) none) ∙ h in absurd (cc)
+
+no_mark : (marks : BTreeSet Mark) → marks.keys ≡ [] → (m : Mark) → IsMarked marks m → ⊥
+no_mark marks none m h =
+    let p : false ≡ true = sym (ap (λ (ms : List Mark). list_any (is_at (by_mark m)) ms) none) ∙ h in absurd (cc)
+
+pub drawn_none : (at : Key → Option Conductor) (grid : Grid) → HasNoMarks grid → AreDrawn at grid
+drawn_none at grid none = record {
+  rows = λ m h. absurd (no_mark grid.rows.marks none.rows m h);
+  columns = λ m h. absurd (no_mark grid.columns.marks none.columns m h);
+}

@@ -1,11 +1,11 @@
 -- The order of marks, and the marks that lie between two.
-use Rattle.std.proofs.Common.{arith, ◌≡◌, ℕ, ◌≤◌, ◌<◌, ◌+◌, ◌-◌, Bool, true, false, List, length, slice_index_or, map, cond, ◌++◌, ◌≢◌, inl, inr, ◌∙◌, sym, subst, Contains, IsTrue, ap, refl}
+use Rattle.std.proofs.Common.{arith, ◌≡◌, ℕ, ◌≤◌, ◌<◌, ◌+◌, ◌-◌, Bool, true, false, List, length, slice_index_or, map, cond, ◌++◌, ◌≢◌, ◌⊎◌, inl, inr, ◌∙◌, sym, subst, Contains, IsTrue, ap, refl}
 use Rattle.std.proofs.lemmas.Grind.{common_steps}
 use Rattle.std.specs.BTreeSet.{BTreeSet, contains, Updates}
 use Rattle.std.specs.BTreeMap.{is_at}
 use Rattle.std.specs.BTreeMap.Range.{IsLeBy, IsLtBy, range_contains}
 use Rattle.std.specs.declared.ops.Bound.TheVariants.{Included, Excluded}
-use Rattle.std.specs.Cmp.{IsTotalOrder}
+use Rattle.std.specs.Cmp.{IsTotalOrder, eq_by_cmp_equiv}
 use Rattle.std.specs.Ordering.{nat_cmp, ordering_then}
 use Rattle.std.proofs.lemmas.Cmp.{nat_cmp_total, then_total, on_total}
 use Rattle.std.proofs.lemmas.Map.Lookups.{CmpEqualImpliesEq, exact_unsigned, exact_pairs}
@@ -17,7 +17,7 @@ use Rattle.geda_geom.specs.Keys.{by_key}
 use Rattle.geda_geom.proofs.KeyLemmas.{by_key_total, exact_keys}
 use Rattle.touch_index.specs.steps.Marks.{by_mark}
 use Rattle.touch_index.specs.declared.spans.SpanSet.{SpanSet}
-use Rattle.touch_index.specs.steps.Spans.{HasMeeting, HasAllMeeting, HasFirstMeeting, IsKept, first_mark, after_mark, mark_of, marks_near}
+use Rattle.touch_index.specs.steps.Spans.{HasMeeting, HasAllMeeting, HasFirstMeeting, IsKept, first_mark, after_mark, mark_at, mark_of, marks_near, span_of, width_of}
 use Rattle.touch_index.proofs.ListLemmas.{earlier_or_here, filter_has, map_has}
 use Rattle.std.proofs.lemmas.List.{get_or_default}
 use Rattle.std.proofs.lemmas.List.Elements.{Contains-append_right}
@@ -25,35 +25,46 @@ use Rattle.std.proofs.lemmas.List.Elements.{Contains-append_right}
 pub exact_marks : CmpEqualImpliesEq by_mark
 exact_marks a b h =
     let last = exact_pairs nat_cmp by_key exact_unsigned exact_keys in
-    let rest = exact_pairs nat_cmp (λ (x y : ℕ × Key). ordering_then (nat_cmp x.0 y.0) (by_key x.1 y.1)) exact_unsigned last in
-    let all = exact_pairs nat_cmp (λ (x y : ℕ × (ℕ × Key)). ordering_then (nat_cmp x.0 y.0) (ordering_then (nat_cmp x.1.0 y.1.0) (by_key x.1.1 y.1.1))) exact_unsigned rest in
-    ap (λ (p : ℕ × (ℕ × (ℕ × Key))). record { line = p.0; width = p.1.0; from = p.1.1.0; key = p.1.1.1 })
-    (all (a.line, (a.width, (a.from, a.key))) (b.line, (b.width, (b.from, b.key))) h)
+    let then_by = λ (x y : ℕ × Key). ordering_then (nat_cmp x.0 y.0) (by_key x.1 y.1) in
+    let third = exact_pairs nat_cmp then_by exact_unsigned last in
+    let then_from = λ (x y : ℕ × (ℕ × Key)). ordering_then (nat_cmp x.0 y.0) (then_by x.1 y.1) in
+    let second = exact_pairs nat_cmp then_from exact_unsigned third in
+    let all = exact_pairs nat_cmp (λ (x y : ℕ × (ℕ × (ℕ × Key))). ordering_then (nat_cmp x.0 y.0) (then_from x.1 y.1)) exact_unsigned second in
+    ap (λ (p : ℕ × (ℕ × (ℕ × (ℕ × Key)))). record { line = p.0; width = p.1.0; from = p.1.1.0; beyond = p.1.1.1.0; key = p.1.1.1.1 })
+    (all (a.line, (a.width, (a.from, (a.beyond, a.key)))) (b.line, (b.width, (b.from, (b.beyond, b.key)))) h)
 
 pub by_mark_total : IsTotalOrder by_mark
 by_mark_total = then_total (on_total (λ m. m.line) nat_cmp_total)
-    (then_total (on_total (λ m. m.width) nat_cmp_total) (then_total (on_total (λ m. m.from) nat_cmp_total) (on_total (λ m. m.key) by_key_total)))
+    (then_total (on_total (λ m. m.width) nat_cmp_total) (then_total (on_total (λ m. m.from) nat_cmp_total)
+    (then_total (on_total (λ m. m.beyond) nat_cmp_total) (on_total (λ m. m.key) by_key_total))))
 
-first_low : (span s : Span) (width : ℕ) (k : Key) → span.line ≡ s.line → span.from - width ≤ s.from → IsLeBy by_mark (first_mark span width) (mark_of s width k)
-first_low span s width k together low = grind (arith, common_steps, together, low)
+first_low : (span : Span) (width from : ℕ) (m : Mark) → span.line ≡ m.line → width ≡ m.width → from ≤ m.from → IsLeBy by_mark (mark_at span width from) m
+first_low span width from m together wide low = grind (arith, common_steps, together, wide, low)
 
-after_high : (span s : Span) (width : ℕ) (k : Key) → span.line ≡ s.line → s.from ≤ span.to → IsLtBy by_mark (mark_of s width k) (after_mark span width)
-after_high span s width k together high = grind (arith, common_steps, together, high)
+after_high : (span : Span) (width : ℕ) (m : Mark) → span.line ≡ m.line → width ≡ m.width → m.from ≤ span.to → IsLtBy by_mark m (after_mark span width)
+after_high span width m together wide high = grind (arith, common_steps, together, wide, high)
 
-pub is_near : (span s : Span) (width : ℕ) (k : Key) → span.line ≡ s.line → span.from - width ≤ s.from → s.from ≤ span.to
-    → range_contains by_mark (Included (first_mark span width)) (Excluded (after_mark span width)) (mark_of s width k) ≡ true
-is_near span s width k together low high =
-    range_contains-from_IsInRange by_mark_total (Included (first_mark span width)) (Excluded (after_mark span width)) (mark_of s width k)
-    (first_low span s width k together low, after_high span s width k together high)
+pub is_near : (span : Span) (width from : ℕ) (m : Mark) → span.line ≡ m.line → width ≡ m.width → from ≤ m.from → m.from ≤ span.to
+    → range_contains by_mark (Included (mark_at span width from)) (Excluded (after_mark span width)) m ≡ true
+is_near span width from m together wide low high =
+    range_contains-from_IsInRange by_mark_total (Included (mark_at span width from)) (Excluded (after_mark span width)) m
+    (first_low span width from m together wide low, after_high span width m together wide high)
+
+-- the span of the mark of a span
+pub span_of-mark_of : (s : Span) (k : Key) → s.to ≤ 4294967295 → span_of (mark_of s k) ≡ s
+span_of-mark_of s k fits =
+    let e : 4294967295 - (4294967295 - s.to) ≡ s.to = omega (arith, fits) in
+    ap (λ (to : ℕ). record { line = s.line; from = s.from; to = to }) e
 
 -- a mark that is near stands among those of the range
 pub near_is_met : (marks : BTreeSet Mark) (span : Span) (width : ℕ) (old new : List Key) → new ≡ old ++ map (λ m. m.key) (marks_near marks span width)
     → HasMeeting marks span width new
-near_is_met marks span width old new e s k long meet marked =
-    let m = mark_of s width k in
+near_is_met marks span width old new e s k wide long meet marked =
+    let m = mark_of s k in
     let stands = (btree_set_contains_iff by_mark_total exact_marks marks m).0 marked in
     let low : span.from - width ≤ s.from = omega (arith, long, meet.before) in
-    let near = filter_has (range_contains by_mark (Included (first_mark span width)) (Excluded (after_mark span width))) marks.keys m stands (is_near span s width k meet.together low meet.after) in
+    let near = filter_has (range_contains by_mark (Included (first_mark span width)) (Excluded (after_mark span width))) marks.keys m stands
+    (is_near span width (span.from - width) m meet.together (sym wide) low meet.after) in
     subst (λ (ks : List Key). Contains ks k) (sym e) (Contains-append_right old (map (λ (n : Mark). n.key) (marks_near marks span width)) k (map_has (λ (n : Mark). n.key) (marks_near marks span width) m near))
 
 -- a mark more leaves the others
@@ -75,11 +86,30 @@ differs m q apart = go (is_at (by_mark m) q) refl
 pub less_marked : (old new : BTreeSet Mark) (m q : Mark) → Updates by_mark old new m false → m ≢ q → IsTrue (contains by_mark old q) → IsTrue (contains by_mark new q)
 less_marked old new m q updates apart h = updates.2 q (differs m q apart) ∙ h
 
+-- a mark more is the only one
+pub only_marked : (old new : BTreeSet Mark) (m q : Mark) → Updates by_mark old new m true → IsTrue (contains by_mark new q) → IsTrue (contains by_mark old q) ⊎ (q ≡ m)
+only_marked old new m q updates h = go (is_at (by_mark m) q) refl (sym (updates.0 q) ∙ h)
+  where
+    go : (b : Bool) → is_at (by_mark m) q ≡ b → cond b true (contains by_mark old q) ≡ true → IsTrue (contains by_mark old q) ⊎ (q ≡ m)
+    go true e p = inr (sym (tells_apart exact_marks m q e))
+    go false e p = inl p
+
+-- a mark that was taken out is gone
+pub gone_marked : (old new : BTreeSet Mark) (m q : Mark) → Updates by_mark old new m false → IsTrue (contains by_mark new q) → IsTrue (contains by_mark old q) × (q ≢ m)
+gone_marked old new m q updates h = go (is_at (by_mark m) q) refl (sym (updates.0 q) ∙ h)
+  where
+    ties : (a b : Mark) → a ≡ b → is_at (by_mark a) b ≡ true
+    ties a b same = ap (λ (x : Mark). is_at (by_mark a) x) (sym same) ∙ (eq_by_cmp_equiv by_mark_total).refl a
+
+    go : (b : Bool) → is_at (by_mark m) q ≡ b → cond b false (contains by_mark old q) ≡ true → IsTrue (contains by_mark old q) × (q ≢ m)
+    go true e p = absurd (cc)
+    go false e p = (p, λ same. let t = sym (ties m q (sym same)) ∙ e in absurd (cc))
+
 -- one width more
 pub next_width : (spans : SpanSet) (span : Span) (count : ℕ) (old new : List Key) (width : ℕ) → (d : ℕ) → slice_index_or spans.widths.items count d ≡ width → count < length spans.widths.items
     → HasFirstMeeting spans span count old → IsKept old new → HasMeeting spans.marks span width new → HasFirstMeeting spans span (count + 1) new
 next_width spans span count old new width d at inside first kept found i w lt here = elim (earlier_or_here i count lt) [
-  | inl less ↦ λ s k long meet marked. kept k (first i w less here s k long meet marked)
+  | inl less ↦ λ s k wide long meet marked. kept k (first i w less here s k wide long meet marked)
   | inr same ↦
       let e : width ≡ w = sym at ∙ get_or_default spans.widths.items count d w inside ∙ ap (λ (j : ℕ). slice_index_or spans.widths.items j w) (sym same) ∙ here in
       subst (λ (x : ℕ). HasMeeting spans.marks span x new) e found
@@ -88,4 +118,4 @@ next_width spans span count old new width d at inside first kept found i w lt he
 -- all widths
 pub all_widths : (spans : SpanSet) (span : Span) (count : ℕ) (keys : List Key) → length spans.widths.items ≤ count → HasFirstMeeting spans span count keys → HasAllMeeting spans keys span
 all_widths spans span count keys all first s k holds meet =
-    first holds.known.0 holds.width (let lt = holds.known.1 in omega (arith, lt, all)) holds.known.2 s k holds.long meet holds.marked
+    first holds.known.0 (width_of s) (let lt = holds.known.1 in omega (arith, lt, all)) holds.known.2 s k refl holds.long meet holds.marked

@@ -1,5 +1,7 @@
 -- Steps of the code; no public clause cites them.
 pub mod Marks
 pub mod Spans
+pub mod Spanning
 pub mod Grid
+pub mod Drawn
 pub mod Sifting

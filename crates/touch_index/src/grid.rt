@@ -5,7 +5,9 @@ ghost use Rattle.geda_geom.specs.declared.conductor.Key.{Key};
 ghost use Rattle.geda_geom.specs.declared.conductor.Conductor.{Conductor};
 ghost use Rattle.geda_geom.specs.Touch.{Touch};
 ghost use Rattle.touch_index.specs.steps.Spans.{Holds, HasAllMeeting, IsKept, KeepsSpans, KeepsOthers};
-ghost use Rattle.touch_index.specs.steps.Grid.{lifted, row_point, column_point, between, ends_of, Along, Covers, Meets};
+ghost use Rattle.touch_index.specs.steps.Spanning.{AreProper, HasAllSpanning};
+ghost use Rattle.touch_index.specs.steps.Grid.{lifted, row_point, column_point, between, ends_of, Along, Covers, Meets, Spans};
+ghost use Rattle.touch_index.specs.steps.Drawn.{AddsAlong, AddsMarks, HasNoMarks, IsHeld, IsPlace, LosesAlong, LosesMarks};
 
 use crate::spans::{Span, SpanSet};
 use geda_geom::{Conductor, Key, Point};
@@ -20,20 +22,23 @@ pub(crate) struct LinePoint {
 
 /// How far across a point lies, counted from the least coordinate.
 fn across(point: Point) -> u32
-    ensures { result ≡ lifted point.x }
+    ensures lifted { result ≡ lifted point.x }
+    ensures held { IsHeld point.x }
 {
     point.x.abs_diff(i32::MIN)
 }
 
 /// How far up a point lies, counted from the least coordinate.
 fn up(point: Point) -> u32
-    ensures { result ≡ lifted point.y }
+    ensures lifted { result ≡ lifted point.y }
+    ensures held { IsHeld point.y }
 {
     point.y.abs_diff(i32::MIN)
 }
 
 fn row_point(point: Point) -> LinePoint
-    ensures { result ≡ row_point point }
+    ensures same { result ≡ row_point point }
+    ensures place { IsPlace point }
 {
     LinePoint {
         line: up(point),
@@ -64,6 +69,7 @@ fn between(a: LinePoint, b: LinePoint) -> Span
 fn enter_along(spans: &mut SpanSet, a: LinePoint, b: LinePoint, key: Key) -> Result<(), AllocError>
     ensures entered { OnOk result (Along (λ s. Holds spans.new s key) a b) }
     ensures kept { KeepsSpans spans.old spans.new }
+    ensures only { AddsAlong a b key spans.old spans.new }
 {
     if a.line == b.line {
         return spans.enter(between(a, b), key);
@@ -73,7 +79,8 @@ fn enter_along(spans: &mut SpanSet, a: LinePoint, b: LinePoint, key: Key) -> Res
 }
 
 fn leave_along(spans: &mut SpanSet, a: LinePoint, b: LinePoint, key: Key)
-    ensures { KeepsOthers key spans.old spans.new }
+    ensures kept { KeepsOthers key spans.old spans.new }
+    ensures only { LosesAlong a b key spans.old spans.new }
 {
     if a.line == b.line {
         spans.leave(between(a, b), key);
@@ -99,6 +106,24 @@ fn push_along(
     spans.push_meeting(between(b, b), keys)
 }
 
+fn push_along_spanning(
+    spans: &SpanSet,
+    a: LinePoint,
+    b: LinePoint,
+    own: Key,
+    keys: &mut Vec<Key>,
+) -> Result<(), AllocError>
+    requires proper { AreProper spans.now.marks }
+    ensures kept { OnOk result (IsKept keys.old.items keys.new.items) }
+    ensures found { OnOk result (Along (HasAllSpanning spans.now own keys.new.items) a b) }
+{
+    if a.line == b.line {
+        return spans.push_spanning(between(a, b), own, keys);
+    }
+    spans.push_spanning(between(a, a), own, keys)?;
+    spans.push_spanning(between(b, b), own, keys)
+}
+
 /// The two ends of a segment; the end of a pin twice.
 fn ends_of(conductor: &Conductor) -> (Point, Point)
     ensures { result ≡ ends_of conductor.now }
@@ -118,7 +143,9 @@ pub(crate) struct Grid {
 
 impl Grid {
     /// A grid without conductors.
-    pub fn new(alloc: Global) -> Grid {
+    pub fn new(alloc: Global) -> Grid
+        ensures { HasNoMarks result }
+    {
         Grid {
             rows: SpanSet::new(alloc),
             columns: SpanSet::new(alloc),
@@ -130,6 +157,7 @@ impl Grid {
         ensures has { OnOk result (Covers self.new conductor.now key) }
         ensures rows { KeepsSpans self.old.rows self.new.rows }
         ensures columns { KeepsSpans self.old.columns self.new.columns }
+        ensures only { AddsMarks conductor.now key self.old self.new }
     {
         let (a, b) = ends_of(conductor);
         enter_along(&mut self.rows, row_point(a), row_point(b), key)?;
@@ -140,6 +168,7 @@ impl Grid {
     pub fn leave(&mut self, conductor: &Conductor, key: Key)
         ensures rows { KeepsOthers key self.old.rows self.new.rows }
         ensures columns { KeepsOthers key self.old.columns self.new.columns }
+        ensures only { LosesMarks conductor.now key self.old self.new }
     {
         let (a, b) = ends_of(conductor);
         leave_along(&mut self.rows, row_point(a), row_point(b), key);
@@ -162,6 +191,39 @@ impl Grid {
     {
         let mut keys = Vec::new(alloc);
         self.push_near(conductor, &mut keys)?;
+        Ok(keys)
+    }
+
+    fn push_spanning(
+        &self,
+        conductor: &Conductor,
+        own: Key,
+        keys: &mut Vec<Key>,
+    ) -> Result<(), AllocError>
+        requires rows { AreProper self.now.rows.marks }
+        requires columns { AreProper self.now.columns.marks }
+        ensures { OnOk result (Spans self.now conductor.now own keys.new.items) }
+    {
+        let (a, b) = ends_of(conductor);
+        push_along_spanning(&self.rows, row_point(a), row_point(b), own, keys)?;
+        push_along_spanning(&self.columns, column_point(a), column_point(b), own, keys)
+    }
+
+    /// The keys of some conductors near one that stands in the grid under its own key: what
+    /// touches it is among them, or touches one of them that touches it. A key may come more than
+    /// once.
+    pub fn spanning(
+        &self,
+        alloc: Global,
+        conductor: &Conductor,
+        own: Key,
+    ) -> Result<Vec<Key>, AllocError>
+        requires rows { AreProper self.now.rows.marks }
+        requires columns { AreProper self.now.columns.marks }
+        ensures { IfOk result (λ keys. Spans self.now conductor.now own keys.items) }
+    {
+        let mut keys = Vec::new(alloc);
+        self.push_spanning(conductor, own, &mut keys)?;
         Ok(keys)
     }
 }

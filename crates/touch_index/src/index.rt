@@ -4,11 +4,12 @@ ghost use Rattle.std.specs.FinMap as map;
 ghost use Rattle.std.specs.List.Sorted.{IsStrictlySortedBy};
 ghost use Rattle.geda_geom.specs.declared.conductor.Key.{Key};
 ghost use Rattle.geda_geom.specs.Keys.{by_key};
-ghost use Rattle.touch_index.specs.Index.{IndexData, IsNeighbour};
+ghost use Rattle.touch_index.specs.Index.{IndexData, IsNeighbour, IsSpanning};
+ghost use Rattle.touch_index.specs.steps.Drawn.{AddsMarks};
 ghost use Rattle.touch_index.specs.steps.Sifting.{DifferAt, IsIndexed};
 
 use crate::grid::Grid;
-use crate::neighbours::touching;
+use crate::neighbours::{spanning, touching};
 use crate::sealed::Sealed;
 use geda_geom::{Conductor, Key};
 use std::alloc::{AllocError, Global};
@@ -27,6 +28,7 @@ fn add(
     ensures ok { OnOk result
         (DifferAt key (Some conductor) conductors.old.entries conductors.new.entries) }
     ensures err { OnErr result (conductors.new.entries ≡ conductors.old.entries) }
+    ensures marks { AddsMarks conductor key grid.old grid.new }
 {
     // The grid has it first, so that each conductor of the map stands in the grid at any time.
     grid.enter(&conductor, key)?;
@@ -48,7 +50,8 @@ impl Model for TouchIndex {
     ghost use Rattle.std.specs.FinMap as map;
     ghost use Rattle.std.specs.Coded.{codes};
     ghost use Rattle.touch_index.specs.Index.{IndexData};
-    ghost use Rattle.touch_index.specs.steps.Sifting.{IsIndexed};
+    ghost use Rattle.touch_index.specs.steps.Drawn.{AreDrawn};
+    ghost use Rattle.touch_index.specs.steps.Sifting.{IsIndexed, conductor_at};
 
     ghost Value = { IndexData };
 
@@ -59,7 +62,8 @@ impl Model for TouchIndex {
       asked = t.queries;
     } };
 
-    ghost invariant = { λ t. IsIndexed t.conductors.entries t.grid };
+    ghost invariant = { λ t. IsIndexed t.conductors.entries t.grid
+        × AreDrawn (conductor_at t.conductors.entries) t.grid };
 }
 
 impl TouchIndex {
@@ -118,6 +122,25 @@ impl TouchIndex {
     {
         self.queries = self.queries.saturating_add(1);
         touching(self.alloc, &self.conductors, &self.grid, key)
+    }
+
+    /// Some of the other keys whose conductors touch that of a key, which is there; by id, then
+    /// place. From them chains of conductors that touch lead to all others of these keys, and none
+    /// goes by the conductor of the key itself. Of many conductors that lie on one another, or meet
+    /// in one point, they are few.
+    ///
+    /// The conductors stay. `asked` rises by one, on AllocError too, or stays at 2^64 - 1.
+    pub fn spanning_neighbours(&mut self, key: Key) -> Result<Vec<Key>, AllocError>
+        requires is_there { IsSome (map.get self.old.conductors key) }
+        ensures rising { IfOk result (λ keys. IsStrictlySortedBy by_key keys.items) }
+        ensures spanning { IfOk result (λ keys.
+            IsSpanning (map.get self.old.conductors) key keys.items) }
+        ensures conductors { self.new.conductors ≡ self.old.conductors }
+        ensures asked { self.new.asked ≡ min (self.old.asked + 1) (2 ^ 64 - 1) }
+        ensures later { self.old.asked ≤ self.new.asked }
+    {
+        self.queries = self.queries.saturating_add(1);
+        spanning(self.alloc, &self.conductors, &self.grid, key)
     }
 
     /// The number of neighbour queries that were made, at most 2^64 - 1. It takes no memory.

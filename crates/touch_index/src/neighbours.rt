@@ -1,9 +1,10 @@
-// The keys whose conductors touch a given one.
+// The keys whose conductors touch a given one, and some of them that stand for all.
 ghost use Rattle.std.specs.Prelude.{◌≡◌, ◌↔◌, Contains, IsTrue, IfOk};
 ghost use Rattle.std.specs.List.Sorted.{IsStrictlySortedBy};
 ghost use Rattle.geda_geom.specs.declared.conductor.Key.{Key};
 ghost use Rattle.geda_geom.specs.Keys.{by_key};
-ghost use Rattle.touch_index.specs.Index.{IsNeighbour};
+ghost use Rattle.touch_index.specs.Index.{IsNeighbour, IsSpanning};
+ghost use Rattle.touch_index.specs.steps.Drawn.{AreDrawn};
 ghost use Rattle.touch_index.specs.steps.Sifting.{IsOther, IsIndexed, conductor_at};
 
 use crate::grid::Grid;
@@ -73,6 +74,28 @@ pub(crate) fn touching(
         return Ok(Vec::new(alloc));
     };
     let near = grid.near(alloc, own)?;
+    let found = others_touching(alloc, conductors, own, key, &near)?;
+    Ok(in_order(found))
+}
+
+/// A rising list of other keys whose conductors touch that of the key, from which chains without
+/// the key lead to all such.
+pub(crate) fn spanning(
+    alloc: Global,
+    conductors: &HashMap<Key, Conductor>,
+    grid: &Grid,
+    key: Key,
+) -> Result<Vec<Key>, AllocError>
+    requires indexed { IsIndexed conductors.now.entries grid.now }
+    requires drawn { AreDrawn (conductor_at conductors.now.entries) grid.now }
+    ensures rising { IfOk result (λ keys. IsStrictlySortedBy by_key keys.items) }
+    ensures spanning { IfOk result (λ keys.
+        IsSpanning (conductor_at conductors.now.entries) key keys.items) }
+{
+    let Some(own) = conductors.get(&key) else {
+        return Ok(Vec::new(alloc));
+    };
+    let near = grid.spanning(alloc, own, key)?;
     let found = others_touching(alloc, conductors, own, key, &near)?;
     Ok(in_order(found))
 }

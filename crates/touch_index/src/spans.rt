@@ -1,7 +1,9 @@
 // Spans on parallel lines, each under a key, and which of them meet a given one.
-ghost use Rattle.std.specs.Prelude.{◌≡◌, ◌≤◌, ◌+◌, ◌≢◌, ℕ, Contains, IsTrue, OnOk};
+ghost use Rattle.std.specs.Prelude.{◌≡◌, ◌≤◌, ◌+◌, ◌≢◌, ℕ, [], Contains, IsTrue, OnOk, MatchOption};
 ghost use Rattle.geda_geom.specs.declared.conductor.Key.{Key};
-ghost use Rattle.touch_index.specs.steps.Spans.{Holds, KeepsSpans, KeepsOthers, HasMeeting, HasAllMeeting, IsKept, mark_of};
+ghost use Rattle.touch_index.specs.declared.spans.Mark.{Mark};
+ghost use Rattle.touch_index.specs.steps.Spans.{AddsMark, Holds, KeepsSpans, KeepsOthers, HasMeeting, HasAllMeeting, IsKept, LosesMark, mark_of, width_from, width_of};
+ghost use Rattle.touch_index.specs.steps.Spanning.{AreProper, HasAllSpanning, HasSpanning, IsFirst, IsNext};
 
 use geda_geom::Key;
 use std::alloc::{AllocError, Global};
@@ -18,13 +20,16 @@ pub(crate) struct Span {
     pub to: u32,
 }
 
-/// Where a span begins, for spans that are no longer than the width.
+/// Where a span begins, for spans that are no longer than the width. Of those that begin at one
+/// place the longest is the first.
 #[derive(Clone, Copy, Debug, PartialEq, Eq, PartialOrd, Ord)]
 pub(crate) struct Mark {
     line: u32,
     width: u32,
     // One more than the greatest coordinate is a place, too.
     from: u64,
+    // What the line has beyond the span's end.
+    beyond: u32,
     key: Key,
 }
 
@@ -38,19 +43,29 @@ pub(crate) struct SpanSet {
     widths: Vec<u32>,
 }
 
-/// The least width of a few that is no less than the span's length.
-fn width_of(span: Span) -> u32
-    ensures { span.to ≤ span.from + result }
+/// The first of some widths that is no less than a length.
+fn first_width(widths: &[u32], length: u32) -> u32
+    ensures same { result ≡ width_from widths.now length }
+    ensures long { length ≤ result }
 {
-    let length = span.to.saturating_sub(span.from);
-    for width in [
-        0, 16, 64, 256, 1024, 4096, 16_384, 65_536, 262_144, 1_048_576,
-    ] {
-        if length <= width {
-            return width;
+    for width in widths {
+        if length <= *width {
+            return *width;
         }
     }
     u32::MAX
+}
+
+/// The least width of a few that is no less than the span's length.
+#[tactic(auto, unfolding(crate::specs::steps::Spans::width_of))]
+fn width_of(span: Span) -> u32
+    ensures same { result ≡ width_of span }
+    ensures long { span.to ≤ span.from + result }
+{
+    let widths = [
+        0, 16, 64, 256, 1024, 4096, 16_384, 65_536, 262_144, 1_048_576,
+    ];
+    first_width(&widths, span.to.saturating_sub(span.from))
 }
 
 /// Adds a width that is not known yet.
@@ -64,13 +79,14 @@ fn learn(widths: &mut Vec<u32>, width: u32) -> Result<(), AllocError>
     Ok(())
 }
 
-fn mark_under(span: Span, width: u32, key: Key) -> Mark
-    ensures { result ≡ mark_of span width key }
+fn mark_of(span: Span, key: Key) -> Mark
+    ensures { result ≡ mark_of span key }
 {
     Mark {
         line: span.line,
-        width,
+        width: width_of(span),
         from: u64::from(span.from),
+        beyond: u32::MAX - span.to,
         key,
     }
 }
@@ -92,12 +108,14 @@ fn push_keys(
         line: span.line,
         width,
         from,
+        beyond: 0,
         key: none,
     };
     let after = Mark {
         line: span.line,
         width,
         from: u64::from(span.to) + 1,
+        beyond: 0,
         key: none,
     };
     for mark in marks.range(first..after) {
@@ -106,9 +124,72 @@ fn push_keys(
     Ok(())
 }
 
+/// The first mark of another key among those of one width that begin from a place on, and no later
+/// than the span ends; the longest of those that begin there.
+fn first_other(marks: &BTreeSet<Mark>, span: Span, width: u32, from: u64, own: Key) -> Option<Mark>
+    ensures { MatchOption result
+        ((m : Mark) → IsNext marks.now span width from own m → ⊥)
+        (IsFirst marks.now span width from own) }
+{
+    let none = Key { id: 0, place: 0 };
+    if from > u64::from(span.to) {
+        return None;
+    }
+    let first = Mark {
+        line: span.line,
+        width,
+        from,
+        beyond: 0,
+        key: none,
+    };
+    let after = Mark {
+        line: span.line,
+        width,
+        from: u64::from(span.to) + 1,
+        beyond: 0,
+        key: none,
+    };
+    for mark in marks.range(first..after) {
+        if mark.key != own {
+            return Some(*mark);
+        }
+    }
+    None
+}
+
+/// Adds keys of spans of one width that meet the span, one of which each other such span meets.
+///
+/// Of the spans that begin at one place it wants the longest alone, and what begins before the end
+/// of one that it has added it passes over.
+fn push_spanning(
+    marks: &BTreeSet<Mark>,
+    span: Span,
+    width: u32,
+    own: Key,
+    keys: &mut Vec<Key>,
+) -> Result<(), AllocError>
+    requires proper { AreProper marks.now }
+    ensures kept { OnOk result (IsKept keys.old.items keys.new.items) }
+    ensures found { OnOk result (HasSpanning marks.now span width own keys.new.items) }
+{
+    let mut from = u64::from(span.from.saturating_sub(width));
+    while let Some(mark) = first_other(marks, span, width, from, own) {
+        let to = u32::MAX - mark.beyond;
+        if to < span.from {
+            from = mark.from + 1;
+        } else {
+            keys.push(mark.key)?;
+            from = u64::from(to) + 1;
+        }
+    }
+    Ok(())
+}
+
 impl SpanSet {
     /// A set without spans.
-    pub fn new(alloc: Global) -> SpanSet {
+    pub fn new(alloc: Global) -> SpanSet
+        ensures empty { result.marks.keys ≡ [] }
+    {
         SpanSet {
             marks: BTreeSet::new(alloc),
             widths: Vec::new(alloc),
@@ -119,18 +200,19 @@ impl SpanSet {
     pub fn enter(&mut self, span: Span, key: Key) -> Result<(), AllocError>
         ensures entered { OnOk result (Holds self.new span key) }
         ensures kept { KeepsSpans self.old self.new }
+        ensures only { AddsMark (mark_of span key) self.old self.new }
     {
-        let width = width_of(span);
-        learn(&mut self.widths, width)?;
-        self.marks.insert(mark_under(span, width, key))?;
+        learn(&mut self.widths, width_of(span))?;
+        self.marks.insert(mark_of(span, key))?;
         Ok(())
     }
 
     /// Takes out a span under a key. It takes no memory.
     pub fn leave(&mut self, span: Span, key: Key)
-        ensures { KeepsOthers key self.old self.new }
+        ensures kept { KeepsOthers key self.old self.new }
+        ensures only { LosesMark (mark_of span key) self.old self.new }
     {
-        let mark = mark_under(span, width_of(span), key);
+        let mark = mark_of(span, key);
         self.marks.remove(&mark);
     }
 
@@ -142,6 +224,19 @@ impl SpanSet {
     {
         for width in &self.widths {
             push_keys(&self.marks, span, *width, keys)?;
+        }
+        Ok(())
+    }
+
+    /// Adds keys of spans of others that meet the span, and of some that lie near: each span of
+    /// another key that meets the span meets one of those, or is one.
+    pub fn push_spanning(&self, span: Span, own: Key, keys: &mut Vec<Key>) -> Result<(), AllocError>
+        requires proper { AreProper self.now.marks }
+        ensures kept { OnOk result (IsKept keys.old.items keys.new.items) }
+        ensures found { OnOk result (HasAllSpanning self.now own keys.new.items span) }
+    {
+        for width in &self.widths {
+            push_spanning(&self.marks, span, *width, own, keys)?;
         }
         Ok(())
     }

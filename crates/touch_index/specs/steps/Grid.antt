@@ -1,6 +1,6 @@
 -- Steps of the code; no public clause cites them.
 -- A grid of rows and columns, and the spans that a conductor has in it (own).
-use Rattle.std.specs.Prelude.{◌≡◌, ◌≢◌, ◌≤◌, ℕ, suc, ◌+◌, ◌-◌, ℤ, pos, negsuc, List, min, max}
+use Rattle.std.specs.Prelude.{◌≡◌, ◌≢◌, ◌⊎◌, ◌≤◌, ℕ, suc, ◌+◌, ◌-◌, ℤ, pos, negsuc, List, min, max}
 use Rattle.geda_geom.specs.declared.conductor.Key.{Key}
 use Rattle.geda_geom.specs.declared.conductor.Point.{Point}
 use Rattle.geda_geom.specs.declared.conductor.Conductor.{Conductor}
@@ -9,6 +9,7 @@ use Rattle.touch_index.specs.declared.grid.Grid.{Grid}
 use Rattle.touch_index.specs.declared.grid.LinePoint.{LinePoint}
 use Rattle.touch_index.specs.declared.spans.Span.{Span}
 use Rattle.touch_index.specs.steps.Spans.{Holds, HasAllMeeting}
+use Rattle.touch_index.specs.steps.Spanning.{HasAllSpanning}
 
 -- a coordinate, counted from the least one
 abbrev pub lifted : ℤ → ℕ
@@ -38,6 +39,11 @@ pub record Along (P : Span → Type 0) (a b : LinePoint) : Type 0 where
   pub first : a.line ≢ b.line → P (between a a)
   pub second : a.line ≢ b.line → P (between b b)
 
+-- so it is of one of these spans
+abbrev pub SomeAlong : (Span → Type 0) → LinePoint → LinePoint → Type 0
+SomeAlong P a b = ((a.line ≡ b.line) × P (between a b))
+    ⊎ ((a.line ≢ b.line) × (P (between a a) ⊎ P (between b b)))
+
 -- so it is of some span through the point
 abbrev pub Through : (Span → Type 0) → LinePoint → Type 0
 Through P p = (s : Span) × P s × IsThrough s p
@@ -59,3 +65,8 @@ Covers grid c k = InGrid (λ s. Holds grid.rows s k) (λ s. Holds grid.columns s
 -- the list has the keys of the spans that meet those of the conductor
 abbrev pub Meets : Grid → Conductor → List Key → Type 0
 Meets grid c keys = InGrid (HasAllMeeting grid.rows keys) (HasAllMeeting grid.columns keys) c
+
+-- the list has keys that stand for the spans of other keys that meet those of the conductor
+abbrev pub Spans : Grid → Conductor → Key → List Key → Type 0
+Spans grid c own keys =
+    InGrid (HasAllSpanning grid.rows own keys) (HasAllSpanning grid.columns own keys) c

@@ -1,6 +1,6 @@
 -- Steps of the code; no public clause cites them.
 -- Spans on parallel lines, each under a key (own).
-use Rattle.std.specs.Prelude.{◌≡◌, ℕ, ◌<◌, ◌≤◌, ◌+◌, ◌-◌, List, slice_index_or, ◌≢◌, Contains, IsTrue}
+use Rattle.std.specs.Prelude.{◌≡◌, ℕ, ◌<◌, ◌≤◌, ◌+◌, ◌-◌, List, [], ◌∷◌, nat_le, if◌then◌else◌, slice_index_or, ◌≢◌, ◌⊎◌, Contains, IsTrue}
 use Rattle.std.specs.declared.ops.Bound.TheVariants.{Included, Excluded}
 use Rattle.std.specs.BTreeSet.{BTreeSet, contains, keys_between}
 use Rattle.geda_geom.specs.declared.conductor.Key.{Key}
@@ -15,38 +15,60 @@ pub record DoMeet (s t : Span) : Type 0 where
   pub before : s.from ≤ t.to
   pub after : t.from ≤ s.to
 
--- the mark of a span that is no longer than the width
-abbrev pub mark_of : Span → ℕ → Key → Mark
-mark_of s width k = record { line = s.line; width = width; from = s.from; key = k }
+-- the first of some widths that is no less than a length
+abbrev pub width_from : List ℕ → ℕ → ℕ
+width_from [] long = 4294967295
+width_from (w ∷ ws) long = if nat_le long w then w else width_from ws long
 
-abbrev pub IsMarked : BTreeSet Mark → Span → ℕ → Key → Type 0
-IsMarked marks s width k = IsTrue (contains by_mark marks (mark_of s width k))
+unfoldable pub width_of : Span → ℕ
+width_of s = width_from
+    (0 ∷ 16 ∷ 64 ∷ 256 ∷ 1024 ∷ 4096 ∷ 16384 ∷ 65536 ∷ 262144 ∷ 1048576 ∷ []) (s.to - s.from)
+
+-- the mark of a span, and the span of a mark
+abbrev pub mark_of : Span → Key → Mark
+mark_of s k = record {
+  line = s.line;
+  width = width_of s;
+  from = s.from;
+  beyond = 4294967295 - s.to;
+  key = k;
+}
+
+abbrev pub span_of : Mark → Span
+span_of m = record { line = m.line; from = m.from; to = 4294967295 - m.beyond }
+
+abbrev pub IsMarked : BTreeSet Mark → Mark → Type 0
+IsMarked marks m = IsTrue (contains by_mark marks m)
 
 -- the keys of the marked spans of one width that meet the span are in the list
 abbrev pub HasMeeting : BTreeSet Mark → Span → ℕ → List Key → Type 0
-HasMeeting marks span width keys = (s : Span) (k : Key)
-    → s.to ≤ s.from + width → DoMeet span s → IsMarked marks s width k → Contains keys k
+HasMeeting marks span width keys = (s : Span) (k : Key) → width_of s ≡ width
+    → s.to ≤ s.from + width → DoMeet span s → IsMarked marks (mark_of s k) → Contains keys k
 
 -- nothing of a list is lost
 abbrev pub IsKept : List Key → List Key → Type 0
 IsKept old new = (k : Key) → Contains old k → Contains new k
 
--- the set has a mark of the span under the key, with some width that it knows
+-- the set has a mark of the span under the key, with a width that it knows
 pub record Holds (spans : SpanSet) (s : Span) (k : Key) : Type 0 where
-  pub width : ℕ
-  pub known : Contains spans.widths.items width
-  pub long : s.to ≤ s.from + width
-  pub marked : IsMarked spans.marks s width k
+  pub known : Contains spans.widths.items (width_of s)
+  pub long : s.to ≤ s.from + width_of s
+  pub fits : s.to ≤ 4294967295
+  pub marked : IsMarked spans.marks (mark_of s k)
 
 abbrev pub no_key : Key
 no_key = record { id = 0; place = 0 }
 
+-- before all marks of a width on the line of the span that begin at a place
+abbrev pub mark_at : Span → ℕ → ℕ → Mark
+mark_at s width from =
+    record { line = s.line; width = width; from = from; beyond = 0; key = no_key }
+
 abbrev pub first_mark : Span → ℕ → Mark
-first_mark s width =
-    record { line = s.line; width = width; from = s.from - width; key = no_key }
+first_mark s width = mark_at s width (s.from - width)
 
 abbrev pub after_mark : Span → ℕ → Mark
-after_mark s width = record { line = s.line; width = width; from = s.to + 1; key = no_key }
+after_mark s width = mark_at s width (s.to + 1)
 
 -- the marks of the width on the line of the span that begin near enough to meet it
 abbrev pub marks_near : BTreeSet Mark → Span → ℕ → List Mark
@@ -71,3 +93,10 @@ KeepsSpans old new = (s : Span) (k : Key) → Holds old s k → Holds new s k
 -- nothing under other keys is lost
 abbrev pub KeepsOthers : Key → SpanSet → SpanSet → Type 0
 KeepsOthers key old new = (s : Span) (k : Key) → k ≢ key → Holds old s k → Holds new s k
+
+-- a mark more at most, or some mark less
+abbrev pub AddsMark : Mark → SpanSet → SpanSet → Type 0
+AddsMark mark old new = (m : Mark) → IsMarked new.marks m → IsMarked old.marks m ⊎ (m ≡ mark)
+
+abbrev pub LosesMark : Mark → SpanSet → SpanSet → Type 0
+LosesMark mark old new = (m : Mark) → IsMarked new.marks m → IsMarked old.marks m × (m ≢ mark)

@@ -8,7 +8,7 @@ returns c =
     let columns = c.args.self.now.columns in
     let old = c.push_along.new.keys.items in
     let new = c.push_along-2.new.keys.items in
-    let row = along_at (HasAllMeeting rows old) _ _ _ _ c.row_point.ensures c.row_point-2.ensures c.in_ok-push_along.ensures.found in
+    let row = along_at (HasAllMeeting rows old) _ _ _ _ c.row_point.ensures.same c.row_point-2.ensures.same c.in_ok-push_along.ensures.found in
     on_ok c.push_along-2.result (λ kept found.
     in_grid_by (HasAllMeeting rows new) (HasAllMeeting columns new) c.args.conductor.now c.ends_of.result c.ends_of.ensures
     (along_to (HasAllMeeting rows old) (HasAllMeeting rows new) _ _ (λ s h t k holds meet. kept k (h t k holds meet)) row)

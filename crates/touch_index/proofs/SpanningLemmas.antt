@@ -1,0 +1,185 @@
+-- The spans that stand for all that meet one.
+use Rattle.std.proofs.Common.{arith, ◌≡◌, ◌≢◌, ℕ, ◌<◌, ◌≤◌, ◌+◌, ◌-◌, ◌⊎◌, inl, inr, Bool, List, [], ◌∷◌, ◌++◌, length, slice_index_or, Contains, refl, sym, ap, subst, ◌∙◌}
+use Rattle.std.proofs.lemmas.Grind.{common_steps}
+use Rattle.std.proofs.lemmas.List.{get_or_default}
+use Rattle.std.proofs.lemmas.List.Elements.{Contains-append_left, Contains-push}
+use Rattle.std.proofs.lemmas.List.Kept.{IsStrictlySortedBy-filter}
+use Rattle.std.proofs.lemmas.Map.Keys.{sorted_tail}
+use Rattle.std.proofs.lemmas.Map.Views.{All-after_first, IsInRange-from_range_contains, btree_set_contains_iff}
+use Rattle.std.specs.BTreeSet.{BTreeSet}
+use Rattle.std.specs.BTreeMap.Range.{IsLeBy, IsLtBy, range_contains}
+use Rattle.std.specs.List.Sorted.{IsStrictlySortedBy}
+use Rattle.std.specs.declared.cmp.Ordering.TheVariants.{Less}
+use Rattle.std.specs.declared.ops.Bound.TheVariants.{Included, Excluded}
+use Rattle.geda_geom.specs.declared.conductor.Key.{Key}
+use Rattle.touch_index.specs.declared.spans.Mark.{Mark}
+use Rattle.touch_index.specs.declared.spans.Span.{Span}
+use Rattle.touch_index.specs.declared.spans.SpanSet.{SpanSet}
+use Rattle.touch_index.specs.steps.Marks.{by_mark}
+use Rattle.touch_index.specs.steps.Spans.{IsKept, after_mark, mark_at, span_of}
+use Rattle.touch_index.specs.steps.Spanning.{AreProper, HasAllSpanning, HasFirstSpanning, HasSpanning, HasSpanningTo, IsFirst, IsLooking, IsMeeting, IsNext, IsNoLater, IsSpanned, marks_from}
+use Rattle.touch_index.proofs.ListLemmas.{earlier_or_here, filter_has, filter_kept, filter_passed, head_is_in, in_cases, none_is_in, tail_is_in}
+use Rattle.touch_index.proofs.MarkLemmas.{by_mark_total, exact_marks, is_near}
+
+-- what lies between two marks of one width on a line
+line_between : (span : Span) (width from : ℕ) (m : Mark) → IsLeBy by_mark (mark_at span width from) m → IsLtBy by_mark m (after_mark span width) → m.line ≡ span.line
+line_between span width from m low high = grind (arith, common_steps, low, high)
+
+width_between : (span : Span) (width from : ℕ) (m : Mark) → IsLeBy by_mark (mark_at span width from) m → IsLtBy by_mark m (after_mark span width) → m.width ≡ width
+width_between span width from m low high = grind (arith, common_steps, low, high)
+
+from_between : (span : Span) (width from : ℕ) (m : Mark) → IsLeBy by_mark (mark_at span width from) m → IsLtBy by_mark m (after_mark span width) → from ≤ m.from
+from_between span width from m low high = grind (arith, common_steps, low, high)
+
+to_between : (span : Span) (width from : ℕ) (m : Mark) → IsLeBy by_mark (mark_at span width from) m → IsLtBy by_mark m (after_mark span width) → m.from ≤ span.to
+to_between span width from m low high = grind (arith, common_steps, low, high)
+
+no_later : (m n : Mark) → m.line ≡ n.line → m.width ≡ n.width → by_mark m n ≡ Less → IsNoLater m n
+no_later m n line width less = record {
+  from = grind (arith, common_steps, line, width, less);
+  long = λ e. grind (arith, common_steps, line, width, e, less);
+}
+
+before_or_from : (i from : ℕ) → (i < from) ⊎ (from ≤ i)
+before_or_from i from = grind arith
+
+-- more keys stand for no fewer marks
+pub spanned_later : (marks : BTreeSet Mark) (span : Span) (own : Key) (old new : List Key) → IsKept old new → (m : Mark) → IsSpanned marks span own old m → IsSpanned marks span own new m
+spanned_later marks span own old new kept m is = record {
+  other = is.other;
+  marked = is.marked;
+  apart = is.apart;
+  listed = kept is.other.key is.listed;
+  near = is.near;
+  meets = is.meets;
+}
+
+pub all_spanned_later : (spans : SpanSet) (own : Key) (old new : List Key) → IsKept old new → (span : Span) → HasAllSpanning spans own old span → HasAllSpanning spans own new span
+all_spanned_later spans own old new kept span all m known is = spanned_later spans.marks span own old new kept m (all m known is)
+
+module _ (marks : BTreeSet Mark) (span : Span) (width from : ℕ) (own : Key) where
+  pub looking_begins : (left : List Mark) → IsStrictlySortedBy by_mark marks.keys → left ≡ marks_from marks span width from → IsLooking marks span width from own left
+  looking_begins left sorted is = record {
+    rising = subst (IsStrictlySortedBy by_mark) (sym is) (IsStrictlySortedBy-filter by_mark near marks.keys sorted);
+    inside = λ m has apart.
+        let in_range = subst (λ (ms : List Mark). Contains ms m) is has in
+        let is = IsInRange-from_range_contains by_mark_total (Included (mark_at span width from)) (Excluded (after_mark span width)) m (filter_passed near marks.keys m in_range) in
+        record {
+          marked = (btree_set_contains_iff by_mark_total exact_marks marks m).1 (filter_kept near marks.keys m in_range);
+          line = line_between span width from m is.0 is.1;
+          wide = width_between span width from m is.0 is.1;
+          late = from_between span width from m is.0 is.1;
+          soon = to_between span width from m is.0 is.1;
+          apart = apart;
+        };
+    all = λ m next.
+        subst (λ (ms : List Mark). Contains ms m) (sym is)
+        (filter_has near marks.keys m ((btree_set_contains_iff by_mark_total exact_marks marks m).0 next.marked) (is_near span width from m (sym next.line) (sym next.wide) next.late next.soon));
+  }
+    where
+      near : Mark → Bool
+      near = range_contains by_mark (Included (mark_at span width from)) (Excluded (after_mark span width))
+
+  pub looking_past : (m : Mark) (rest : List Mark) → m.key ≡ own → IsLooking marks span width from own (m ∷ rest) → IsLooking marks span width from own rest
+  looking_past m rest is looking = record {
+    rising = sorted_tail by_mark m rest looking.rising;
+    inside = λ n has. looking.inside n (tail_is_in m rest n has);
+    all = λ n next. elim (in_cases m rest n (looking.all n next)) [
+      | inl e ↦ absurd (next.apart (ap (λ (x : Mark). x.key) (sym e) ∙ is))
+      | inr r ↦ r
+    ];
+  }
+
+  pub looking_finds : (m : Mark) (rest : List Mark) → m.key ≢ own → IsLooking marks span width from own (m ∷ rest) → IsFirst marks span width from own m
+  looking_finds m rest apart looking = record {
+    next = next;
+    first = λ n other. elim (in_cases m rest n (looking.all n other)) [
+      | inl e ↦ subst (IsNoLater m) e (record { from = omega arith; long = λ e. omega arith })
+      | inr r ↦ no_later m n (next.line ∙ sym other.line) (next.wide ∙ sym other.wide) (after_first n r)
+    ];
+  }
+    where
+      next : IsNext marks span width from own m
+      next = looking.inside m (head_is_in m rest) apart
+
+      after_first : (n : Mark) → Contains rest n → by_mark m n ≡ Less
+      after_first n r = subst (λ (q : Mark). by_mark m q ≡ Less) r.2 (All-after_first by_mark m rest looking.rising r.0 n r.1)
+
+  pub looking_ends : IsLooking marks span width from own [] → (m : Mark) → IsNext marks span width from own m → ⊥
+  looking_ends looking m next = none_is_in m (looking.all m next)
+
+module _ (marks : BTreeSet Mark) (span : Span) (width : ℕ) (own : Key) where
+  to_next : (from : ℕ) (m : Mark) → IsMeeting marks span own m → m.width ≡ width → from ≤ m.from → IsNext marks span width from own m
+  to_next from m is wide late = record {
+    marked = is.marked;
+    line = sym is.meets.together;
+    wide = wide;
+    late = late;
+    soon = is.meets.after;
+    apart = is.apart;
+  }
+
+  -- what begins more than the width before the span does not meet it
+  pub spanning_begins : (keys : List Key) → HasSpanningTo marks span width own keys (span.from - width)
+  spanning_begins keys m is wide before = absurd (let long = is.long in let meets = is.meets.before in omega (arith, long, meets, wide, before))
+
+  pub spanning_ends : (keys : List Key) (from : ℕ) → ((m : Mark) → IsNext marks span width from own m → ⊥) → HasSpanningTo marks span width own keys from → HasSpanning marks span width own keys
+  spanning_ends keys from none all m is wide = elim (before_or_from m.from from) [
+    | inl before ↦ all m is wide before
+    | inr late ↦ absurd (none m (to_next from m is wide late))
+  ]
+
+  module _ (from : ℕ) (first : Mark) (is_first : IsFirst marks span width from own first) where
+    -- the longest that begins at a place ends before the span begins, and so do the others
+    pub spanning_past : (keys : List Key) → (span_of first).to < span.from → HasSpanningTo marks span width own keys from → HasSpanningTo marks span width own keys (first.from + 1)
+    spanning_past keys short all m is wide before = elim (before_or_from m.from from) [
+      | inl earlier ↦ all m is wide earlier
+      | inr late ↦
+          let later = is_first.first m (to_next from m is wide late) in
+          let low = later.from in
+          let same : first.from ≡ m.from = omega (arith, low, before) in
+          let long = later.long same in
+          let meets = is.meets.before in
+          absurd (omega (arith, short, long, meets))
+    ]
+
+    -- what begins before its end meets it
+    pub spanning_more : (keys : List Key) → AreProper marks → span.from ≤ (span_of first).to → HasSpanningTo marks span width own keys from
+        → HasSpanningTo marks span width own (keys ++ first.key ∷ []) ((span_of first).to + 1)
+    spanning_more keys proper reaches all m is wide before = elim (before_or_from m.from from) [
+      | inl earlier ↦ more (all m is wide earlier)
+      | inr late ↦
+          let next = to_next from m is wide late in
+          let low = (is_first.first m next).from in
+          let own_to = proper m is.marked in
+          record {
+            other = first;
+            marked = is_first.next.marked;
+            apart = is_first.next.apart;
+            listed = Contains-push keys first.key;
+            near = record { together = sym is_first.next.line; before = reaches; after = is_first.next.soon };
+            meets = record {
+              together = next.line ∙ sym is_first.next.line;
+              before = omega (arith, before);
+              after = omega (arith, low, own_to);
+            };
+          }
+    ]
+      where
+        more : IsSpanned marks span own keys m → IsSpanned marks span own (keys ++ first.key ∷ []) m
+        more = spanned_later marks span own keys (keys ++ first.key ∷ []) (λ k c. Contains-append_left keys (first.key ∷ []) k c) m
+
+-- all widths
+pub all_spanning : (spans : SpanSet) (span : Span) (own : Key) (count : ℕ) (keys : List Key) → length spans.widths.items ≤ count → HasFirstSpanning spans span own count keys → HasAllSpanning spans own keys span
+all_spanning spans span own count keys all first m known is =
+    first known.0 m.width (let lt = known.1 in omega (arith, lt, all)) known.2 m is refl
+
+-- one width more
+pub next_spanning : (spans : SpanSet) (span : Span) (own : Key) (count : ℕ) (old new : List Key) (width : ℕ) (d : ℕ) → slice_index_or spans.widths.items count d ≡ width → count < length spans.widths.items
+    → HasFirstSpanning spans span own count old → IsKept old new → HasSpanning spans.marks span width own new → HasFirstSpanning spans span own (count + 1) new
+next_spanning spans span own count old new width d at inside first kept found i w lt here = elim (earlier_or_here i count lt) [
+  | inl less ↦ λ m is wide. spanned_later spans.marks span own old new kept m (first i w less here m is wide)
+  | inr same ↦
+      let e : width ≡ w = sym at ∙ get_or_default spans.widths.items count d w inside ∙ ap (λ (j : ℕ). slice_index_or spans.widths.items j w) (sym same) ∙ here in
+      subst (λ (x : ℕ). HasSpanning spans.marks span x own new) e found
+]

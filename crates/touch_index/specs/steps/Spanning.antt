@@ -1,0 +1,88 @@
+-- Steps of the code; no public clause cites them.
+-- The spans that stand for all that meet one (own).
+use Rattle.std.specs.Prelude.{◌≡◌, ℕ, ◌<◌, ◌≤◌, ◌+◌, List, slice_index_or, ◌≢◌, Contains}
+use Rattle.std.specs.BTreeSet.{BTreeSet, keys_between}
+use Rattle.std.specs.List.Sorted.{IsStrictlySortedBy}
+use Rattle.std.specs.declared.ops.Bound.TheVariants.{Included, Excluded}
+use Rattle.geda_geom.specs.declared.conductor.Key.{Key}
+use Rattle.touch_index.specs.declared.spans.SpanSet.{SpanSet}
+use Rattle.touch_index.specs.declared.spans.Mark.{Mark}
+use Rattle.touch_index.specs.declared.spans.Span.{Span}
+use Rattle.touch_index.specs.steps.Marks.{by_mark}
+use Rattle.touch_index.specs.steps.Spans.{DoMeet, IsMarked, after_mark, mark_at, span_of}
+
+-- no span of a mark ends before it begins
+abbrev pub AreProper : BTreeSet Mark → Type 0
+AreProper marks = (m : Mark) → IsMarked marks m → m.from ≤ (span_of m).to
+
+-- a mark of another key, of one width on the line of a span, that begins from a place on, and no
+-- later than the span ends
+pub record IsNext (marks : BTreeSet Mark) (span : Span) (width from : ℕ) (own : Key) (m : Mark)
+    : Type 0 where
+  pub marked : IsMarked marks m
+  pub line : m.line ≡ span.line
+  pub wide : m.width ≡ width
+  pub late : from ≤ m.from
+  pub soon : m.from ≤ span.to
+  pub apart : m.key ≢ own
+
+-- the first begins no later, and is no shorter where both begin at one place
+pub record IsNoLater (m n : Mark) : Type 0 where
+  pub from : m.from ≤ n.from
+  pub long : m.from ≡ n.from → m.beyond ≤ n.beyond
+
+-- the first of such marks
+pub record IsFirst (marks : BTreeSet Mark) (span : Span) (width from : ℕ) (own : Key) (m : Mark)
+    : Type 0 where
+  pub next : IsNext marks span width from own m
+  pub first : (n : Mark) → IsNext marks span width from own n → IsNoLater m n
+
+-- the marks of one width on the line of the span, from a place on, that begin before it ends
+abbrev pub marks_from : BTreeSet Mark → Span → ℕ → ℕ → List Mark
+marks_from marks span width from =
+    keys_between by_mark (Included (mark_at span width from)) (Excluded (after_mark span width))
+    marks
+
+-- what is left of them, in order, while those of the own key are passed over
+pub record IsLooking (marks : BTreeSet Mark) (span : Span) (width from : ℕ) (own : Key)
+    (left : List Mark) : Type 0 where
+  pub rising : IsStrictlySortedBy by_mark left
+  pub inside : (m : Mark) → Contains left m → m.key ≢ own → IsNext marks span width from own m
+  pub all : (m : Mark) → IsNext marks span width from own m → Contains left m
+
+-- the span of a listed key meets a span, and that of a mark
+pub record IsSpanned (marks : BTreeSet Mark) (span : Span) (own : Key) (keys : List Key) (m : Mark)
+    : Type 0 where
+  pub other : Mark
+  pub marked : IsMarked marks other
+  pub apart : other.key ≢ own
+  pub listed : Contains keys other.key
+  pub near : DoMeet span (span_of other)
+  pub meets : DoMeet (span_of m) (span_of other)
+
+-- a mark of another key, no shorter than its width tells, that meets the span
+pub record IsMeeting (marks : BTreeSet Mark) (span : Span) (own : Key) (m : Mark) : Type 0 where
+  pub marked : IsMarked marks m
+  pub long : (span_of m).to ≤ m.from + m.width
+  pub apart : m.key ≢ own
+  pub meets : DoMeet span (span_of m)
+
+-- listed keys stand for the marks of one width that meet the span and begin before a place
+abbrev pub HasSpanningTo : BTreeSet Mark → Span → ℕ → Key → List Key → ℕ → Type 0
+HasSpanningTo marks span width own keys from = (m : Mark) → IsMeeting marks span own m
+    → m.width ≡ width → m.from < from → IsSpanned marks span own keys m
+
+abbrev pub HasSpanning : BTreeSet Mark → Span → ℕ → Key → List Key → Type 0
+HasSpanning marks span width own keys = (m : Mark) → IsMeeting marks span own m
+    → m.width ≡ width → IsSpanned marks span own keys m
+
+-- so for the first few widths
+abbrev pub HasFirstSpanning : SpanSet → Span → Key → ℕ → List Key → Type 0
+HasFirstSpanning spans span own count keys = (i width : ℕ)
+    → i < count → slice_index_or spans.widths.items i width ≡ width
+    → HasSpanning spans.marks span width own keys
+
+-- so for all widths
+abbrev pub HasAllSpanning : SpanSet → Key → List Key → Span → Type 0
+HasAllSpanning spans own keys span = (m : Mark) → Contains spans.widths.items m.width
+    → IsMeeting spans.marks span own m → IsSpanned spans.marks span own keys m
