@@ -19,7 +19,7 @@ use Rattle.geda_geom.specs.declared.conductor.Conductor.{Conductor}
 use Rattle.geda_geom.specs.Keys.{by_key}
 use Rattle.geda_geom.proofs.KeyLemmas.{by_key_total, exact_keys}
 use Rattle.touch_index.proofs.MapLemmas.{key_ties}
-use Rattle.touch_index.specs.Index.{IsNeighbour}
+use Rattle.touch_index.specs.Index.{AreBeside, IsNeighbour, IsSpanning}
 use Rattle.net_flood.specs.Grouping.{Conductors, InGroup, IsGroup}
 use Rattle.net_flood.specs.declared.partition.Partition.{Partition}
 use Rattle.net_flood.specs.steps.Partition.{AddsMember, Has, IsPartition, Joins, Lacks, Members, TakesOut, Together, heads_of, members_of}
@@ -107,16 +107,24 @@ module _ (cs : Conductors) (key : Key) where
     ];
   }
 
-  pub joining_ends : (near : List Key) (M : Members) (head : Key → Option Key) → IsPartition head M → ((q : Key) → Contains near q ↔ IsNeighbour (get cs) key q)
+  pub joining_ends : (near : List Key) (M : Members) (head : Key → Option Key) → IsPartition head M → IsSpanning (get cs) key near
       → IsJoining cs key near M → AreGroups cs M
   joining_ends near M head is all joining = record { sound = joining.sound; whole = whole_from cs M head is joining.there links }
     where
+      -- a chain without the key leads to each neighbour from one that is joined
+      joined : (q : Key) → IsNeighbour (get cs) key q → Together M key q
+      joined q n =
+          let from = all.all q n in
+          along (AreBeside (get cs) key) (Together M key)
+          (λ x y t link. together_trans head M is key x y t (joining.links x y link.first_apart link.second_apart link.near))
+          from.0 q (joining.joined from.0 from.1) from.2
+
       links : (k q : Key) → IsNeighbour (get cs) k q → Together M k q
       links k q n = elim (same_or_apart k key) [
-        | inl e ↦ subst (λ x. Together M x q) (sym e) (joining.joined q ((all q).1 (subst (λ x. IsNeighbour (get cs) x q) e n)))
+        | inl e ↦ subst (λ x. Together M x q) (sym e) (joined q (subst (λ x. IsNeighbour (get cs) x q) e n))
         | inr first ↦ elim (same_or_apart q key) [
           | inl e ↦ subst (Together M k) (sym e) (together_turn M key k
-              (joining.joined k ((all k).1 (subst (λ x. IsNeighbour (get cs) x k) e (near_turn (get cs) k q n)))))
+              (joined k (subst (λ x. IsNeighbour (get cs) x k) e (near_turn (get cs) k q n))))
           | inr second ↦ joining.links k q first second n
         ]
       ]
@@ -273,7 +281,7 @@ module _ (cs : Conductors) (key : Key) (row others : BTreeSet Key) (old mid : Pa
         | inr l ↦ inr (inr (together_mid k q (groups.whole k q (group_once cs k q before)) (λ u. lacks_not row k ((out.same k).1 u) l)))
       ]
 
-  module _ (near : List Key) (all : (q : Key) → Contains near q ↔ IsNeighbour (get cs) key q) (left : BTreeSet Key) (start : Key) (p : Partition)
+  module _ (near : List Key) (all : IsSpanning (get cs) key near) (left : BTreeSet Key) (start : Key) (p : Partition)
       (searches : Searches (remove cs key) near others left start mid p) where
     -- a chain leads from the start, and the start was found
     pub record Comes (x : Key) : Type 0 where
@@ -298,13 +306,21 @@ module _ (cs : Conductors) (key : Key) (row others : BTreeSet Key) (old mid : Pa
       ]
     ]
 
+    -- a chain without the key leads to each neighbour from one that was found
+    near_found : (y : Key) → IsNeighbour (get cs) key y → Comes y ⊎ Lacks left y
+    near_found y n =
+        let from = all.all y n in
+        along (AreBeside (get cs) key) (λ x. Comes x ⊎ Lacks left x)
+        (λ x z either link. comes_next x z (near_less x z link.first_apart link.second_apart link.near) either)
+        from.0 y (inr (searches.starts from.0 from.1)) from.2
+
     meets_next : (x y : Key) → Meets x → IsNeighbour (get cs) x y → Meets y
     meets_next x y meets n = elim (same_or_apart y key) [
       | inl e ↦ inl e
       | inr second ↦ elim meets [
-        | inl e ↦ inr (inr (searches.starts y ((all y).1 (subst (λ z. IsNeighbour (get cs) z y) e n))))
+        | inl e ↦ inr (near_found y (subst (λ z. IsNeighbour (get cs) z y) e n))
         | inr either ↦ elim (same_or_apart x key) [
-          | inl e ↦ inr (inr (searches.starts y ((all y).1 (subst (λ z. IsNeighbour (get cs) z y) e n))))
+          | inl e ↦ inr (near_found y (subst (λ z. IsNeighbour (get cs) z y) e n))
           | inr first ↦ inr (comes_next x y (near_less x y first second n) either)
         ]
       ]

@@ -40,7 +40,7 @@ fn add(
 }
 
 /// Puts a conductor that has come into a group, and joins it with the groups of its neighbours, by
-/// one neighbour query.
+/// one neighbour query. Of neighbours that are in one group already it wants one alone.
 fn join_in(
     alloc: Global,
     index: &mut TouchIndex,
@@ -60,7 +60,7 @@ fn join_in(
     ensures steps { index.new.asked ≤ index.old.asked + 1 }
     ensures later { index.old.asked ≤ index.new.asked }
 {
-    let near = index.neighbours(key)?;
+    let near = index.spanning_neighbours(key)?;
     partition.put(alloc, key, key)?;
     for other in &near {
         partition.join(alloc, key, *other)?;
@@ -71,8 +71,8 @@ fn join_in(
 /// Splits the group of a key that is about to go: the other members stand in the groups that they
 /// make without it. It makes at most one neighbour query for each member.
 ///
-/// It searches from the key's neighbours, and stops as soon as all of them are known to be joined
-/// or parted.
+/// It searches from some of the key's neighbours, to which the others are joined without it, and
+/// stops as soon as all of them are known to be joined or parted.
 fn split(
     alloc: Global,
     index: &mut TouchIndex,
@@ -93,7 +93,7 @@ fn split(
         → index.new.asked ≤ index.old.asked + length keys }
     ensures later { index.old.asked ≤ index.new.asked }
 {
-    let near = index.neighbours(key)?;
+    let near = index.spanning_neighbours(key)?;
     let head = partition.head(key).unwrap();
     let mut left = partition.take(key);
     left.remove(&key);
