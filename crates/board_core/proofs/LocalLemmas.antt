@@ -1,10 +1,8 @@
 -- The least keys of groups that are kept are the keys at the labels of the classes.
 use Rattle.std.proofs.Common.{◌≡◌, ◌<◌, ◌≤◌, ◌+◌, inl, inr, ℕ, zero, suc, Bool, true, false, List, [], ◌∷◌, ◌++◌, Option, Some, None, IsSome, is_some, append_assoc, get_or, length, length-append, map, nat_lt, slice_index_or, take, refl, sym, ap, subst, ◌∙◌, arith}
-use Rattle.std.specs.BTreeMap.{BTreeMap, IsFromIterResult}
 use Rattle.std.specs.FinMap.{get, get-empty}
 use Rattle.std.specs.List.{slice_get}
 use Rattle.std.specs.List.Sorted.{IsStrictlySortedBy}
-use Rattle.std.specs.Map.{keys_of}
 use Rattle.std.specs.Ordering.{is_gt, ordering_reverse}
 use Rattle.std.specs.declared.cmp.Ordering.TheVariants.{Less, Greater}
 use Rattle.std.proofs.lemmas.List.{take_more}
@@ -18,7 +16,6 @@ use Rattle.group_runs.specs.Runs.{BySheet, Coming, SheetName}
 use Rattle.group_runs.specs.Sheets.{IsKept, Rows, given_up, is_given_up, kept_at, row_at}
 use Rattle.sheet_groups.specs.Conductors.{SheetConductor, sheet_conductors}
 use Rattle.sheet_groups.specs.Groups.{AreGroups, AreLabels, group_rows}
-use Rattle.sheet_groups.proofs.GroupLemmas.{made_of_rows}
 use Rattle.sheet_groups.proofs.OrderLemmas.{conductor_keys_rise}
 use Rattle.board_core.specs.steps.Members.{In}
 use Rattle.board_core.specs.steps.Standing.{by_sheet, come, on_sheet}
@@ -103,13 +100,6 @@ rows_alike f g [] (row ∷ rows) same h = h
 rows_alike f g (c ∷ cs) [] same h = h
 rows_alike f g (c ∷ cs) (row ∷ rows) same h = (h.0, subst (λ m. IsLeast m c.1.0 row.1) (same c (inl refl)) h.1, rows_alike f g cs rows (λ d k. same d (inr k)) h.2)
 
--- their keys are those of the conductors
-read_keys : (at : BySheet) (cs : List SheetConductor) (rows : List (Key × Key)) → LeastRows at (map come cs) rows → keys_of rows ≡ keys_at cs
-read_keys at [] [] h = refl
-read_keys at [] (row ∷ rows) h = absurd h
-read_keys at (c ∷ cs) [] h = absurd h
-read_keys at (c ∷ cs) (row ∷ rows) h = λ i. h.0 i ∷ read_keys at cs rows h.2 i
-
 -- one more row
 pub rows_push : (at : BySheet) (cs : List Coming) (rows : List (Key × Key)) (c : Coming) (row : Key × Key) → LeastRows at cs rows → row.0 ≡ c.1.0 → IsLeast (at c.0) c.1.0 row.1
     → LeastRows at (cs ++ c ∷ []) (rows ++ row ∷ [])
@@ -140,19 +130,12 @@ module _ (p : ProjectData) (rows : Rows) (held : HoldsProject p rows) (fresh : g
       (kept, subst (λ m. IsSome (get m c.1.0)) (sym (alike_holds (on_sheet p) rows held c.0 kept)) there)
 
   -- and what is read are the groups
-  pub are_read : (read : List (Key × Key)) (made : BTreeMap Key Key) → LeastRows (kept_at rows) (map come (sheet_conductors p)) read → IsFromIterResult by_key read made
-      → AreGroups (sheet_conductors p) made.entries
-  are_read read made least is =
+  pub are_read : (read : List (Key × Key)) → LeastRows (kept_at rows) (map come (sheet_conductors p)) read → AreGroups (sheet_conductors p) read
+  are_read read least =
       let cs = sheet_conductors p in
       let labels = labels_of cs in
       let same = rows_alike (kept_at rows) (on_sheet p) (map come cs) read (λ c h. alike_holds (on_sheet p) rows held c.0 (can_read c h).0) least in
-      let rows_are : read ≡ group_rows cs cs labels.0 = all_least cs (conductor_keys_rise p) labels.0 labels.1 read same in
-      let rise = subst (IsStrictlySortedBy by_key) (sym (read_keys (on_sheet p) cs read same)) (conductor_keys_rise p) in
-      record {
-        labels = labels.0;
-        are_labels = labels.1;
-        are_rows = made_of_rows read made rise is ∙ rows_are;
-      }
+      record { labels = labels.0; are_labels = labels.1; are_rows = all_least cs (conductor_keys_rise p) labels.0 labels.1 read same }
 
 -- what stands at a place is a member
 pub in_at : (cs : List Coming) (i : ℕ) (c : Coming) → i < length cs → c ≡ get_or cs i c → In c cs

@@ -1,6 +1,9 @@
 // A project, and the groups of its sheets.
 ghost use Rattle.std.specs.Prelude.{◌≡◌, ◌≤◌, ◌↔◌, [], IfOk, IfErr, OnOk, OnErr, IsTrue, length, option_copied};
 ghost use Rattle.std.specs.FinMap.{get};
+ghost use Rattle.std.specs.List.Sorted.{IsStrictlySortedBy};
+ghost use Rattle.std.specs.Map.{keys_of};
+ghost use Rattle.geda_geom.specs.Keys.{by_key};
 ghost use Rattle.project_model.specs.Projects.{empty_project};
 ghost use Rattle.project_model.specs.Changes.{CanApply, put};
 ghost use Rattle.sheet_groups.specs.Conductors.{sheet_conductors};
@@ -20,7 +23,7 @@ use group_runs::SheetGroups;
 use project_model::{Change, Project};
 use sheet_groups::local_groups;
 use std::alloc::{AllocError, Global};
-use std::collections::{BTreeMap, HashSet};
+use std::collections::HashSet;
 use std::marker::Model;
 
 /// A project, with the groups of the conductors that touch on its sheets.
@@ -181,11 +184,13 @@ impl Board {
         bound_of(alloc, &self.project, &self.names, change)
     }
 
-    /// The key of each conductor with the least key of its group (docs/RULES.md, "Groups"). Where
-    /// some groups are given up, all sheets are grouped anew for this call.
-    pub fn local_groups(&self, alloc: Global) -> Result<BTreeMap<Key, Key>, AllocError>
-        ensures { IfOk result
-            (λ groups. AreGroups (sheet_conductors self.now.project) groups.entries) }
+    /// The key of each conductor with the least key of its group (docs/RULES.md, "Groups"). The
+    /// keys of conductors rise. Where some groups are given up, all sheets are grouped anew for
+    /// this call.
+    pub fn local_groups(&self, alloc: Global) -> Result<Vec<(Key, Key)>, AllocError>
+        ensures groups { IfOk result
+            (λ groups. AreGroups (sheet_conductors self.now.project) groups.items) }
+        ensures rising { IfOk result (λ groups. IsStrictlySortedBy by_key (keys_of groups.items)) }
     {
         if !self.groups.is_fresh() {
             return local_groups(alloc, &self.project);

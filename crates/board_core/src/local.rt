@@ -1,6 +1,9 @@
 // The groups of a project, read from those that are kept.
 ghost use Rattle.std.specs.Prelude.{◌≡◌, [], IfOk, IsSome};
 ghost use Rattle.std.specs.FinMap.{get};
+ghost use Rattle.std.specs.List.Sorted.{IsStrictlySortedBy};
+ghost use Rattle.std.specs.Map.{keys_of};
+ghost use Rattle.geda_geom.specs.Keys.{by_key};
 ghost use Rattle.net_flood.specs.Grouping.{IsLeast};
 ghost use Rattle.group_runs.specs.Sheets.{IsKept, given_up, kept_at, row_at};
 ghost use Rattle.sheet_groups.specs.Conductors.{sheet_conductors};
@@ -14,7 +17,6 @@ use geda_model::Name;
 use group_runs::SheetGroups;
 use project_model::Project;
 use std::alloc::{AllocError, Global};
-use std::collections::BTreeMap;
 
 /// The keys of conductors, each with the least key of its group.
 fn least_rows(
@@ -33,20 +35,21 @@ fn least_rows(
     Ok(rows)
 }
 
-/// The key of each conductor with the least key of its group, where no groups are given up.
+/// The key of each conductor with the least key of its group, where no groups are given up. The
+/// keys of conductors rise.
 pub(crate) fn kept_groups(
     alloc: Global,
     project: &Project,
     groups: &SheetGroups,
-) -> Result<BTreeMap<Key, Key>, AllocError>
+) -> Result<Vec<(Key, Key)>, AllocError>
     requires held { HoldsProject project.now.contents groups.now.rows }
     requires fresh { given_up groups.now.rows ≡ [] }
-    ensures { IfOk result
-        (λ made. AreGroups (sheet_conductors project.now.contents) made.entries) }
+    ensures groups { IfOk result
+        (λ rows. AreGroups (sheet_conductors project.now.contents) rows.items) }
+    ensures rising { IfOk result (λ rows. IsStrictlySortedBy by_key (keys_of rows.items)) }
 {
     let objects = project.objects_by_id(alloc)?;
     let drawn = drawn_in(alloc, project, &objects)?;
     let rows = least_rows(alloc, groups, &drawn)?;
-    let made = rows.into_iter().collect(alloc)?;
-    Ok(made)
+    Ok(rows)
 }
