@@ -1,0 +1,11 @@
+use Rattle.std.proofs.Common.{◌≡◌, subst}
+use Rattle.std.specs.Option.{option_to_list}
+use Rattle.flat_rows.specs.Keyed.{keyed_from}
+use Rattle.flat_rows.specs.Conductors.{FlatData}
+use Rattle.flat_rows.proofs.RowLemmas.{downs_tell}
+use Rattle.flat_rows.proofs.flat.FlatRows.downs.Goals as goal
+
+pub returns : goal.returns
+returns c =
+    let f = c.self.inside in
+    rw c.deref.ensures.value (subst (λ (d : FlatData). f.lists.downs.items ≡ keyed_from (λ c. option_to_list c.leads_down) 0 d.conductors) c.self.view_is (downs_tell f.parts.items f.lists c.self.invariant))

@@ -1,0 +1,5 @@
+pub mod Conductors
+pub mod PinOrder
+pub mod Keyed
+pub mod Rows
+pub mod steps

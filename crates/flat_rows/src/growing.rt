@@ -1,0 +1,105 @@
+// What joins in a project, while its objects are taken in.
+ghost use Rattle.std.specs.Prelude.{◌≡◌, ◌++◌, ◌∷◌, [], IfOk, OnOk, length};
+ghost use Rattle.flat_rows.specs.Rows.{IsPartOf, conductor_of};
+
+use crate::flat::FlatRows;
+use crate::lists::{Lists, push_all};
+use crate::rows::NewConductor;
+use net_list::Package;
+use std::alloc::{AllocError, Global};
+use std::marker::Model;
+
+/// What joins in a project and its listed parts, as far as its objects are taken in.
+#[derive(Drop)]
+pub struct GrowingRows {
+    parts: Vec<Package>,
+    drawn: Lists,
+    hidden: Vec<NewConductor>,
+}
+
+impl Model for GrowingRows {
+    ghost use Rattle.std.specs.Prelude.{length, map};
+    ghost use Rattle.flat_rows.specs.Conductors.{GrowingData};
+    ghost use Rattle.flat_rows.specs.Rows.{conductor_of};
+    ghost use Rattle.flat_rows.specs.steps.Lists.{AreRows, HaveParts, flat_in};
+
+    ghost Value = { GrowingData };
+
+    ghost view = { λ g. record {
+      parts = g.parts.items;
+      drawn = flat_in g.parts.items g.drawn;
+      hidden = map (conductor_of g.parts.items) g.hidden.items;
+    } };
+
+    ghost invariant = { λ g. AreRows g.parts.items g.drawn
+        × HaveParts (length g.parts.items) g.hidden.items };
+}
+
+impl GrowingRows {
+    /// Nothing, with room for this many drawn conductors.
+    pub fn with_room(alloc: Global, count: usize) -> Result<GrowingRows, AllocError>
+        ensures parts { IfOk result (λ g. g.parts ≡ []) }
+        ensures drawn { IfOk result (λ g. g.drawn ≡ []) }
+        ensures hidden { IfOk result (λ g. g.hidden ≡ []) }
+    {
+        Ok(GrowingRows {
+            parts: Vec::new(alloc),
+            drawn: Lists::with_room(alloc, count)?,
+            hidden: Vec::new(alloc),
+        })
+    }
+
+    /// Puts a listed part behind the others, and gives its place.
+    pub fn add_part(&mut self, part: Package) -> Result<usize, AllocError>
+        ensures place { IfOk result (λ place. place ≡ length self.old.parts) }
+        ensures parts { OnOk result (self.new.parts ≡ self.old.parts ++ part ∷ []) }
+        ensures drawn { OnOk result (self.new.drawn ≡ self.old.drawn) }
+        ensures hidden { OnOk result (self.new.hidden ≡ self.old.hidden) }
+    {
+        let place = self.parts.len();
+        self.parts.push(part)?;
+        Ok(place)
+    }
+
+    /// Puts a drawn conductor behind the others. On want of memory all drawn ones are gone.
+    pub fn push_drawn(&mut self, conductor: NewConductor) -> Result<(), AllocError>
+        requires { IsPartOf (length self.old.parts) conductor.member }
+        ensures parts { OnOk result (self.new.parts ≡ self.old.parts) }
+        ensures drawn { OnOk result
+            (self.new.drawn ≡ self.old.drawn ++ conductor_of self.old.parts conductor ∷ []) }
+        ensures hidden { OnOk result (self.new.hidden ≡ self.old.hidden) }
+    {
+        if let Err(error) = self.drawn.push(conductor) {
+            self.drawn.clear();
+            return Err(error);
+        }
+        Ok(())
+    }
+
+    /// Puts a hidden pin behind the others.
+    pub fn push_hidden(&mut self, conductor: NewConductor) -> Result<(), AllocError>
+        requires { IsPartOf (length self.old.parts) conductor.member }
+        ensures parts { OnOk result (self.new.parts ≡ self.old.parts) }
+        ensures drawn { OnOk result (self.new.drawn ≡ self.old.drawn) }
+        ensures hidden { OnOk result
+            (self.new.hidden ≡ self.old.hidden ++ conductor_of self.old.parts conductor ∷ []) }
+    {
+        self.hidden.push(conductor)?;
+        Ok(())
+    }
+
+    /// All of it: what is drawn, then the hidden pins.
+    pub fn in_order(self) -> Result<FlatRows, AllocError>
+        ensures parts { IfOk result (λ flat. flat.parts ≡ self.parts) }
+        ensures conductors { IfOk result (λ flat. flat.conductors ≡ self.drawn ++ self.hidden) }
+    {
+        let GrowingRows {
+            parts,
+            drawn,
+            hidden,
+        } = self;
+        let mut lists = drawn;
+        push_all(&mut lists, hidden)?;
+        Ok(FlatRows { parts, lists })
+    }
+}

@@ -1,0 +1,125 @@
+// Rows of conductors, and lists of what few of them have, each with the place of its conductor.
+ghost use Rattle.std.specs.Prelude.{◌≡◌, ◌++◌, ◌∷◌, [], List, ℕ, IfOk, OnOk, length};
+ghost use Rattle.std.specs.Option.{option_to_list};
+ghost use Rattle.flat_rows.specs.Keyed.{keyed_at};
+ghost use Rattle.flat_rows.specs.declared.rows.NewConductor.{NewConductor};
+ghost use Rattle.flat_rows.specs.steps.Lists.{AreListsOf};
+
+use crate::conductors::PortPins;
+use crate::rows::{FlatRow, NewConductor, RowMember};
+use geda_model::{Block, Items};
+use std::alloc::{AllocError, Global};
+
+/// Rows, and what few of them have.
+#[derive(Debug, Drop)]
+pub struct Lists {
+    /// What each conductor has.
+    pub rows: Vec<FlatRow>,
+    /// The global names.
+    pub global_names: Vec<(Block, usize)>,
+    /// The drawn names.
+    pub drawn_names: Vec<(Block, usize)>,
+    /// The pins of listed parts.
+    pub members: Vec<(RowMember, usize)>,
+    /// The pins to which conductors lead down.
+    pub downs: Vec<(PortPins, usize)>,
+    /// The pins to which conductors lead up.
+    pub ups: Vec<(PortPins, usize)>,
+}
+
+fn put_names(
+    names: &mut Vec<(Block, usize)>,
+    more: Items<Block>,
+    place: usize,
+) -> Result<(), AllocError>
+    ensures { OnOk result (names.new.items ≡ names.old.items ++ keyed_at place more) }
+{
+    for name in more.into_vec() {
+        names.push((name, place))?;
+    }
+    Ok(())
+}
+
+fn put<T: Drop>(
+    list: &mut Vec<(T, usize)>,
+    value: Option<T>,
+    place: usize,
+) -> Result<(), AllocError>
+    ensures { OnOk result
+        (list.new.items ≡ list.old.items ++ keyed_at place (option_to_list value)) }
+{
+    if let Some(value) = value {
+        list.push((value, place))?;
+    }
+    Ok(())
+}
+
+impl Lists {
+    /// No conductors, with room for this many.
+    pub fn with_room(alloc: Global, count: usize) -> Result<Lists, AllocError>
+        ensures { IfOk result (λ lists. AreListsOf lists []) }
+    {
+        Ok(Lists {
+            rows: Vec::with_capacity(alloc, count)?,
+            global_names: Vec::new(alloc),
+            drawn_names: Vec::new(alloc),
+            members: Vec::new(alloc),
+            downs: Vec::new(alloc),
+            ups: Vec::new(alloc),
+        })
+    }
+
+    /// Puts a conductor behind the others. On want of memory only a part of it may be there.
+    pub fn push(&mut self, conductor: NewConductor) -> Result<(), AllocError>
+        ensures { OnOk result ((cs : List NewConductor) → AreListsOf self.old cs
+            → AreListsOf self.new (cs ++ conductor ∷ [])) }
+    {
+        let NewConductor {
+            instance,
+            key,
+            shape,
+            global_names,
+            drawn_names,
+            member,
+            leads_down,
+            leads_up,
+            directive,
+        } = conductor;
+        let place = self.rows.len();
+        put_names(&mut self.global_names, global_names, place)?;
+        put_names(&mut self.drawn_names, drawn_names, place)?;
+        put(&mut self.members, member, place)?;
+        put(&mut self.downs, leads_down, place)?;
+        put(&mut self.ups, leads_up, place)?;
+        self.rows.push(FlatRow {
+            instance,
+            key,
+            shape,
+            directive,
+        })?;
+        Ok(())
+    }
+
+    /// Takes all conductors out.
+    pub fn clear(&mut self)
+        ensures { AreListsOf self.new [] }
+    {
+        self.rows.clear();
+        self.global_names.clear();
+        self.drawn_names.clear();
+        self.members.clear();
+        self.downs.clear();
+        self.ups.clear();
+    }
+}
+
+/// Puts conductors behind the others. On want of memory only some may be there.
+pub fn push_all(lists: &mut Lists, more: Vec<NewConductor>) -> Result<(), AllocError>
+    ensures { OnOk result ((cs : List NewConductor) → AreListsOf lists.old cs
+        → AreListsOf lists.new (cs ++ more.items)) }
+{
+    for conductor in more {
+        lists.push(conductor)?;
+    }
+    Ok(())
+}
