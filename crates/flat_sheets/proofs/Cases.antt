@@ -24,7 +24,7 @@ use Rattle.geda_geom.specs.declared.conductor.Conductor.TheVariants.{End, Segmen
 use Rattle.hierarchy.specs.declared.instances.Instance.{Instance}
 use Rattle.pin_place.specs.declared.pins.PlacedPin.{PlacedPin}
 use Rattle.pin_place.specs.Pins.{is_drawn, pins_of}
-use Rattle.link_classes.specs.declared.conductors.FlatConductor.{FlatConductor}
+use Rattle.flat_rows.specs.Conductors.{FlatConductor}
 use Rattle.instance_objects.specs.Occurrences.{FlatObject}
 use Rattle.instance_objects.specs.Texts.{under}
 use Rattle.instance_objects.specs.Ports.{labels_of, labels_on}

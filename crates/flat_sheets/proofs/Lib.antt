@@ -1,3 +1,4 @@
 pub mod ObjectLemmas
+pub mod PartLemmas
 pub mod RoleLaws
 pub mod Cases

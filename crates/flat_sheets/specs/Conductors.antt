@@ -15,8 +15,8 @@ use Rattle.pin_place.specs.declared.pins.PlacedPin.{PlacedPin}
 use Rattle.pin_place.specs.SymbolPins.{point}
 use Rattle.pin_place.specs.Pins.{is_drawn, pins_of}
 use Rattle.net_list.specs.declared.member.Member.{Member}
-use Rattle.link_classes.specs.declared.conductors.FlatConductor.{FlatConductor}
-use Rattle.link_classes.specs.declared.conductors.PortPins.{PortPins}
+use Rattle.flat_rows.specs.Conductors.{FlatConductor}
+use Rattle.flat_rows.specs.declared.conductors.PortPins.{PortPins}
 use Rattle.instance_objects.specs.Occurrences.{FlatObject, flat_objects}
 use Rattle.instance_objects.specs.Texts.{under}
 use Rattle.flat_sheets.specs.Ports.{pins_at, pins_above}

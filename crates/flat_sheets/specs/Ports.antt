@@ -4,7 +4,7 @@ use Rattle.geda_model.specs.Sheets.{ObjectData, SymbolData}
 use Rattle.project_model.specs.Projects.{ProjectData}
 use Rattle.attr_rules.specs.Components.{is_directive}
 use Rattle.hierarchy.specs.declared.instances.Instance.{Instance}
-use Rattle.link_classes.specs.declared.conductors.PortPins.{PortPins}
+use Rattle.flat_rows.specs.declared.conductors.PortPins.{PortPins}
 use Rattle.instance_objects.specs.Ports.{component_above, is_port}
 
 -- a component with this refdes is a port of the instance: it is no directive, and its refdes is

@@ -1,21 +1,34 @@
 // What joins of each object in an instance of its sheet.
-ghost use Rattle.std.specs.Prelude.{◌≡◌, ◌++◌, IfOk, OnOk, option_copied, option_map};
+ghost use Rattle.std.specs.Prelude.{◌≡◌, ◌++◌, ◌∷◌, [], IfOk, OnOk, length, option_copied};
+ghost use Rattle.std.specs.Prelude.{option_map};
 ghost use Rattle.std.specs.List.{flat_map};
 ghost use Rattle.geda_model.specs.declared.object.Body.TheVariants as bodies;
 ghost use Rattle.geda_geom.specs.declared.conductor.Conductor.TheVariants.{End};
 ghost use Rattle.flat_sheets.specs.Conductors.{pin_conductor, pins_below};
 ghost use Rattle.flat_sheets.specs.steps.ObjectContents.{drawn_of_shape, drawn_pin, hidden_pin};
+ghost use Rattle.flat_sheets.specs.steps.PartRoles.{IsPlaceOf, new_pin, role_in, row_member};
 
-use crate::roles::Role;
 use crate::texts::names_under;
 use attr_rules::{PinKind, attrs_of};
+use flat_rows::{GrowingRows, NewConductor, PortPins, RowMember};
 use geda_geom::{Conductor, Key, Point};
-use geda_model::{Block, Items, Line, Shape, Word};
+use geda_model::{Block, Items, Shape, Word};
 use instance_objects::InstanceObject;
-use link_classes::{FlatConductor, PortPins};
-use net_list::Member;
 use pin_place::PlacedPin;
 use std::alloc::{AllocError, Global};
+
+/// What a component is in an instance of its sheet.
+#[derive(Drop)]
+pub struct PartRole {
+    /// The place of its part among the listed ones, if it is one.
+    pub part: Option<usize>,
+    /// Whether it leads down to sheets below.
+    pub leads_down: bool,
+    /// The pins above for which it stands, if it is a port.
+    pub leads_up: Option<PortPins>,
+    /// Whether it is a no-connection directive.
+    pub directive: bool,
+}
 
 fn end_of(end: Option<Point>) -> Option<Conductor>
     ensures { result ≡ option_map End end }
@@ -26,17 +39,12 @@ fn end_of(end: Option<Point>) -> Option<Conductor>
     }
 }
 
-fn member_of(refdes: Option<&Line>, pin: Word, kind: PinKind) -> Result<Option<Member>, AllocError>
-    ensures { IfOk result (λ member. member ≡
-        option_map (λ refdes. record { refdes = refdes; pin = pin; kind = kind })
-        (option_copied refdes.entry)) }
+fn row_member(part: Option<usize>, pin: Word, kind: PinKind) -> Option<RowMember>
+    ensures { result ≡ option_map (λ part. record { pin = pin; part = part; kind = kind }) part }
 {
-    match refdes {
-        None => Ok(None),
-        Some(refdes) => {
-            let refdes = refdes.clone()?;
-            Ok(Some(Member { refdes, pin, kind }))
-        }
+    match part {
+        Some(part) => Some(RowMember { pin, part, kind }),
+        None => None,
     }
 }
 
@@ -62,18 +70,17 @@ fn copied(pins: Option<&PortPins>) -> Result<Option<PortPins>, AllocError>
     }
 }
 
-fn pin_conductor(
+fn new_pin(
     alloc: Global,
     place: usize,
     id: u32,
-    role: &Role,
+    role: &PartRole,
     pin: PlacedPin,
-) -> Result<FlatConductor, AllocError>
-    ensures { IfOk result (λ c. c ≡ pin_conductor place id role.now pin) }
+) -> Result<NewConductor, AllocError>
+    ensures { IfOk result (λ c. c ≡ new_pin place id role.now pin) }
 {
-    let member = member_of(role.refdes.as_ref(), pin.number, pin.kind)?;
     let leads_up = copied(role.leads_up.as_ref())?;
-    Ok(FlatConductor {
+    Ok(NewConductor {
         instance: place,
         key: Key {
             id,
@@ -82,116 +89,135 @@ fn pin_conductor(
         shape: end_of(pin.end),
         global_names: pin.nets,
         drawn_names: Items::from_vec(Vec::new(alloc)),
-        member,
+        member: row_member(role.part, pin.number, pin.kind),
         leads_down: pins_below(place, id, role.leads_down, pin.label),
         leads_up,
         directive: role.directive,
     })
 }
 
-/// What joins in a project, as far as its objects are taken in.
-#[derive(Drop)]
-pub struct FlatConductors {
-    /// What is drawn, by route, id and place.
-    pub drawn: Vec<FlatConductor>,
-    /// The hidden pins of listed parts, by route and id.
-    pub hidden: Vec<FlatConductor>,
+fn push_drawn_pin(
+    rows: &mut GrowingRows,
+    alloc: Global,
+    place: usize,
+    id: u32,
+    role: &PartRole,
+    pin: PlacedPin,
+) -> Result<(), AllocError>
+    requires { IsPlaceOf (length rows.old.parts) role.now.part }
+    ensures parts { OnOk result (rows.new.parts ≡ rows.old.parts) }
+    ensures drawn { OnOk result (rows.new.drawn ≡ rows.old.drawn
+        ++ pin_conductor place id (role_in rows.old.parts role.now) pin ∷ []) }
+    ensures hidden { OnOk result (rows.new.hidden ≡ rows.old.hidden) }
+{
+    let conductor = new_pin(alloc, place, id, role, pin)?;
+    rows.push_drawn(conductor)?;
+    Ok(())
 }
 
-impl FlatConductors {
-    fn push_pin(
-        &mut self,
-        alloc: Global,
-        place: usize,
-        id: u32,
-        role: &Role,
-        pin: PlacedPin,
-    ) -> Result<(), AllocError>
-        ensures drawn { OnOk result
-            (self.new.drawn.items ≡ self.old.drawn.items ++ drawn_pin place id role.now pin) }
-        ensures hidden { OnOk result
-            (self.new.hidden.items ≡ self.old.hidden.items ++ hidden_pin place id role.now pin) }
-    {
-        if pin.end.is_some() {
-            self.drawn
-                .push(pin_conductor(alloc, place, id, role, pin)?)?;
-            return Ok(());
-        }
-        if role.refdes.is_some() {
-            self.hidden
-                .push(pin_conductor(alloc, place, id, role, pin)?)?;
-        }
-        Ok(())
-    }
+fn push_hidden_pin(
+    rows: &mut GrowingRows,
+    alloc: Global,
+    place: usize,
+    id: u32,
+    role: &PartRole,
+    pin: PlacedPin,
+) -> Result<(), AllocError>
+    requires { IsPlaceOf (length rows.old.parts) role.now.part }
+    ensures parts { OnOk result (rows.new.parts ≡ rows.old.parts) }
+    ensures drawn { OnOk result (rows.new.drawn ≡ rows.old.drawn) }
+    ensures hidden { OnOk result (rows.new.hidden ≡ rows.old.hidden
+        ++ pin_conductor place id (role_in rows.old.parts role.now) pin ∷ []) }
+{
+    let conductor = new_pin(alloc, place, id, role, pin)?;
+    rows.push_hidden(conductor)?;
+    Ok(())
+}
 
-    /// Takes in the pins of a component that stands in an instance, at a place among all, in this
-    /// role. A hidden pin joins where the component is a listed part.
-    pub fn push_pins(
-        &mut self,
-        alloc: Global,
-        place: usize,
-        id: u32,
-        role: &Role,
-        pins: Items<PlacedPin>,
-    ) -> Result<(), AllocError>
-        ensures drawn { OnOk result (self.new.drawn.items ≡
-            self.old.drawn.items ++ flat_map (drawn_pin place id role.now) pins) }
-        ensures hidden { OnOk result (self.new.hidden.items ≡
-            self.old.hidden.items ++ flat_map (hidden_pin place id role.now) pins) }
-    {
-        for pin in pins.into_vec() {
-            self.push_pin(alloc, place, id, role, pin)?;
-        }
-        Ok(())
+fn push_pin(
+    rows: &mut GrowingRows,
+    alloc: Global,
+    place: usize,
+    id: u32,
+    role: &PartRole,
+    pin: PlacedPin,
+) -> Result<(), AllocError>
+    requires { IsPlaceOf (length rows.old.parts) role.now.part }
+    ensures parts { OnOk result (rows.new.parts ≡ rows.old.parts) }
+    ensures drawn { OnOk result (rows.new.drawn ≡ rows.old.drawn
+        ++ drawn_pin place id (role_in rows.old.parts role.now) pin) }
+    ensures hidden { OnOk result (rows.new.hidden ≡ rows.old.hidden
+        ++ hidden_pin place id (role_in rows.old.parts role.now) pin) }
+{
+    if pin.end.is_some() {
+        push_drawn_pin(rows, alloc, place, id, role, pin)?;
+        return Ok(());
     }
-
-    /// Takes in an object that is this shape: a net segment joins, with its attached `netname`s as
-    /// they print in its instance; no other shape does.
-    pub fn push_shape(
-        &mut self,
-        alloc: Global,
-        found: &InstanceObject<'_>,
-        shape: &Shape,
-    ) -> Result<(), AllocError>
-        requires body { found.now.flat.object.body ≡ bodies.Shape shape.now }
-        ensures drawn { OnOk result (self.new.drawn.items ≡
-            self.old.drawn.items ++ drawn_of_shape found.now.flat shape.now) }
-        ensures hidden { OnOk result (self.new.hidden.items ≡ self.old.hidden.items) }
-    {
-        match shape {
-            Shape::Net { x1, y1, x2, y2, .. } => {
-                let names = attrs_of(alloc, found.object(), None, "netname")?;
-                let printed = names_under(alloc, &found.instance().path, names.into_vec())?;
-                let a = Point { x: *x1, y: *y1 };
-                let b = Point { x: *x2, y: *y2 };
-                self.drawn.push(FlatConductor {
-                    instance: found.place(),
-                    key: Key {
-                        id: found.id(),
-                        place: 0,
-                    },
-                    shape: Some(Conductor::Segment { a, b }),
-                    global_names: Items::from_vec(Vec::new(alloc)),
-                    drawn_names: Items::from_vec(printed),
-                    member: None,
-                    leads_down: None,
-                    leads_up: None,
-                    directive: false,
-                })?;
-                Ok(())
-            }
-            _ => Ok(()),
-        }
+    match role.part {
+        Some(_) => push_hidden_pin(rows, alloc, place, id, role, pin),
+        None => Ok(()),
     }
+}
 
-    /// What is drawn, then the hidden pins.
-    pub fn in_order(self) -> Result<Vec<FlatConductor>, AllocError>
-        ensures { IfOk result (λ v. v.items ≡ self.drawn.items ++ self.hidden.items) }
-    {
-        let FlatConductors { drawn, hidden } = self;
-        let mut conductors = drawn;
-        let mut hidden = hidden;
-        conductors.append(&mut hidden)?;
-        Ok(conductors)
+/// Takes in the pins of a component that stands in an instance, at a place among all, in this role.
+/// A hidden pin joins where the component is a listed part.
+pub fn push_pins(
+    rows: &mut GrowingRows,
+    alloc: Global,
+    place: usize,
+    id: u32,
+    role: &PartRole,
+    pins: Items<PlacedPin>,
+) -> Result<(), AllocError>
+    requires { IsPlaceOf (length rows.old.parts) role.now.part }
+    ensures parts { OnOk result (rows.new.parts ≡ rows.old.parts) }
+    ensures drawn { OnOk result (rows.new.drawn ≡ rows.old.drawn
+        ++ flat_map (drawn_pin place id (role_in rows.old.parts role.now)) pins) }
+    ensures hidden { OnOk result (rows.new.hidden ≡ rows.old.hidden
+        ++ flat_map (hidden_pin place id (role_in rows.old.parts role.now)) pins) }
+{
+    for pin in pins.into_vec() {
+        push_pin(rows, alloc, place, id, role, pin)?;
+    }
+    Ok(())
+}
+
+/// Takes in an object that is this shape: a net segment joins, with its attached `netname`s as they
+/// print in its instance; no other shape does.
+pub fn push_shape(
+    rows: &mut GrowingRows,
+    alloc: Global,
+    found: &InstanceObject<'_>,
+    shape: &Shape,
+) -> Result<(), AllocError>
+    requires body { found.now.flat.object.body ≡ bodies.Shape shape.now }
+    ensures parts { OnOk result (rows.new.parts ≡ rows.old.parts) }
+    ensures drawn { OnOk result
+        (rows.new.drawn ≡ rows.old.drawn ++ drawn_of_shape found.now.flat shape.now) }
+    ensures hidden { OnOk result (rows.new.hidden ≡ rows.old.hidden) }
+{
+    match shape {
+        Shape::Net { x1, y1, x2, y2, .. } => {
+            let names = attrs_of(alloc, found.object(), None, "netname")?;
+            let printed = names_under(alloc, &found.instance().path, names.into_vec())?;
+            let a = Point { x: *x1, y: *y1 };
+            let b = Point { x: *x2, y: *y2 };
+            rows.push_drawn(NewConductor {
+                instance: found.place(),
+                key: Key {
+                    id: found.id(),
+                    place: 0,
+                },
+                shape: Some(Conductor::Segment { a, b }),
+                global_names: Items::from_vec(Vec::new(alloc)),
+                drawn_names: Items::from_vec(printed),
+                member: None,
+                leads_down: None,
+                leads_up: None,
+                directive: false,
+            })?;
+            Ok(())
+        }
+        _ => Ok(()),
     }
 }

@@ -13,4 +13,4 @@ mod project;
 mod roles;
 mod texts;
 
-pub use project::{FlatProject, flatten};
+pub use project::flatten;

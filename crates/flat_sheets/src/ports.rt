@@ -3,10 +3,10 @@ ghost use Rattle.std.specs.Prelude.{◌≡◌, if◌then◌else◌, IfOk, None};
 ghost use Rattle.instance_objects.specs.Ports.{component_above};
 ghost use Rattle.flat_sheets.specs.Ports.{pins_at};
 
+use flat_rows::PortPins;
 use geda_model::Block;
 use hierarchy::Instance;
 use instance_objects::component_above;
-use link_classes::PortPins;
 use std::alloc::{AllocError, Global};
 
 fn pins_at(

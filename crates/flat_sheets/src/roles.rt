@@ -11,10 +11,10 @@ ghost use Rattle.flat_sheets.specs.steps.RoleValues.{role_by};
 
 use crate::ports::pins_above;
 use attr_rules::FirstValues;
+use flat_rows::PortPins;
 use geda_model::{Component, Line};
 use hierarchy::Instance;
 use instance_objects::{InstanceObject, line_under};
-use link_classes::PortPins;
 use std::alloc::{AllocError, Global};
 use std::marker::Model;
 

@@ -3,8 +3,8 @@ use Rattle.std.proofs.Common.{◌≡◌, ℕ, ◌≢◌, pos, false, List, [], �
 use Rattle.std.specs.Prelude.{codes}
 use Rattle.geda_geom.specs.declared.conductor.Conductor.TheVariants.{End}
 use Rattle.geda_geom.specs.declared.conductor.Key.{Key}
-use Rattle.link_classes.specs.declared.conductors.FlatConductor.{FlatConductor}
-use Rattle.link_classes.specs.declared.conductors.PortPins.{PortPins}
+use Rattle.flat_rows.specs.Conductors.{FlatConductor}
+use Rattle.flat_rows.specs.declared.conductors.PortPins.{PortPins}
 use Rattle.link_classes.specs.InstanceGroups.{AreGrouped, Groups}
 use Rattle.link_classes.specs.Links.{AreTied, AreTouching, Linked}
 

@@ -4,11 +4,12 @@ use Rattle.std.specs.Bool.{Decides}
 use Rattle.std.specs.Prelude.{Contains}
 use Rattle.std.specs.Map.{update}
 use Rattle.std.specs.Option.{option_or}
-use Rattle.std.proofs.lemmas.List.{append-nil, append_assoc, get_or-map, length-map, length-take, map-append, take_all, take_more}
+use Rattle.std.proofs.lemmas.List.{append-nil, append_assoc, get_or-map, length-map, length-take, take_all, take_more}
 use Rattle.std.proofs.lemmas.List.Elements.{All-from_get_or, Contains-get_or, Contains-append_left, Contains-append_right, Contains-append_cases, Contains-push, Contains-push_cases}
-use Rattle.link_classes.specs.declared.conductors.FlatConductor.{FlatConductor}
-use Rattle.link_classes.specs.Links.{AtPlaces}
-use Rattle.link_classes.specs.steps.FirstPlaces.{AddsKey, Keyed, ShareKey, TiesKeys, keyed_at, keyed_from, pair_with}
+use Rattle.flat_rows.specs.Conductors.{FlatConductor}
+use Rattle.link_classes.specs.Links.{AtPlaces, names_of}
+use Rattle.flat_rows.specs.Keyed.{Keyed, keyed_at, keyed_from}
+use Rattle.link_classes.specs.steps.FirstPlaces.{AddsKey, ShareKey, TiesKeys, pair_with}
 use Rattle.pair_classes.specs.Pairs.{IsSameAt, Spans}
 use Rattle.pair_classes.proofs.LabelLemmas.{joined_by}
 use Rattle.link_classes.proofs.ListLemmas.{no_conductor}
@@ -98,14 +99,6 @@ AddsKey-from_written {K} {M} same_key tells key place old at written new value u
     AddsKey-from_update same_key tells key place old (at new) free (λ q. ap (λ (m : M). at m q) e ∙ updates q ∙ ap (λ (v : ℕ). update same_key old key (Some v) q) is)
 
 module _ {K : Type 0} where
-  -- one more key of a conductor
-  pub keyed_more : (keyed : List (Keyed K)) (place : ℕ) (ks : List K) (k : ℕ) (key : K) → k < length ks → key ≡ get_or ks k key
-      → (keyed ++ keyed_at place (take k ks)) ++ (key, place) ∷ [] ≡ keyed ++ keyed_at place (take (k + 1) ks)
-  keyed_more keyed place ks k key h is =
-      let whole : take (k + 1) ks ≡ take k ks ++ key ∷ [] = take_more ks k key h ∙ ap (λ (x : K). take k ks ++ x ∷ []) (sym is) in
-      append_assoc keyed (keyed_at place (take k ks)) ((key, place) ∷ [])
-      ∙ ap (λ (ns : List (Keyed K)). keyed ++ ns) (sym (ap (keyed_at place) whole ∙ map-append (λ (n : K). (n, place)) (take k ks) (key ∷ [])))
-
   -- a key at a place is a key of the conductor there
   at_has : (place : ℕ) (ks : List K) (q : K) (i : ℕ) → Contains (keyed_at place ks) (q, i) → (place ≡ i) × Contains ks q
   at_has place ks q i c =
@@ -159,8 +152,17 @@ module _ {K : Type 0} (keys : FlatConductor → List K) where
       subst (λ (n : ℕ). Contains (keyed_from keys place (f ∷ fs)) (q, n)) (omega arith)
       (Contains-append_right (keyed_at place (keys f)) (keyed_from keys (place + 1) fs) (q, place + 1 + k) (has_keyed (place + 1) fs q k d (omega arith) c))
 
+  -- the conductor there has the key
+  pub has_key : (fs : List FlatConductor) (q : K) (i : ℕ) (d : FlatConductor) → i < length fs → Contains (keys (get_or fs i d)) q → Contains (keyed_from keys 0 fs) (q, i)
+  has_key fs q i d h c = subst (λ (n : ℕ). Contains (keyed_from keys 0 fs) (q, n)) (omega arith) (has_keyed 0 fs q i d h c)
+
+  pub keyed_there : (fs : List FlatConductor) (q : K) (i : ℕ) → Contains (keyed_from keys 0 fs) (q, i) → (i < length fs) × ((d : FlatConductor) → Contains (keys (get_or fs i d)) q)
+  keyed_there fs q i c =
+      let lt : i < length fs = let h = keyed_has 0 fs q i no_conductor c in let a = h.1 in let b = h.2 in omega arith in
+      (lt, λ d. let h = keyed_has 0 fs q i d c in let e : h.0 ≡ i = let a = h.1 in omega arith in subst (λ (n : ℕ). Contains (keys (get_or fs n d)) q) e h.3)
+
   -- pairs of places with keys stand for keys in common
-  spans_keys : (first : K → Option ℕ) (pairs : List (ℕ × ℕ)) (fs : List FlatConductor) → TiesKeys first pairs (keyed_from keys 0 fs)
+  pub spans_keys : (first : K → Option ℕ) (pairs : List (ℕ × ℕ)) (fs : List FlatConductor) → TiesKeys first pairs (keyed_from keys 0 fs)
       → Spans (AtPlaces (ShareKey keys) fs) (length fs) pairs
   spans_keys first pairs fs ties = record {
     within = All-from_get_or (λ p. (p.0 < length fs) × (p.1 < length fs)) pairs (0, 0) (λ k h.
@@ -173,28 +175,20 @@ module _ {K : Type 0} (keys : FlatConductor → List K) where
     ];
     covers = λ f same i j at.
         let share = at.related no_conductor in
-        let one = ties.covers share.0 i (has_key share.0 i at.first share.1) in
-        let two = ties.covers share.0 j (has_key share.0 j at.second share.2) in
+        let one = ties.covers share.0 i (has_key fs share.0 i no_conductor at.first share.1) in
+        let two = ties.covers share.0 j (has_key fs share.0 j no_conductor at.second share.2) in
         let meet : one.0 ≡ two.0 = let h : Some one.0 ≡ Some two.0 = sym one.1 ∙ two.1 in cc in
         sym (own f same one.0 i one.2) ∙ ap f meet ∙ own f same two.0 j two.2;
   }
     where
-      has_key : (q : K) (i : ℕ) → i < length fs → Contains (keys (get_or fs i no_conductor)) q → Contains (keyed_from keys 0 fs) (q, i)
-      has_key q i h c = subst (λ (n : ℕ). Contains (keyed_from keys 0 fs) (q, n)) (omega arith) (has_keyed 0 fs q i no_conductor h c)
-
       share_turn : {a b : ℕ} → AtPlaces (ShareKey keys) fs a b → AtPlaces (ShareKey keys) fs b a
       share_turn at = record { first = at.second; second = at.first; related = λ d. let share = at.related d in (share.0, share.2, share.1) }
-
-      keyed_there : (q : K) (i : ℕ) → Contains (keyed_from keys 0 fs) (q, i) → (i < length fs) × ((d : FlatConductor) → Contains (keys (get_or fs i d)) q)
-      keyed_there q i c =
-          let lt : i < length fs = let h = keyed_has 0 fs q i no_conductor c in let a = h.1 in let b = h.2 in omega arith in
-          (lt, λ d. let h = keyed_has 0 fs q i d c in let e : h.0 ≡ i = let a = h.1 in omega arith in subst (λ (n : ℕ). Contains (keys (get_or fs n d)) q) e h.3)
 
       link : (i j : ℕ) → Contains pairs (i, j) → AtPlaces (ShareKey keys) fs i j
       link i j c =
           let h = ties.inside i j c in
-          let one = keyed_there h.0 i h.1 in
-          let two = keyed_there h.0 j h.2 in
+          let one = keyed_there fs h.0 i h.1 in
+          let two = keyed_there fs h.0 j h.2 in
           record { first = one.0; second = two.0; related = λ d. (h.0, one.1 d, two.1 d) }
 
       own : (f : ℕ → ℕ) → IsSameAt f pairs → (p i : ℕ) → (p ≡ i) ⊎ Contains pairs (p, i) → f p ≡ f i
@@ -204,3 +198,42 @@ module _ {K : Type 0} (keys : FlatConductor → List K) where
   pub spans_all : (first : K → Option ℕ) (pairs : List (ℕ × ℕ)) (fs : List FlatConductor) (k : ℕ) → length fs ≤ k → TiesKeys first pairs (keyed_from keys 0 (take k fs))
       → Spans (AtPlaces (ShareKey keys) fs) (length fs) pairs
   spans_all first pairs fs k h ties = spans_keys first pairs fs (subst (λ (xs : List FlatConductor). TiesKeys first pairs (keyed_from keys 0 xs)) (take_all k fs h) ties)
+
+-- the same pairs tie keys that stand in another order
+ties_like : {K : Type 0} (first : K → Option ℕ) (pairs : List (ℕ × ℕ)) (xs ys : List (Keyed K)) → ((q : K) (i : ℕ) → Contains xs (q, i) → Contains ys (q, i)) → ((q : K) (i : ℕ) → Contains ys (q, i) → Contains xs (q, i))
+    → TiesKeys first pairs xs → TiesKeys first pairs ys
+ties_like first pairs xs ys to back ties = record {
+  from = λ q p e. to q p (ties.from q p e);
+  inside = λ i j c. let h = ties.inside i j c in (h.0, to h.0 i h.1, to h.0 j h.2);
+  covers = λ q i c. ties.covers q i (back q i c);
+}
+
+abbrev global : FlatConductor → List (List ℕ)
+global f = f.global_names
+
+abbrev local : FlatConductor → List (List ℕ)
+local f = f.drawn_names
+
+-- names that are drawn behind global ones tie all names
+pub ties_names : (first : List ℕ → Option ℕ) (pairs : List (ℕ × ℕ)) (fs : List FlatConductor) (globals drawn : List (Keyed (List ℕ)))
+    → globals ≡ keyed_from (λ f. f.global_names) 0 fs → drawn ≡ keyed_from (λ f. f.drawn_names) 0 fs → TiesKeys first pairs (globals ++ drawn) → TiesKeys first pairs (keyed_from names_of 0 fs)
+ties_names first pairs fs globals drawn are_global are_drawn ties =
+    ties_like first pairs (keyed_from global 0 fs ++ keyed_from local 0 fs) (keyed_from names_of 0 fs) to back (rw (are_global, are_drawn) at ties)
+  where
+    to : (q : List ℕ) (i : ℕ) → Contains (keyed_from global 0 fs ++ keyed_from local 0 fs) (q, i) → Contains (keyed_from names_of 0 fs) (q, i)
+    to q i c = elim (Contains-append_cases (keyed_from global 0 fs) (keyed_from local 0 fs) (q, i) c) [
+      | inl one ↦
+          let h = keyed_there global fs q i one in
+          has_key names_of fs q i no_conductor h.0 (Contains-append_left (global (get_or fs i no_conductor)) (local (get_or fs i no_conductor)) q (h.1 no_conductor))
+      | inr other ↦
+          let h = keyed_there local fs q i other in
+          has_key names_of fs q i no_conductor h.0 (Contains-append_right (global (get_or fs i no_conductor)) (local (get_or fs i no_conductor)) q (h.1 no_conductor))
+    ]
+
+    back : (q : List ℕ) (i : ℕ) → Contains (keyed_from names_of 0 fs) (q, i) → Contains (keyed_from global 0 fs ++ keyed_from local 0 fs) (q, i)
+    back q i c =
+        let h = keyed_there names_of fs q i c in
+        elim (Contains-append_cases (global (get_or fs i no_conductor)) (local (get_or fs i no_conductor)) q (h.1 no_conductor)) [
+          | inl one ↦ Contains-append_left (keyed_from global 0 fs) (keyed_from local 0 fs) (q, i) (has_key global fs q i no_conductor h.0 one)
+          | inr other ↦ Contains-append_right (keyed_from global 0 fs) (keyed_from local 0 fs) (q, i) (has_key local fs q i no_conductor h.0 other)
+        ]

@@ -7,7 +7,7 @@ use Rattle.std.proofs.lemmas.Bool.Decides.{Decides-and, Decides-eqb, Decides-lik
 use Rattle.std.proofs.lemmas.List.Elements.{Contains-push}
 use Rattle.geda_defs.specs.Classes.{Joined}
 use Rattle.geda_geom.specs.declared.conductor.Key.{Key}
-use Rattle.link_classes.specs.declared.conductors.FlatConductor.{FlatConductor}
+use Rattle.flat_rows.specs.Conductors.{FlatConductor}
 use Rattle.link_classes.specs.InstanceGroups.{AreGrouped, AreInstanceGroups, Groups, IsIn}
 use Rattle.link_classes.specs.Links.{AreTouching, AtPlaces}
 use Rattle.link_classes.specs.steps.FirstPlaces.{ShareKey}

@@ -1,6 +1,7 @@
 pub mod ListLemmas
 pub mod FirstPlaceLemmas
 pub mod GroupLemmas
+pub mod RowLemmas
 pub mod PortLemmas
 pub mod LinkLemmas
 pub mod Cases

@@ -1,7 +1,7 @@
 -- Pairs for touching, for names and for ports together stand for what is linked.
 use Rattle.std.proofs.Common.{ℕ, ◌<◌, List, ◌++◌, length, append_assoc, subst, sym, inl, inr}
 use Rattle.geda_defs.specs.Classes.{AreClasses}
-use Rattle.link_classes.specs.declared.conductors.FlatConductor.{FlatConductor}
+use Rattle.flat_rows.specs.Conductors.{FlatConductor}
 use Rattle.link_classes.specs.Links.{AreTied, AreTouching, AtPlaces, Linked, ShareName}
 use Rattle.pair_classes.specs.Pairs.{ArePaired, Spans}
 use Rattle.pair_classes.proofs.SpanLemmas.{Either, spanned_classes, spans_either}

@@ -1,4 +1,3 @@
 pub mod Links
-pub mod PinOrder
 pub mod InstanceGroups
 pub mod steps

@@ -2,8 +2,8 @@
 use Rattle.std.specs.Prelude.{◌≡◌, ◌<◌, ◌⊎◌, ℕ, List, ◌++◌, Option, Some, length, slice_index_or, Contains}
 use Rattle.geda_geom.specs.declared.conductor.Conductor.{Conductor}
 use Rattle.geda_geom.specs.Touch.{Touch}
-use Rattle.link_classes.specs.declared.conductors.FlatConductor.{FlatConductor}
-use Rattle.link_classes.specs.declared.conductors.PortPins.{PortPins}
+use Rattle.flat_rows.specs.Conductors.{FlatConductor}
+use Rattle.flat_rows.specs.declared.conductors.PortPins.{PortPins}
 
 -- all its names
 abbrev pub names_of : FlatConductor → List (List ℕ)

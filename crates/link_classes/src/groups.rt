@@ -1,86 +1,66 @@
 // Pairs that stand for all that touches: the members of a group in an instance with the first one.
 ghost use Rattle.std.specs.Prelude.{◌≡◌, ◌++◌, List, length, IfOk, OnOk};
-ghost use Rattle.std.specs.BTreeMap.{IsOrdered, get};
+ghost use Rattle.std.specs.List.Sorted.{IsStrictlySortedBy};
+ghost use Rattle.std.specs.Map.{keys_of};
 ghost use Rattle.std.specs.Option.{option_to_list};
+ghost use Rattle.flat_rows.specs.Keyed.{Keyed, keyed_at};
 ghost use Rattle.geda_geom.specs.Keys.{by_key};
-ghost use Rattle.link_classes.specs.InstanceGroups.{AreInstanceGroups};
+ghost use Rattle.link_classes.specs.InstanceGroups.{AreInstanceGroups, groups_by};
 ghost use Rattle.link_classes.specs.Links.{AreTouching, AtPlaces};
-ghost use Rattle.link_classes.specs.steps.FirstPlaces.{AddsKey, Keyed, TiesKeys, keyed_at};
-ghost use Rattle.link_classes.specs.steps.FirstPlaces.{pair_with};
-ghost use Rattle.link_classes.specs.steps.GroupPlaces.{InstanceGroup, group_of, group_place};
+ghost use Rattle.link_classes.specs.steps.FirstPlaces.{AddsKey, TiesKeys, pair_with};
+ghost use Rattle.link_classes.specs.steps.GroupPlaces.{InstanceGroup, group_place, row_group};
 ghost use Rattle.link_classes.specs.steps.GroupPlaces.{same_group};
 ghost use Rattle.pair_classes.specs.Pairs.{Spans};
 
-use crate::conductors::FlatConductor;
+use flat_rows::{FlatRow, FlatRows};
 use geda_geom::Key;
 use std::alloc::{AllocError, Global};
+use std::collections::HashMap;
 use std::collections::hash_map::Entry;
-use std::collections::{BTreeMap, HashMap};
 
-/// The keys of conductors and of their groups, rising.
-fn group_rows(alloc: Global, groups: &BTreeMap<Key, Key>) -> Result<Vec<(Key, Key)>, AllocError>
-    ensures rows { IfOk result (λ rows. rows.items ≡ groups.now.entries) }
-    ensures ordered { IsOrdered by_key groups.now }
+/// The group of a key, if it has one, by a search. The place after that of its row comes next.
+fn searched_group(rows: &[(Key, Key)], next: &mut usize, key: Key) -> Option<Key>
+    requires rising { IsStrictlySortedBy by_key (keys_of rows.now) }
+    ensures { result ≡ groups_by rows.now key }
 {
-    let mut rows = Vec::with_capacity(alloc, groups.len())?;
-    for (key, group) in groups {
-        rows.push((*key, *group))?;
-    }
-    Ok(rows)
-}
-
-/// Whether a key has the row at a place.
-fn has_row(rows: &[(Key, Key)], place: usize, key: Key) -> bool {
-    match rows.get(place) {
-        Some(row) => row.0 == key,
-        None => false,
-    }
-}
-
-/// The place of the row of a key, if it has one. In an instance keys rise, so that it is the next
-/// place for the most part.
-fn row_place(rows: &[(Key, Key)], next: usize, key: Key) -> usize {
-    if has_row(rows, next, key) {
-        return next;
-    }
     match rows.binary_search_by_key(&key, |row| row.0) {
-        Ok(place) | Err(place) => place,
+        Ok(place) => {
+            *next = place.saturating_add(1);
+            Some(rows[place].1)
+        }
+        Err(_) => None,
     }
 }
 
-/// The group at a place, if its row is that of the key; else it is looked up.
-fn group_at(groups: &BTreeMap<Key, Key>, rows: &[(Key, Key)], place: usize, key: Key) -> Option<Key>
-    requires rows { rows.now ≡ groups.now.entries }
-    requires ordered { IsOrdered by_key groups.now }
-    ensures { result ≡ get by_key groups.now key }
+/// The group of a key, if it has one. In an instance keys rise, so that its row comes next for the
+/// most part.
+fn group_at(rows: &[(Key, Key)], next: &mut usize, key: Key) -> Option<Key>
+    requires rising { IsStrictlySortedBy by_key (keys_of rows.now) }
+    ensures { result ≡ groups_by rows.now key }
 {
-    if let Some(row) = rows.get(place) {
+    if let Some(row) = rows.get(*next) {
         if row.0 == key {
+            *next = next.saturating_add(1);
             return Some(row.1);
         }
     }
-    groups.get(&key).copied()
+    searched_group(rows, next, key)
 }
 
 /// The instance and the group of a conductor, if it is drawn and has a group. The place after that
-/// of its row comes next.
+/// of its key comes next.
 fn instance_group(
-    conductor: &FlatConductor,
-    groups: &BTreeMap<Key, Key>,
-    rows: &[(Key, Key)],
+    conductor: &FlatRow,
+    groups: &[(Key, Key)],
     next: &mut usize,
 ) -> Option<(usize, Key)>
-    requires rows { rows.now ≡ groups.now.entries }
-    requires ordered { IsOrdered by_key groups.now }
-    ensures { result ≡ group_of (get by_key groups.now) conductor.now }
+    requires rising { IsStrictlySortedBy by_key (keys_of groups.now) }
+    ensures { result ≡ row_group (groups_by groups.now) conductor.now }
 {
     if conductor.shape.is_none() {
         return None;
     }
-    let key = conductor.key;
-    let place = row_place(rows, *next, key);
-    *next = place.saturating_add(1);
-    let group = group_at(groups, rows, place, key)?;
+    let group = group_at(groups, next, conductor.key)?;
     Some((conductor.instance, group))
 }
 
@@ -126,19 +106,20 @@ fn tie_member(
 /// Pairs that stand for all that touches: at most one for each conductor.
 pub(crate) fn group_pairs(
     alloc: Global,
-    conductors: &[FlatConductor],
-    groups: &BTreeMap<Key, Key>,
+    flat: &FlatRows,
+    groups: &[(Key, Key)],
 ) -> Result<Vec<(usize, usize)>, AllocError>
-    requires { AreInstanceGroups conductors.now (get by_key groups.now) }
-    ensures { IfOk result (λ pairs.
-        Spans (AtPlaces AreTouching conductors.now) (length conductors.now) pairs.items) }
+    requires groups { AreInstanceGroups flat.now.conductors (groups_by groups.now) }
+    requires rising { IsStrictlySortedBy by_key (keys_of groups.now) }
+    ensures { IfOk result (λ pairs. Spans (AtPlaces AreTouching flat.now.conductors)
+        (length flat.now.conductors) pairs.items) }
 {
-    let rows = group_rows(alloc, groups)?;
+    let conductors = flat.rows();
     let mut first = HashMap::with_capacity(alloc, conductors.len())?;
     let mut pairs = Vec::with_capacity(alloc, conductors.len())?;
     let mut next = 0;
     for place in 0..conductors.len() {
-        let group = instance_group(&conductors[place], groups, &rows, &mut next);
+        let group = instance_group(&conductors[place], groups, &mut next);
         tie_member(&mut first, &mut pairs, group, place)?;
     }
     Ok(pairs)

@@ -8,12 +8,9 @@
 //! groups specs/InstanceGroups.antt.
 #![tactic(auto)]
 
-mod conductors;
 mod groups;
 mod labels;
 mod names;
-mod port_order;
 mod ports;
 
-pub use conductors::{FlatConductor, PortPins};
 pub use labels::class_labels;

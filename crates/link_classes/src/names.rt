@@ -2,12 +2,12 @@
 ghost use Rattle.std.specs.Prelude.{◌≡◌, ◌++◌, ℕ, List, length, IfOk, OnOk};
 ghost use Rattle.std.specs.HashMap.{get_by_text};
 ghost use Rattle.std.specs.Str.{bytes_eq};
-ghost use Rattle.link_classes.specs.steps.FirstPlaces.{AddsKey, Keyed, TiesKeys, keyed_at};
-ghost use Rattle.link_classes.specs.steps.FirstPlaces.{pair_with};
-ghost use Rattle.link_classes.specs.Links.{AtPlaces, ShareName, names_of};
+ghost use Rattle.flat_rows.specs.Keyed.{Keyed};
+ghost use Rattle.link_classes.specs.steps.FirstPlaces.{AddsKey, TiesKeys, pair_with};
+ghost use Rattle.link_classes.specs.Links.{AtPlaces, ShareName};
 ghost use Rattle.pair_classes.specs.Pairs.{Spans};
 
-use crate::conductors::FlatConductor;
+use flat_rows::FlatRows;
 use geda_model::Block;
 use std::alloc::{AllocError, Global};
 use std::collections::HashMap;
@@ -34,50 +34,31 @@ fn tie_name(
     Ok(())
 }
 
+/// Ties names, each with the place of its conductor.
 fn tie_names(
     first: &mut HashMap<String, usize>,
     pairs: &mut Vec<(usize, usize)>,
-    names: &[Block],
-    place: usize,
+    names: &[(Block, usize)],
 ) -> Result<(), AllocError>
     ensures { OnOk result ((keyed : List (Keyed (List ℕ)))
         → TiesKeys (get_by_text first.old) pairs.old.items keyed
-        → TiesKeys (get_by_text first.new) pairs.new.items (keyed ++ keyed_at place names.now)) }
+        → TiesKeys (get_by_text first.new) pairs.new.items (keyed ++ names.now)) }
 {
-    for name in names {
-        tie_name(first, pairs, name, place)?;
+    for row in names {
+        tie_name(first, pairs, &row.0, row.1)?;
     }
     Ok(())
 }
 
-/// Ties all names of a conductor, drawn or not.
-fn tie_conductor(
-    first: &mut HashMap<String, usize>,
-    pairs: &mut Vec<(usize, usize)>,
-    conductor: &FlatConductor,
-    place: usize,
-) -> Result<(), AllocError>
-    ensures { OnOk result ((keyed : List (Keyed (List ℕ)))
-        → TiesKeys (get_by_text first.old) pairs.old.items keyed
-        → TiesKeys (get_by_text first.new) pairs.new.items
-        (keyed ++ keyed_at place (names_of conductor.now))) }
-{
-    tie_names(first, pairs, conductor.global_names.as_slice(), place)?;
-    tie_names(first, pairs, conductor.drawn_names.as_slice(), place)
-}
-
-/// Pairs that tie all places with a name in common: at most one for each name of a place.
-pub(crate) fn name_pairs(
-    alloc: Global,
-    conductors: &[FlatConductor],
-) -> Result<Vec<(usize, usize)>, AllocError>
-    ensures { IfOk result
-        (λ pairs. Spans (AtPlaces ShareName conductors.now) (length conductors.now) pairs.items) }
+/// Pairs that tie all places with a name in common, drawn or not: at most one for each name of a
+/// place.
+pub(crate) fn name_pairs(alloc: Global, flat: &FlatRows) -> Result<Vec<(usize, usize)>, AllocError>
+    ensures { IfOk result (λ pairs. Spans (AtPlaces ShareName flat.now.conductors)
+        (length flat.now.conductors) pairs.items) }
 {
     let mut first = HashMap::new(alloc);
     let mut pairs = Vec::new(alloc);
-    for place in 0..conductors.len() {
-        tie_conductor(&mut first, &mut pairs, &conductors[place], place)?;
-    }
+    tie_names(&mut first, &mut pairs, flat.global_names())?;
+    tie_names(&mut first, &mut pairs, flat.drawn_names())?;
     Ok(pairs)
 }

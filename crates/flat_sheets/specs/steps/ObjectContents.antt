@@ -11,7 +11,7 @@ use Rattle.attr_rules.specs.Libraries.{library_of}
 use Rattle.pin_place.specs.declared.pins.PlacedPin.{PlacedPin}
 use Rattle.pin_place.specs.Pins.{is_drawn, pins_of}
 use Rattle.pin_place.specs.SymbolPins.{point}
-use Rattle.link_classes.specs.declared.conductors.FlatConductor.{FlatConductor}
+use Rattle.flat_rows.specs.Conductors.{FlatConductor}
 use Rattle.instance_objects.specs.Occurrences.{FlatObject, OccurrenceData, object_at}
 use Rattle.instance_objects.specs.Texts.{under}
 use Rattle.net_list.specs.declared.package.Package.{Package}

@@ -1,24 +1,11 @@
 -- Steps of the code; no public clause cites them.
 -- Keys of conductors gathered with their places: each further place of a key is paired with the
 -- first (own). A key is a name, or a group in an instance.
-use Rattle.std.specs.Prelude.{◌≡◌, ◌⊎◌, ℕ, ◌+◌, Bool, cond, Option, Some, None}
-use Rattle.std.specs.Prelude.{List, [], ◌∷◌, ◌++◌, Contains, map}
+use Rattle.std.specs.Prelude.{◌≡◌, ◌⊎◌, ℕ, Bool, cond, Option, Some, None}
+use Rattle.std.specs.Prelude.{List, [], ◌∷◌, Contains}
 use Rattle.std.specs.Option.{option_or}
-use Rattle.link_classes.specs.declared.conductors.FlatConductor.{FlatConductor}
-
--- a key and the place of a conductor that has it
-abbrev pub Keyed : Type 0 → Type 0
-Keyed K = K × ℕ
-
--- keys of a conductor, with its place
-abbrev pub keyed_at : {K : Type 0} → ℕ → List K → List (Keyed K)
-keyed_at place keys = map (λ key. (key, place)) keys
-
--- the keys of conductors, of which the first has this place
-abbrev pub keyed_from : {K : Type 0} → (FlatConductor → List K) → ℕ → List FlatConductor
-    → List (Keyed K)
-keyed_from keys place [] = []
-keyed_from keys place (c ∷ cs) = keyed_at place (keys c) ++ keyed_from keys (place + 1) cs
+use Rattle.flat_rows.specs.Conductors.{FlatConductor}
+use Rattle.flat_rows.specs.Keyed.{Keyed}
 
 -- two have a key in common
 abbrev pub ShareKey : {K : Type 0} → (FlatConductor → List K) → FlatConductor → FlatConductor

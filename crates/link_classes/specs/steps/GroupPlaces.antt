@@ -4,7 +4,9 @@ use Rattle.std.specs.Prelude.{ℕ, ◌==◌, Bool, ◌&&◌, cond, List, Option,
 use Rattle.std.specs.HashMap.{HashMap, get}
 use Rattle.std.specs.Option.{option_map, option_to_list}
 use Rattle.geda_geom.specs.declared.conductor.Key.{Key}
-use Rattle.link_classes.specs.declared.conductors.FlatConductor.{FlatConductor}
+use Rattle.flat_rows.specs.Conductors.{FlatConductor}
+use Rattle.flat_rows.specs.Rows.{row_of}
+use Rattle.flat_rows.specs.declared.rows.FlatRow.{FlatRow}
 use Rattle.link_classes.specs.InstanceGroups.{Groups}
 
 -- an instance, and the key that stands for a group in it
@@ -15,10 +17,14 @@ InstanceGroup = ℕ × Key
 abbrev pub same_group : InstanceGroup → InstanceGroup → Bool
 same_group a b = (a.0 == b.0) && ((a.1.id == b.1.id) && (a.1.place == b.1.place))
 
--- the instance and the group of a conductor, if it is drawn and has a group
+-- the instance and the group of the conductor of a row, if it is drawn and has a group
+abbrev pub row_group : Groups → FlatRow → Option InstanceGroup
+row_group groups row =
+    cond (is_some row.shape) (option_map (λ group. (row.instance, group)) (groups row.key)) None
+
+-- those of a conductor
 abbrev pub group_of : Groups → FlatConductor → Option InstanceGroup
-group_of groups f =
-    cond (is_some f.shape) (option_map (λ group. (f.instance, group)) (groups f.key)) None
+group_of groups f = row_group groups (row_of f)
 
 -- them as a list of one, or none
 abbrev pub groups_of : Groups → FlatConductor → List InstanceGroup

@@ -4,8 +4,8 @@ use Rattle.flat_sheets.proofs.contents.contents_of.Given as goal
 
 abbrev pub invariant-loop-occurrence : goal.invariant-loop-occurrence
 invariant-loop-occurrence l = record {
-  drawn : l.contents.conductors.drawn.items ++ drawn_in l.objects (drop l.occurrence-index l.occurrences) ≡ drawn_in l.objects l.occurrences;
-  hidden : l.contents.conductors.hidden.items ++ hidden_in l.objects (drop l.occurrence-index l.occurrences) ≡ hidden_in l.objects l.occurrences;
-  parts : l.contents.parts.items ++ parts_in l.objects (drop l.occurrence-index l.occurrences) ≡ parts_in l.objects l.occurrences;
+  drawn : l.rows.drawn ++ drawn_in l.objects (drop l.occurrence-index l.occurrences) ≡ drawn_in l.objects l.occurrences;
+  hidden : l.rows.hidden ++ hidden_in l.objects (drop l.occurrence-index l.occurrences) ≡ hidden_in l.objects l.occurrences;
+  parts : l.rows.parts ++ parts_in l.objects (drop l.occurrence-index l.occurrences) ≡ parts_in l.objects l.occurrences;
   same : l.tables ≡ l.objects;
 }
