@@ -5,7 +5,7 @@ use Rattle.std.specs.Fmt.{digits}
 use Rattle.geda_geom.specs.declared.conductor.Conductor.{Conductor}
 use Rattle.geda_geom.specs.declared.conductor.Conductor.TheVariants.{End}
 use Rattle.net_list.specs.declared.member.Member.{Member}
-use Rattle.link_classes.specs.declared.conductors.FlatConductor.{FlatConductor}
+use Rattle.flat_rows.specs.Conductors.{FlatConductor}
 use Rattle.net_list.specs.declared.package.Package.{Package}
 use Rattle.net_list.specs.declared.nets.Net.{Net}
 use Rattle.net_list.specs.declared.nets.NetSort.{NetSort}

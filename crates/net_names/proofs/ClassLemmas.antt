@@ -17,7 +17,7 @@ use Rattle.geda_geom.proofs.TouchLemmas.{touch_turn}
 use Rattle.hierarchy.proofs.ListLemmas.{all_filter_map, all_flat_map, all_none, contains_filter_map, contains_flat_map, contains_map}
 use Rattle.pair_classes.proofs.LabelLemmas.{joined_back, joined_keeps, joined_then, label_inside, labels_agree}
 use Rattle.pair_classes.proofs.ListLemmas.{head_is_in, none_is_in, tail_is_in}
-use Rattle.link_classes.specs.declared.conductors.FlatConductor.{FlatConductor}
+use Rattle.flat_rows.specs.Conductors.{FlatConductor}
 use Rattle.net_list.specs.declared.member.Member.{Member}
 use Rattle.link_classes.specs.Links.{AreTied, AreTouching, AtPlaces, Linked, ShapesTouch, ShareName, names_of}
 use Rattle.geda_defs.specs.Order.{by_bytes, once_in_order}

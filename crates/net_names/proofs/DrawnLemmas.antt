@@ -22,7 +22,7 @@ use Rattle.hierarchy.proofs.ListLemmas.{all_flat_map, all_map, all_none, contain
 use Rattle.pin_place.specs.declared.pins.PlacedPin.{PlacedPin}
 use Rattle.pin_place.specs.Pins.{conductors_of as drawn_on, drawn_end, is_drawn, pins_of}
 use Rattle.sheet_groups.specs.Conductors.{SheetConductor, conductors_at, sheet_conductor, sheet_conductors}
-use Rattle.link_classes.specs.declared.conductors.FlatConductor.{FlatConductor}
+use Rattle.flat_rows.specs.Conductors.{FlatConductor}
 use Rattle.instance_objects.specs.Occurrences.{FlatObject, flat_objects}
 use Rattle.instance_objects.proofs.FlatObjects.{flat, with_body}
 use Rattle.flat_sheets.specs.Conductors.{RoleData, conductors_of, drawn_of, hidden_of, pin_conductor, role_of}

@@ -1,15 +1,12 @@
--- The groups of the conductors of sheets as a map of keys: each key has the key of the first
+-- The groups of the conductors of sheets as rows of keys: each key has the key of the first
 -- conductor of its group.
 use Rattle.std.proofs.Common.{◌≡◌, ◌<◌, ℕ, zero, suc, List, [], ◌∷◌, Option, Some, None, length, get_or, refl, sym, ap, ◌∙◌, subst, inl, inr, arith}
-use Rattle.std.specs.BTreeMap.{BTreeMap, get}
 use Rattle.std.specs.List.{slice_get}
 use Rattle.std.specs.List.Sorted.{IsStrictlySortedBy}
-use Rattle.std.specs.Map.{keys_of}
 use Rattle.std.specs.declared.cmp.Ordering.TheVariants.{Less, Equal}
 use Rattle.std.specs.Cmp.{tied_itself}
 use Rattle.std.proofs.lemmas.Bool.{cases_lt}
 use Rattle.std.proofs.lemmas.List.{get_or-map, get_or_default, length-map}
-use Rattle.std.proofs.lemmas.Map.Entries.{btree_map_get_place}
 use Rattle.std.proofs.lemmas.Map.Keys.{Less-from_sorted}
 use Rattle.std.proofs.lemmas.Option.{get_or_from_slice_get, none-some, same_Some, slice_get-get_or, slice_get_within}
 use Rattle.geda_geom.specs.declared.conductor.Key.{Key}
@@ -19,7 +16,10 @@ use Rattle.geda_geom.proofs.TouchLemmas.{touch_turn}
 use Rattle.project_model.specs.Projects.{ProjectData}
 use Rattle.sheet_groups.specs.Conductors.{SheetConductor, sheet_conductors}
 use Rattle.sheet_groups.specs.Groups.{AreGroups, AreTouching, DoTouch, TouchAt, group_rows}
+use Rattle.sheet_groups.proofs.GroupLemmas.{groups_rise}
 use Rattle.sheet_groups.proofs.OrderLemmas.{conductor_keys_rise, keys_at}
+use Rattle.link_classes.specs.InstanceGroups.{groups_by}
+use Rattle.link_classes.proofs.RowLemmas.{group_of_row}
 use Rattle.pair_classes.proofs.LabelLemmas.{label_inside, labels_agree}
 
 -- the row at a place
@@ -29,12 +29,6 @@ row_at all [] labels a c len at = absurd (none-some c at)
 row_at all (d ∷ cs) [] a c len at = absurd (omega (arith, len))
 row_at all (d ∷ cs) (label ∷ labels) zero c len at = ap (λ (x : SheetConductor). Some (x.key, (get_or all label x).key)) (same_Some d c at)
 row_at all (d ∷ cs) (label ∷ labels) (suc a) c len at = row_at all cs labels a c (omega (arith, len)) at
-
--- the rows have the keys of the conductors
-keys_are : (all cs : List SheetConductor) (labels : List ℕ) → length labels ≡ length cs → keys_of (group_rows all cs labels) ≡ keys_at cs
-keys_are all [] labels len = refl
-keys_are all (c ∷ cs) [] len = absurd (omega (arith, len))
-keys_are all (c ∷ cs) (label ∷ labels) len = ap (λ (keys : List Key). c.key ∷ keys) (keys_are all cs labels (omega (arith, len)))
 
 -- one key is that of one place
 earlier_apart : (cs : List SheetConductor) → IsStrictlySortedBy by_key (keys_at cs) → (a b : ℕ) (c d : SheetConductor) → slice_get cs a ≡ Some c → slice_get cs b ≡ Some d
@@ -81,7 +75,7 @@ touching None (Some d) t = absurd t
 touching (Some c) None t = absurd t
 touching (Some c) (Some d) t = record { one = c; other = d; first_is = refl; second_is = refl; are = t }
 
-module _ (p : ProjectData) (groups : BTreeMap Key Key) (are : AreGroups (sheet_conductors p) groups.entries) where
+module _ (p : ProjectData) (groups : List (Key × Key)) (are : AreGroups (sheet_conductors p) groups) where
   abbrev all : List SheetConductor
   all = sheet_conductors p
 
@@ -90,12 +84,10 @@ module _ (p : ProjectData) (groups : BTreeMap Key Key) (are : AreGroups (sheet_c
   group_key a c = (get_or all (get_or are.labels a 0) c).key
 
   -- the group of a key
-  pub group_at : (a : ℕ) (c : SheetConductor) → slice_get all a ≡ Some c → get by_key groups c.key ≡ Some (group_key a c)
+  pub group_at : (a : ℕ) (c : SheetConductor) → slice_get all a ≡ Some c → groups_by groups c.key ≡ Some (group_key a c)
   group_at a c at =
       let len = are.are_labels.len in
-      let keys : keys_of groups.entries ≡ keys_at all = ap keys_of are.are_rows ∙ keys_are all all are.labels len in
-      btree_map_get_place by_key_total groups a c.key (group_key a c)
-      (subst (IsStrictlySortedBy by_key) (sym keys) (conductor_keys_rise p))
+      group_of_row groups (groups_rise p groups are) a c.key (group_key a c)
       (ap (λ (rows : List (Key × Key)). slice_get rows a) are.are_rows ∙ row_at all all are.labels a c len at)
 
   label_within : (a : ℕ) (c : SheetConductor) → slice_get all a ≡ Some c → get_or are.labels a 0 < length all
@@ -106,7 +98,7 @@ module _ (p : ProjectData) (groups : BTreeMap Key Key) (are : AreGroups (sheet_c
 
   -- one group has one label
   pub label_of_group : (a b : ℕ) (c d : SheetConductor) (group : Key) → slice_get all a ≡ Some c → slice_get all b ≡ Some d
-      → get by_key groups c.key ≡ Some group → get by_key groups d.key ≡ Some group → get_or are.labels a 0 ≡ get_or are.labels b 0
+      → groups_by groups c.key ≡ Some group → groups_by groups d.key ≡ Some group → get_or are.labels a 0 ≡ get_or are.labels b 0
   label_of_group a b c d group first second one other =
       let same : group_key a c ≡ group_key b d =
       same_Some (group_key a c) (group_key b d) (sym (group_at a c first) ∙ one ∙ sym other ∙ group_at b d second) in
@@ -115,7 +107,7 @@ module _ (p : ProjectData) (groups : BTreeMap Key Key) (are : AreGroups (sheet_c
 
   -- what touches is in one group
   pub group_of_touching : (a b : ℕ) (c d : SheetConductor) → slice_get all a ≡ Some c → slice_get all b ≡ Some d → TouchAt all a b
-      → get by_key groups d.key ≡ Some (group_key a c)
+      → groups_by groups d.key ≡ Some (group_key a c)
   group_of_touching a b c d first second t =
       let same : get_or are.labels a 0 ≡ get_or are.labels b 0 =
       labels_agree (TouchAt all) (length all) are.labels are.are_labels (touch_at_turn all) a b (slice_get_within all a c first) (slice_get_within all b d second) t in

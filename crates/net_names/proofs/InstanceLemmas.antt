@@ -1,22 +1,20 @@
 -- The groups of the conductors of sheets are groups in each instance: a chain of touching conductors
 -- of a sheet is one in each instance of the sheet.
 use Rattle.std.proofs.Common.{◌≡◌, ℕ, zero, suc, true, List, Option, Some, None, get_or, is_some, refl, sym, ap, ◌∙◌, subst, inl, true≢false}
-use Rattle.std.specs.BTreeMap.{BTreeMap, get}
 use Rattle.std.specs.List.{slice_get}
 use Rattle.std.proofs.lemmas.Option.{get_or_from_slice_get, same_Some, slice_get_within}
 use Rattle.geda_defs.specs.Classes.{Chain, Joined}
 use Rattle.geda_geom.specs.declared.conductor.Conductor.{Conductor}
 use Rattle.geda_geom.specs.declared.conductor.Conductor.TheVariants.{Segment, End}
 use Rattle.geda_geom.specs.declared.conductor.Key.{Key}
-use Rattle.geda_geom.specs.Keys.{by_key}
 use Rattle.geda_geom.specs.Touch.{Touch}
 use Rattle.project_model.specs.Projects.{ProjectData}
 use Rattle.hierarchy.specs.declared.instances.Instance.{Instance}
 use Rattle.hierarchy.specs.Instances.{instances_of}
 use Rattle.sheet_groups.specs.Conductors.{SheetConductor, sheet_conductors}
 use Rattle.sheet_groups.specs.Groups.{AreGroups, AreTouching as AreTouchingOnSheet, DoTouch, TouchAt}
-use Rattle.link_classes.specs.declared.conductors.FlatConductor.{FlatConductor}
-use Rattle.link_classes.specs.InstanceGroups.{AreGrouped, AreInstanceGroups}
+use Rattle.flat_rows.specs.Conductors.{FlatConductor}
+use Rattle.link_classes.specs.InstanceGroups.{AreGrouped, AreInstanceGroups, groups_by}
 use Rattle.link_classes.specs.Links.{AreTouching, AtPlaces, ShapesTouch}
 use Rattle.flat_sheets.specs.Conductors.{conductors_of}
 use Rattle.pair_classes.proofs.LabelLemmas.{joined_back, joined_by, joined_self, joined_then}
@@ -128,9 +126,9 @@ module _ (p : ProjectData) where
   shape_of m i a x f s at shape =
       same_Some s x.conductor.shape (sym shape ∙ ap (λ (g : FlatConductor). g.shape) (same_Some f x.flat (sym at ∙ x.flat_at)) ∙ x.drawn.shape)
 
-  module _ (groups : BTreeMap Key Key) (are : AreGroups (sheet_conductors p) groups.entries) where
+  module _ (groups : List (Key × Key)) (are : AreGroups (sheet_conductors p) groups) where
     abbrev Grouped : FlatConductor → FlatConductor → Type 0
-    Grouped = AreGrouped (get by_key groups)
+    Grouped = AreGrouped (groups_by groups)
 
     sound : (i j : ℕ) → AtPlaces Grouped (conductors_of p) i j → Joined Links i j
     sound i j places =
@@ -147,7 +145,7 @@ module _ (p : ProjectData) where
         let first = key_of f.0.instance i one.0 x f.0 f.1 in
         let second = key_of f.0.instance j other.0 y g.0 g.1 in
         let label = label_of_group p groups are one.0 other.0 x.conductor y.conductor both.group x.at y.at
-        (ap (get by_key groups) (sym first) ∙ both.first.has) (ap (get by_key groups) (sym second) ∙ both.second.has) in
+        (ap (groups_by groups) (sym first) ∙ both.first.has) (ap (groups_by groups) (sym second) ∙ both.second.has) in
         let touch = TouchAt all in
         let there = are.are_labels.chain one.0 (slice_get_within all one.0 x.conductor x.at) in
         let back = joined_back touch (touch_at_turn all) other.0 (get_or are.labels other.0 0) (are.are_labels.chain other.0 (slice_get_within all other.0 y.conductor y.at)) in
@@ -182,14 +180,14 @@ module _ (p : ProjectData) where
           group = group_key p groups are one.0 c;
           first = record {
             drawn = ap is_some shapes.first_is;
-            has = ap (get by_key groups) (key_of f.0.instance i one.0 x f.0 f.1) ∙ group_at p groups are one.0 c x.at;
+            has = ap (groups_by groups) (key_of f.0.instance i one.0 x f.0 f.1) ∙ group_at p groups are one.0 c x.at;
           };
           second = record {
             drawn = ap is_some shapes.second_is;
-            has = ap (get by_key groups) (key_of g.0.instance j other.0 y g.0 g.1) ∙ group_of_touching p groups are one.0 other.0 c d x.at y.at at;
+            has = ap (groups_by groups) (key_of g.0.instance j other.0 y g.0 g.1) ∙ group_of_touching p groups are one.0 other.0 c d x.at y.at at;
           };
         })
 
     -- the groups of the sheets are those of each instance
-    pub instance_groups : AreInstanceGroups (conductors_of p) (get by_key groups)
+    pub instance_groups : AreInstanceGroups (conductors_of p) (groups_by groups)
     instance_groups = record { sound = sound; full = full }

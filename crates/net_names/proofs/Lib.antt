@@ -1,7 +1,11 @@
+pub mod RankedNets
+pub mod PinLemmas
 pub mod GatheringLemmas
+pub mod GatheredLemmas
 pub mod NumberingLemmas
-pub mod ListingLemmas
+pub mod BodyLemmas
 pub mod PackageLemmas
+pub mod ListingLemmas
 pub mod Uniqueness
 pub mod PlaceLemmas
 pub mod FlatLemmas

@@ -11,7 +11,7 @@ use Rattle.attr_rules.specs.Libraries.{library_of}
 use Rattle.hierarchy.proofs.ListLemmas.{contains_flat_map, contains_map}
 use Rattle.pin_place.specs.declared.pins.PlacedPin.{PlacedPin}
 use Rattle.pin_place.specs.Pins.{is_drawn, pins_of}
-use Rattle.link_classes.specs.declared.conductors.FlatConductor.{FlatConductor}
+use Rattle.flat_rows.specs.Conductors.{FlatConductor}
 use Rattle.flat_sheets.specs.Conductors.{conductors_of, drawn_of, drawn_pins, hidden_of, hidden_pins, member_under, pin_conductor, role_of}
 use Rattle.flat_sheets.specs.ListedParts.{listed_refdes}
 use Rattle.instance_objects.specs.Occurrences.{FlatObject, flat_objects}

@@ -1,25 +1,30 @@
--- Classes put in order one by one, and numbered one by one, are the nets of conductors.
-use Rattle.std.proofs.Common.{◌≡◌, ℕ, ◌+◌, ◌-◌, ◌<◌, ◌==◌, ◌&&◌, not, Bool, true, false, cond, List, [], ◌∷◌, ◌++◌, Option, Some, None, length, map, filter, flat_map, fold, codes, replicate, Ordering, refl, sym, ap, ◌∙◌, arith}
-use Rattle.std.specs.Prelude.{slice_get, is_some}
-use Rattle.std.specs.declared.cmp.Ordering.TheVariants.{Less, Equal, Greater}
-use Rattle.std.specs.List.{range_with_len}
-use Rattle.std.specs.Ordering.{match_ordering, on}
-use Rattle.std.proofs.lemmas.List.{append-nil, append_assoc, length-map, get_or-map, length-replicate, get_or-replicate}
-use Rattle.std.proofs.lemmas.Bool.{ne_eqb}
-use Rattle.std.proofs.lemmas.List.FromFn.{fill_by_all}
-use Rattle.link_classes.specs.declared.conductors.FlatConductor.{FlatConductor}
+-- Nets of classes in order, numbered one by one, are the nets of conductors.
+use Rattle.std.proofs.Common.{◌≡◌, ℕ, ◌+◌, ◌-◌, ◌^◌, ◌<◌, ◌&&◌, not, Bool, true, false, cond, List, [], ◌∷◌, ◌++◌, length, map, filter, flat_map, fold, codes, refl, sym, ap, ◌∙◌, arith}
+use Rattle.std.specs.Prelude.{All}
+use Rattle.std.specs.List.{list_any, range_with_len}
+use Rattle.std.specs.Ordering.{on}
+use Rattle.std.specs.Str.{bytes_eq}
+use Rattle.std.specs.Fmt.{decimal}
+use Rattle.std.proofs.lemmas.List.{append-nil, append_assoc, length-map}
+use Rattle.std.proofs.lemmas.List.Elements.{All-get_or, filter_agree}
+use Rattle.geda_defs.specs.Order.{once_in_order, by_bytes}
+use Rattle.rank_order.specs.Classes.{met}
+use Rattle.flat_rows.specs.Conductors.{FlatConductor}
+use Rattle.flat_rows.specs.Keyed.{Keyed, keyed_at, keyed_from}
 use Rattle.link_classes.specs.Links.{names_of}
 use Rattle.net_list.specs.declared.nets.Net.{Net}
 use Rattle.net_list.specs.declared.nets.NetSort.{NetSort}
 use Rattle.net_list.specs.declared.nets.NetSort.TheVariants as sorts
-use Rattle.geda_defs.specs.Order.{once_in_order, by_bytes}
-use Rattle.net_names.specs.NetClasses.{labelled_from, NetClassData, net_class_of, has_pins}
-use Rattle.net_names.specs.NetLists.{is_named, is_unnamed, is_unconnected, named_net, net_of, by_least_pin, by_name, is_free, first_or, numbered, numbered_nets, nets_by}
+use Rattle.net_names.specs.NetClasses.{labelled_from, ClassPinData, NetClassData, net_class_of, net_classes, has_pins}
+use Rattle.net_names.specs.NetLists.{AreCountable, is_named, is_unnamed, is_unconnected, named_net, by_least_pin, is_free, numbered, numbered_nets, nets_by}
+use Rattle.net_names.specs.declared.net_classes.ClassBody.{ClassBody}
 use Rattle.net_names.specs.steps.Orders.{by_net_name}
-use Rattle.net_names.specs.steps.Gathering.{GrowingClassData, empty_class, lesser, gathered, one_or_none, as_net_class, with_named, named_in_order, with_class, in_order}
-use Rattle.net_names.specs.steps.Numbering.{taken_names, is_taken, free_below, AreNumbered}
-use Rattle.net_names.proofs.GatheringLemmas.{with_least, grown, grown_class, least_first, gathered_length, gathered_at}
-use Rattle.net_names.proofs.NumberingLemmas.{length_fold, length_taken_names, free_same, numbered_take}
+use Rattle.net_names.specs.steps.Classes.{bodies_of, body_of, named_of, with_body, with_named}
+use Rattle.net_names.specs.steps.Numbering.{taken_names, is_taken, free_below, AreNumbered, numbered_bodies}
+use Rattle.net_names.specs.steps.Pins.{label_of, pins_in_order}
+use Rattle.net_names.proofs.GatheringLemmas.{any_sorts}
+use Rattle.net_names.proofs.NumberingLemmas.{length_fold, length_taken_names, free_same, numbered_same, numbered_take}
+use Rattle.net_names.proofs.RankedNets.{classes_met, ordered, ordered_are}
 
 -- the nets of classes, where some names are used
 abbrev nets_of : List NetClassData → List (List ℕ) → List Net
@@ -28,163 +33,164 @@ nets_of classes used =
     ++ numbered_nets (codes "unnamed_net") sorts.Unnamed used (filter is_unnamed classes)
     ++ numbered_nets (codes "unconnected_pin-") sorts.Unconnected used (filter is_unconnected classes)
 
--- the gathered classes are those of all labels, with the least of their names alone
-gathered_classes : (conductors : List FlatConductor) (labels : List ℕ) → length labels ≡ length conductors
-    → map as_net_class (gathered conductors labels) ≡ map with_least (map (net_class_of (labelled_from 0 conductors labels)) (range_with_len 0 (length conductors)))
-gathered_classes conductors labels same =
-    let count = length conductors in
-    let growing = gathered conductors labels in
-    let ls = labelled_from 0 conductors labels in
-    let long : length (replicate count empty_class) ≡ count = length-replicate count empty_class in
-    let there : length growing ≡ count = gathered_length (replicate count empty_class) 0 conductors labels ∙ long in
-    fill_by_all (λ r. with_least (net_class_of ls r)) (map as_net_class growing) count (as_net_class empty_class) (length-map growing as_net_class ∙ there)
-    (λ r h.
-    let mine = filter (λ l. l.label == r) ls in
-    get_or-map as_net_class growing r empty_class (as_net_class empty_class) (omega arith)
-    ∙ ap as_net_class (gathered_at (replicate count empty_class) 0 conductors labels r (omega arith) (omega arith))
-    ∙ ap (λ (g : GrowingClassData). as_net_class (grown g mine)) (get_or-replicate count r empty_class empty_class h)
-    ∙ grown_class mine
-    )
-    ∙ twice with_least (net_class_of ls) (range_with_len 0 count)
+-- ---- names
+
+-- keys of conductors, without their places
+keys_flat : {K : Type 0} (keys : FlatConductor → List K) (s : ℕ) (cs : List FlatConductor) → map (λ k. k.0) (keyed_from keys s cs) ≡ flat_map keys cs
+keys_flat keys s [] = refl
+keys_flat {K} keys s (c ∷ cs) = behind (keyed_at s (keys c)) (keyed_from keys (s + 1) cs) ∙ ap (λ (xs : List K). xs ++ map (λ k. k.0) (keyed_from keys (s + 1) cs)) (alone (keys c)) ∙ ap (λ (xs : List K). keys c ++ xs) (keys_flat keys (s + 1) cs)
   where
-    twice : {A B C : Type 0} (g : B → C) (f : A → B) (xs : List A) → map (λ x. g (f x)) xs ≡ map g (map f xs)
-    twice g f [] = refl
-    twice g f (x ∷ xs) = ap (λ ys. g (f x) ∷ ys) (twice g f xs)
+    behind : (xs ys : List (Keyed K)) → map (λ k. k.0) (xs ++ ys) ≡ map (λ k. k.0) xs ++ map (λ k. k.0) ys
+    behind [] ys = refl
+    behind (x ∷ xs) ys = ap (λ (zs : List K). x.0 ∷ zs) (behind xs ys)
 
--- the first key of names in order is there, once one is
-first_stays : (least : List ℕ) (names : List (List ℕ)) → is_some (fold lesser (Some least) names) ≡ true
-first_stays least [] = refl
-first_stays least (name ∷ names) = by (by_name name least) (first_stays name names) (first_stays least names)
-  where
-    by : (r : Ordering) → is_some (fold lesser (Some name) names) ≡ true → is_some (fold lesser (Some least) names) ≡ true
-        → is_some (fold lesser (match_ordering r (Some name) (Some least) (Some least)) names) ≡ true
-    by Less f g = f
-    by Equal f g = g
-    by Greater f g = g
+    alone : (ks : List K) → map (λ k. k.0) (keyed_at s ks) ≡ ks
+    alone [] = refl
+    alone (k ∷ ks) = ap (λ (zs : List K). k ∷ zs) (alone ks)
 
--- a list with a first name is not empty
-has_first : (name : List ℕ) (names : List (List ℕ)) → not (length (name ∷ names) == 0) ≡ true
-has_first name names = rw (ne_eqb (length (name ∷ names)) 0 (λ e. omega (arith, e))) refl
+length_behind : {A : Type 0} (xs ys : List A) → length (xs ++ ys) ≡ length xs + length ys
+length_behind [] ys = omega arith
+length_behind (x ∷ xs) ys = let h = length_behind xs ys in omega (arith, h)
 
-some_named : (o : Option (List ℕ)) → is_some o ≡ true → not (length (one_or_none o) == 0) ≡ true
-some_named None e = absurd (let f : false ≡ true = e in cc)
-some_named (Some name) e = refl
+length_sorts : (cs : List FlatConductor) → length (flat_map names_of cs) ≡ length (flat_map (λ c. c.global_names) cs) + length (flat_map (λ c. c.drawn_names) cs)
+length_sorts [] = refl
+length_sorts (c ∷ cs) =
+    let h = length_sorts cs in
+    let a = length_behind (names_of c) (flat_map names_of cs) in
+    let b = length_behind c.global_names c.drawn_names in
+    let d = length_behind c.global_names (flat_map (λ (c : FlatConductor). c.global_names) cs) in
+    let e = length_behind c.drawn_names (flat_map (λ (c : FlatConductor). c.drawn_names) cs) in
+    omega (arith, h, a, b, d, e)
 
--- the least name alone tells whether there is one
-named_same : (c : NetClassData) → is_named (with_least c) ≡ is_named c
-named_same c = by c.names
-  where
-    by : (names : List (List ℕ)) → not (length (one_or_none (slice_get (once_in_order by_name names) 0)) == 0) ≡ not (length names == 0)
-    by [] = refl
-    by (name ∷ names) = some_named (slice_get (once_in_order by_name (name ∷ names)) 0) (ap is_some (sym (least_first [] (name ∷ names))) ∙ first_stays name names) ∙ sym (has_first name names)
+module _ (conductors : List FlatConductor) where
+  -- all names, the global ones first
+  abbrev pub sorted_names : List (List ℕ)
+  sorted_names = map (λ k. k.0) (keyed_from (λ (c : FlatConductor). c.global_names) 0 conductors) ++ map (λ k. k.0) (keyed_from (λ (c : FlatConductor). c.drawn_names) 0 conductors)
 
--- and it is the one that prints
-net_same : (c : NetClassData) → named_net (with_least c) ≡ named_net c
-net_same c = ap (λ (name : List ℕ). net_of name sorts.Named c) (by (once_in_order by_name c.names))
-  where
-    by : (names : List (List ℕ)) → first_or [] (once_in_order by_name (one_or_none (slice_get names 0))) ≡ first_or [] names
-    by [] = refl
-    by (name ∷ names) = refl
+  abbrev used : List (List ℕ)
+  used = flat_map names_of conductors
 
--- a class without a name is the same with the least of its names alone
-nameless_same : (c : NetClassData) → is_named c ≡ false → with_least c ≡ c
-nameless_same c e = by c.names refl
-  where
-    by : (names : List (List ℕ)) → c.names ≡ names → with_least c ≡ c
-    by [] f = ap (λ (names : List (List ℕ)). record { pins = c.pins; names = one_or_none (slice_get (once_in_order by_name names) 0); global = c.global; directive = c.directive; is_single_pin = c.is_single_pin }) f
-        ∙ sym (ap (λ (names : List (List ℕ)). record { pins = c.pins; names = names; global = c.global; directive = c.directive; is_single_pin = c.is_single_pin }) f)
-    by (name ∷ names) f = absurd (let g : true ≡ false = sym (has_first name names) ∙ sym (ap (λ (xs : List (List ℕ)). not (length xs == 0)) f) ∙ e in cc)
+  globals_flat : map (λ k. k.0) (keyed_from (λ (c : FlatConductor). c.global_names) 0 conductors) ≡ flat_map (λ c. c.global_names) conductors
+  globals_flat = keys_flat (λ c. c.global_names) 0 conductors
+
+  drawns_flat : map (λ k. k.0) (keyed_from (λ (c : FlatConductor). c.drawn_names) 0 conductors) ≡ flat_map (λ c. c.drawn_names) conductors
+  drawns_flat = keys_flat (λ c. c.drawn_names) 0 conductors
+
+  names_flat : sorted_names ≡ flat_map (λ c. c.global_names) conductors ++ flat_map (λ c. c.drawn_names) conductors
+  names_flat = ap (λ (xs : List (List ℕ)). xs ++ map (λ k. k.0) (keyed_from (λ (c : FlatConductor). c.drawn_names) 0 conductors)) globals_flat ∙ ap (λ (xs : List (List ℕ)). flat_map (λ c. c.global_names) conductors ++ xs) drawns_flat
+
+  length_used : length sorted_names ≡ length used
+  length_used = ap length names_flat ∙ length_behind (flat_map (λ c. c.global_names) conductors) (flat_map (λ c. c.drawn_names) conductors) ∙ sym (length_sorts conductors)
+
+  -- they can be counted where each of three lists can be
+  pub countable : (a b c : ℕ) → a ≡ length conductors → b ≡ length (keyed_from (λ (c : FlatConductor). c.global_names) 0 conductors) → c ≡ length (keyed_from (λ (c : FlatConductor). c.drawn_names) 0 conductors)
+      → a < 2 ^ 64 → b < 2 ^ 64 → c < 2 ^ 64 → AreCountable conductors
+  countable a b c e f g x y z =
+      let globals : length (flat_map (λ c. c.global_names) conductors) ≡ b = sym (ap length globals_flat) ∙ length-map (keyed_from (λ (c : FlatConductor). c.global_names) 0 conductors) (λ k. k.0) ∙ sym f in
+      let drawns : length (flat_map (λ c. c.drawn_names) conductors) ≡ c = sym (ap length drawns_flat) ∙ length-map (keyed_from (λ (c : FlatConductor). c.drawn_names) 0 conductors) (λ k. k.0) ∙ sym g in
+      let all = length_sorts conductors in
+      omega (arith, globals, drawns, all, e, x, y, z)
+
+  -- names in either order leave the same numbers free
+  free_either : (prefix : List ℕ) (ns : List ℕ) → filter (is_free prefix used) ns ≡ filter (is_free prefix sorted_names) ns
+  free_either prefix ns = filter_agree (is_free prefix used) (is_free prefix sorted_names)
+      (λ n. ap not (any_sorts (bytes_eq (prefix ++ decimal n)) (λ (c : FlatConductor). c.global_names) (λ (c : FlatConductor). c.drawn_names) conductors ∙ ap (list_any (bytes_eq (prefix ++ decimal n))) (sym names_flat))) ns
+
+  -- numbers as they are given one by one are those of the definition
+  numbers_same : (prefix : List ℕ) (sort : NetSort) (kept : List NetClassData)
+      → numbered prefix sort (free_below prefix (taken_names prefix sorted_names) 1 (1 + (length kept + length used))) (once_in_order by_least_pin kept)
+      ≡ numbered_nets prefix sort used kept
+  numbers_same prefix sort kept =
+      let few = length_fold by_least_pin [] kept in
+      let all = range_with_len 1 (length kept + length used) in
+      let range : 1 + (length kept + length used) - 1 ≡ length kept + length used = omega arith in
+      let free : free_below prefix (taken_names prefix sorted_names) 1 (1 + (length kept + length used)) ≡ filter (is_free prefix used) all =
+      ap (λ (n : ℕ). filter (λ m. not (is_taken prefix (taken_names prefix sorted_names) m)) (range_with_len 1 n)) range ∙ sym (free_same prefix sorted_names all) ∙ sym (free_either prefix all) in
+      ap (λ (ns : List ℕ). numbered prefix sort ns (once_in_order by_least_pin kept)) free
+      ∙ sym (numbered_take prefix sort (length kept) (filter (is_free prefix used) all) (once_in_order by_least_pin kept) (omega (arith, few)))
+
+  -- nets that grow by those of bodies, numbered
+  numbers_grow : (prefix : List ℕ) (sort : NetSort) (taken : List (List ℕ)) (bodies : List ClassBody) (kept : List NetClassData) (old new : List Net)
+      → taken ≡ taken_names prefix sorted_names → bodies ≡ map body_of (once_in_order by_least_pin kept) → AreNumbered prefix sort taken bodies old new
+      → new ≡ old ++ numbered_nets prefix sort used kept
+  numbers_grow prefix sort taken bodies kept old new e f numbers =
+      let few = length_taken_names prefix sorted_names in
+      let fewer = length_fold by_least_pin [] kept in
+      let mapped = length-map (once_in_order by_least_pin kept) body_of in
+      let stop = 1 + (length kept + length used) in
+      let long : length taken + length bodies < stop = omega (arith, few, fewer, ap length e, ap length f, mapped, length_used) in
+      numbers stop long
+      ∙ ap (λ (names : List (List ℕ)). old ++ numbered_bodies prefix sort (free_below prefix names 1 stop) bodies) e
+      ∙ ap (λ (bs : List ClassBody). old ++ numbered_bodies prefix sort (free_below prefix (taken_names prefix sorted_names) 1 stop) bs) f
+      ∙ ap (λ (nets : List Net). old ++ nets) (numbered_same prefix sort (free_below prefix (taken_names prefix sorted_names) 1 stop) (once_in_order by_least_pin kept) ∙ numbers_same prefix sort kept)
+
+-- ---- classes
 
 -- nets put in one by one are those of the classes that have members and a name
-with_nets : (ks : List Net) (cs : List NetClassData)
-    → fold with_named ks (map with_least cs) ≡ ks ++ map named_net (filter is_named (filter has_pins cs))
+with_nets : (ks : List Net) (cs : List NetClassData) → fold with_named ks cs ≡ ks ++ map named_net (filter is_named (filter has_pins cs))
 with_nets ks [] = sym (append-nil ks)
-with_nets ks (c ∷ cs) = with_nets (with_named ks (with_least c)) cs ∙ by (has_pins c) (is_named c) refl
+with_nets ks (c ∷ cs) = with_nets (with_named ks c) cs ∙ by (has_pins c) (is_named c) refl
   where
     by : (a b : Bool) → is_named c ≡ b
-        → cond (a && is_named (with_least c)) (ks ++ named_net (with_least c) ∷ []) ks ++ map named_net (filter is_named (filter has_pins cs))
+        → cond (a && b) (ks ++ named_net c ∷ []) ks ++ map named_net (filter is_named (filter has_pins cs))
         ≡ ks ++ map named_net (filter is_named (cond a (c ∷ filter has_pins cs) (filter has_pins cs)))
-    by true true e = rw (named_same c, e, net_same c) (append_assoc ks (named_net c ∷ []) (map named_net (filter is_named (filter has_pins cs))))
-    by true false e = rw (named_same c, e) refl
+    by true true e = rw e (append_assoc ks (named_net c ∷ []) (map named_net (filter is_named (filter has_pins cs))))
+    by true false e = rw e refl
     by false b e = refl
 
--- a test of classes without names
-abbrev NamelessTest : (NetClassData → Bool) → Type 0
-NamelessTest test = (c : NetClassData) → is_named c ≡ true → test c ≡ false
-
-unnamed_test : NamelessTest is_unnamed
-unnamed_test c e = rw e refl
-
-unconnected_test : NamelessTest is_unconnected
-unconnected_test c e = rw e refl
-
--- classes put in one by one are those that have members and pass
-with_classes : (test : NetClassData → Bool) → NamelessTest test → (ks cs : List NetClassData)
-    → fold (with_class test) ks (map with_least cs) ≡ ks ++ filter test (filter has_pins cs)
-with_classes test nameless ks [] = sym (append-nil ks)
-with_classes test nameless ks (c ∷ cs) = with_classes test nameless (with_class test ks (with_least c)) cs ∙ by (has_pins c) (is_named c) (test c) refl refl
+-- so are bodies of those that pass
+with_bodies : (t : NetClassData → Bool) (ks : List ClassBody) (cs : List NetClassData) → fold (with_body t) ks cs ≡ ks ++ map body_of (filter t cs)
+with_bodies t ks [] = sym (append-nil ks)
+with_bodies t ks (c ∷ cs) = with_bodies t (with_body t ks c) cs ∙ by (t c)
   where
-    by : (a b d : Bool) → is_named c ≡ b → test c ≡ d
-        → cond (a && test (with_least c)) (ks ++ with_least c ∷ []) ks ++ filter test (filter has_pins cs)
-        ≡ ks ++ filter test (cond a (c ∷ filter has_pins cs) (filter has_pins cs))
-    by false b d e f = refl
-    by true true d e f = rw (nameless (with_least c) (named_same c ∙ e), nameless c e) refl
-    by true false true e f = rw (nameless_same c e, f) (append_assoc ks (c ∷ []) (filter test (filter has_pins cs)))
-    by true false false e f = rw (nameless_same c e, f) refl
+    by : (b : Bool) → cond b (ks ++ body_of c ∷ []) ks ++ map body_of (filter t cs) ≡ ks ++ map body_of (cond b (c ∷ filter t cs) (filter t cs))
+    by true = append_assoc ks (body_of c ∷ []) (map body_of (filter t cs))
+    by false = refl
 
--- numbers as they are given one by one are those of the definition
-numbers_same : (prefix : List ℕ) (sort : NetSort) (used : List (List ℕ)) (kept : List NetClassData)
-    → numbered prefix sort (free_below prefix (taken_names prefix used) 1 (1 + (length kept + length used))) (once_in_order by_least_pin kept)
-    ≡ numbered_nets prefix sort used kept
-numbers_same prefix sort used kept =
-    let few = length_fold by_least_pin [] kept in
-    let range : 1 + (length kept + length used) - 1 ≡ length kept + length used = omega arith in
-    let free : free_below prefix (taken_names prefix used) 1 (1 + (length kept + length used)) ≡ filter (is_free prefix used) (range_with_len 1 (length kept + length used)) =
-    ap (λ (n : ℕ). filter (λ m. not (is_taken prefix (taken_names prefix used) m)) (range_with_len 1 n)) range ∙ sym (free_same prefix used (range_with_len 1 (length kept + length used))) in
-    ap (λ (ns : List ℕ). numbered prefix sort ns (once_in_order by_least_pin kept)) free
-    ∙ sym (numbered_take prefix sort (length kept) (filter (is_free prefix used) (range_with_len 1 (length kept + length used))) (once_in_order by_least_pin kept) (omega (arith, few)))
+filter_image : (t : NetClassData → Bool) (f : ℕ → NetClassData) (rs : List ℕ) → filter t (map f rs) ≡ map f (filter (λ r. t (f r)) rs)
+filter_image t f [] = refl
+filter_image t f (r ∷ rs) = by (t (f r)) (filter_image t f rs)
+  where
+    by : (b : Bool) → filter t (map f rs) ≡ map f (filter (λ r. t (f r)) rs)
+        → cond b (f r ∷ filter t (map f rs)) (filter t (map f rs)) ≡ map f (cond b (r ∷ filter (λ r. t (f r)) rs) (filter (λ r. t (f r)) rs))
+    by true h = ap (λ (cs : List NetClassData). f r ∷ cs) h
+    by false h = h
 
--- nets that grow by those of classes, numbered
-numbers_grow : (prefix : List ℕ) (sort : NetSort) (used taken : List (List ℕ)) (classes kept : List NetClassData) (old new : List Net)
-    → taken ≡ taken_names prefix used → classes ≡ once_in_order by_least_pin kept → AreNumbered prefix sort taken classes old new
-    → new ≡ old ++ numbered_nets prefix sort used kept
-numbers_grow prefix sort used taken classes kept old new e f numbers =
-    let few = length_taken_names prefix used in
-    let fewer = length_fold by_least_pin [] kept in
-    let long : length taken + length classes < 1 + (length kept + length used) = omega (arith, few, fewer, ap length e, ap length f) in
-    numbers (1 + (length kept + length used)) long
-    ∙ ap (λ (names : List (List ℕ)). old ++ numbered prefix sort (free_below prefix names 1 (1 + (length kept + length used))) classes) e
-    ∙ ap (λ (cs : List NetClassData). old ++ numbered prefix sort (free_below prefix (taken_names prefix used) 1 (1 + (length kept + length used))) cs) f
-    ∙ ap (λ (nets : List Net). old ++ nets) (numbers_same prefix sort used kept)
+module _ (conductors : List FlatConductor) (labels : List ℕ) (len : length labels ≡ length conductors) (below : All (λ label. label < length conductors) labels) where
+  abbrev C : ℕ → NetClassData
+  C = net_class_of (labelled_from 0 conductors labels)
 
--- named nets, then unnamed ones, then unconnected ones
-in_parts : (classes : List NetClassData) (used : List (List ℕ)) (named nets all : List Net)
-    → named ≡ once_in_order by_net_name (map named_net (filter is_named classes))
-    → nets ≡ named ++ numbered_nets (codes "unnamed_net") sorts.Unnamed used (filter is_unnamed classes)
-    → all ≡ nets ++ numbered_nets (codes "unconnected_pin-") sorts.Unconnected used (filter is_unconnected classes)
-    → all ≡ nets_of classes used
-in_parts classes used named nets all e f g =
-    let alone = numbered_nets (codes "unconnected_pin-") sorts.Unconnected used (filter is_unconnected classes) in
-    let unnamed = numbered_nets (codes "unnamed_net") sorts.Unnamed used (filter is_unnamed classes) in
-    g ∙ ap (λ (x : List Net). x ++ alone) (f ∙ ap (λ (x : List Net). x ++ unnamed) e)
+  abbrev classes : List NetClassData
+  classes = net_classes (labelled_from 0 conductors labels) (length conductors)
 
--- the nets of conductors: first the named ones, then the unnamed and the unconnected ones
-pub nets_by_steps : (conductors : List FlatConductor) (labels : List ℕ) (growing : List GrowingClassData)
-    (taken taken_alone : List (List ℕ)) (named : List Net) (unnamed unconnected : List NetClassData) (nets all : List Net)
-    → length labels ≡ length conductors → growing ≡ gathered conductors labels
-    → taken ≡ taken_names (codes "unnamed_net") (flat_map names_of conductors)
-    → taken_alone ≡ taken_names (codes "unconnected_pin-") (flat_map names_of conductors)
-    → named ≡ named_in_order growing → unnamed ≡ in_order is_unnamed growing → unconnected ≡ in_order is_unconnected growing
-    → AreNumbered (codes "unnamed_net") sorts.Unnamed taken unnamed named nets
-    → AreNumbered (codes "unconnected_pin-") sorts.Unconnected taken_alone unconnected nets all
-    → all ≡ nets_by conductors labels
-nets_by_steps conductors labels growing taken taken_alone named unnamed unconnected nets all len same t a n u v first second =
-    let used = flat_map names_of conductors in
-    let cs = map (net_class_of (labelled_from 0 conductors labels)) (range_with_len 0 (length conductors)) in
-    let least : map as_net_class growing ≡ map with_least cs = ap (map as_net_class) same ∙ gathered_classes conductors labels len in
-    let nets_named = n ∙ ap (λ (xs : List NetClassData). once_in_order by_net_name (fold with_named [] xs)) least ∙ ap (once_in_order by_net_name) (with_nets [] cs) in
-    let classes_unnamed = u ∙ ap (λ (xs : List NetClassData). once_in_order by_least_pin (fold (with_class is_unnamed) [] xs)) least ∙ ap (once_in_order by_least_pin) (with_classes is_unnamed unnamed_test [] cs) in
-    let classes_alone = v ∙ ap (λ (xs : List NetClassData). once_in_order by_least_pin (fold (with_class is_unconnected) [] xs)) least ∙ ap (once_in_order by_least_pin) (with_classes is_unconnected unconnected_test [] cs) in
-    let with_unnamed = numbers_grow (codes "unnamed_net") sorts.Unnamed used taken unnamed (filter is_unnamed (filter has_pins cs)) named nets t classes_unnamed first in
-    let with_alone = numbers_grow (codes "unconnected_pin-") sorts.Unconnected used taken_alone unconnected (filter is_unconnected (filter has_pins cs)) nets all a classes_alone second in
-    in_parts (filter has_pins cs) used named nets all nets_named with_unnamed with_alone
+  -- bodies of labels as they are met are those of the classes in order
+  bodies_met : (t : NetClassData → Bool) → bodies_of conductors labels t (met (label_of labels) (pins_in_order conductors)) ≡ map body_of (once_in_order by_least_pin (filter t classes))
+  bodies_met t =
+      ap (λ (ps : List ClassPinData). bodies_of conductors labels t (met (label_of labels) ps)) (ordered_are conductors labels len)
+      ∙ with_bodies t [] (map C (met (label_of labels) once_ordered))
+      ∙ ap (map body_of) (filter_image t C (met (label_of labels) once_ordered) ∙ sym (classes_met conductors labels len t (λ i h. All-get_or (λ label. label < length conductors) labels i 0 h below)))
+    where
+      once_ordered : List ClassPinData
+      once_ordered = ordered conductors labels len
+
+  -- the nets of conductors: first the named ones, then the unnamed and the unconnected ones
+  pub nets_by_steps : (count : ℕ) (met_labels : List ℕ) (taken taken_alone : List (List ℕ)) (nets_named named nets all : List Net) (unnamed unconnected : List ClassBody)
+      → count ≡ length conductors → met_labels ≡ met (label_of labels) (pins_in_order conductors)
+      → taken ≡ taken_names (codes "unnamed_net") (sorted_names conductors)
+      → taken_alone ≡ taken_names (codes "unconnected_pin-") (sorted_names conductors)
+      → nets_named ≡ named_of conductors labels (range_with_len 0 count) → named ≡ once_in_order by_net_name nets_named
+      → unnamed ≡ bodies_of conductors labels is_unnamed met_labels → unconnected ≡ bodies_of conductors labels is_unconnected met_labels
+      → AreNumbered (codes "unnamed_net") sorts.Unnamed taken unnamed named nets
+      → AreNumbered (codes "unconnected_pin-") sorts.Unconnected taken_alone unconnected nets all
+      → all ≡ nets_by conductors labels
+  nets_by_steps count met_labels taken taken_alone nets_named named nets all unnamed unconnected counted m t a n o u v first second =
+      let used = flat_map names_of conductors in
+      let sorted : named ≡ once_in_order by_net_name (map named_net (filter is_named classes)) =
+      o ∙ ap (once_in_order by_net_name) (n ∙ ap (λ (k : ℕ). named_of conductors labels (range_with_len 0 k)) counted ∙ with_nets [] (map C (range_with_len 0 (length conductors)))) in
+      let bodies_unnamed = u ∙ ap (bodies_of conductors labels is_unnamed) m ∙ bodies_met is_unnamed in
+      let bodies_alone = v ∙ ap (bodies_of conductors labels is_unconnected) m ∙ bodies_met is_unconnected in
+      let with_unnamed = numbers_grow conductors (codes "unnamed_net") sorts.Unnamed taken unnamed (filter is_unnamed classes) named nets t bodies_unnamed first in
+      let with_alone = numbers_grow conductors (codes "unconnected_pin-") sorts.Unconnected taken_alone unconnected (filter is_unconnected classes) nets all a bodies_alone second in
+      let alone = numbered_nets (codes "unconnected_pin-") sorts.Unconnected used (filter is_unconnected classes) in
+      let middle = numbered_nets (codes "unnamed_net") sorts.Unnamed used (filter is_unnamed classes) in
+      with_alone ∙ ap (λ (x : List Net). x ++ alone) (with_unnamed ∙ ap (λ (x : List Net). x ++ middle) sorted)

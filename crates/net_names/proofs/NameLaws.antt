@@ -14,7 +14,7 @@ use Rattle.std.proofs.lemmas.Slice.Eq.{bytes_eq-Decides}
 use Rattle.geda_defs.specs.Classes.{AreClasses}
 use Rattle.hierarchy.proofs.ListLemmas.{all_none}
 use Rattle.pair_classes.proofs.ListLemmas.{in_cases, none_is_in}
-use Rattle.link_classes.specs.declared.conductors.FlatConductor.{FlatConductor}
+use Rattle.flat_rows.specs.Conductors.{FlatConductor}
 use Rattle.link_classes.specs.Links.{Linked, names_of}
 use Rattle.geda_defs.specs.Order.{once_in_order}
 use Rattle.net_list.specs.declared.nets.Net.{Net}

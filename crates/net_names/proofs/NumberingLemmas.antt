@@ -1,5 +1,5 @@
 -- Numbers that skip the names that are taken, one by one and all at once.
-use Rattle.std.proofs.Common.{◌≡◌, ◌≢◌, ℕ, zero, suc, ◌+◌, ◌-◌, ◌^◌, ◌≤◌, ◌<◌, ◌==◌, ◌||◌, not, Bool, true, false, cond, List, [], ◌∷◌, ◌++◌, length, take, filter, fold, decimal, bytes_eq, Ordering, refl, sym, ap, subst, ◌∙◌, arith, inl, inr}
+use Rattle.std.proofs.Common.{◌≡◌, ◌≢◌, ℕ, zero, suc, ◌+◌, ◌-◌, ◌^◌, ◌≤◌, ◌<◌, ◌==◌, ◌||◌, not, Bool, true, false, cond, List, [], ◌∷◌, ◌++◌, length, map, take, filter, fold, decimal, bytes_eq, Ordering, refl, sym, ap, subst, ◌∙◌, arith, inl, inr}
 use Rattle.std.specs.declared.cmp.Ordering.TheVariants.{Less, Equal, Greater}
 use Rattle.std.specs.List.{list_any, range_with_len, starts_with}
 use Rattle.std.specs.Ordering.{is_eq, match_ordering}
@@ -18,7 +18,9 @@ use Rattle.net_list.specs.declared.nets.NetSort.{NetSort}
 use Rattle.net_names.specs.NetClasses.{NetClassData}
 use Rattle.net_names.specs.NetLists.{is_free, numbered, net_of}
 use Rattle.geda_defs.specs.Order.{by_bytes, is_equal}
-use Rattle.net_names.specs.steps.Numbering.{with_taken, taken_names, is_taken, free_below, AllTaken, TakeSame, IsNextFree}
+use Rattle.net_names.specs.steps.Numbering.{with_taken, taken_names, is_taken, free_below, AllTaken, TakeSame, IsNextFree, numbered_bodies}
+use Rattle.net_names.specs.declared.net_classes.ClassBody.{ClassBody}
+use Rattle.net_names.specs.steps.Classes.{body_of, net_with}
 
 -- what passes the test of equals is one
 equal_if : (r : Ordering) → is_eq r ≡ true → r ≡ Equal
@@ -71,14 +73,14 @@ free_first prefix taken (suc k) n r stop e h skipped free =
     ∙ ap (λ (b : Bool). cond (not b) (n ∷ free_below prefix taken (n + 1) stop) (free_below prefix taken (n + 1) stop)) (skipped n (omega arith) (omega arith))
     ∙ free_first prefix taken k (n + 1) r stop (omega arith) h (λ m low high. skipped m (omega arith) high) free
 
--- the first class takes the first number that is free
-numbers_next : (prefix : List ℕ) (sort : NetSort) (old taken new : List (List ℕ)) (n r stop : ℕ) (c : NetClassData) (cs : List NetClassData)
+-- the first body takes the first number that is free
+numbers_next : (prefix : List ℕ) (sort : NetSort) (old taken new : List (List ℕ)) (n r stop : ℕ) (c : ClassBody) (cs : List ClassBody)
     → r < 2 ^ 64 → r < stop → TakeSame prefix old taken n → IsNextFree prefix taken new n r
-    → numbered prefix sort (free_below prefix old n stop) (c ∷ cs) ≡ net_of (prefix ++ decimal r) sort c ∷ numbered prefix sort (free_below prefix old (r + 1) stop) cs
+    → numbered_bodies prefix sort (free_below prefix old n stop) (c ∷ cs) ≡ net_with (prefix ++ decimal r) sort c ∷ numbered_bodies prefix sort (free_below prefix old (r + 1) stop) cs
 numbers_next prefix sort old taken new n r stop c cs small below same next =
     let skipped : AllTaken prefix old n r = λ m low high. sym (same m low (omega arith)) ∙ next.skipped m low high in
     let free : is_taken prefix old r ≡ false = sym (same r next.above small) ∙ next.free in
-    ap (λ (ns : List ℕ). numbered prefix sort ns (c ∷ cs)) (free_first prefix old (r - n) n r stop (omega (arith, next.above)) below skipped free)
+    ap (λ (ns : List ℕ). numbered_bodies prefix sort ns (c ∷ cs)) (free_first prefix old (r - n) n r stop (omega (arith, next.above)) below skipped free)
 
 -- and the names that are left take the same later numbers
 pub take_later : (prefix : List ℕ) (old taken new : List (List ℕ)) (n r : ℕ) → TakeSame prefix old taken n → IsNextFree prefix taken new n r → TakeSame prefix old new (r + 1)
@@ -184,22 +186,29 @@ numbered_take prefix sort (suc count) [] cs h = refl
 numbered_take prefix sort (suc count) (n ∷ ns) [] h = refl
 numbered_take prefix sort (suc count) (n ∷ ns) (c ∷ cs) h = ap (λ ms. net_of (prefix ++ decimal n) sort c ∷ ms) (numbered_take prefix sort count ns cs (omega arith))
 
--- no classes make no nets
-pub numbered_none : (prefix : List ℕ) (sort : NetSort) (ns : List ℕ) → numbered prefix sort ns [] ≡ []
+-- bodies of classes are numbered as the classes are
+pub numbered_same : (prefix : List ℕ) (sort : NetSort) (ns : List ℕ) (cs : List NetClassData) → numbered_bodies prefix sort ns (map body_of cs) ≡ numbered prefix sort ns cs
+numbered_same prefix sort [] [] = refl
+numbered_same prefix sort [] (c ∷ cs) = refl
+numbered_same prefix sort (n ∷ ns) [] = refl
+numbered_same prefix sort (n ∷ ns) (c ∷ cs) = ap (λ (nets : List Net). net_of (prefix ++ decimal n) sort c ∷ nets) (numbered_same prefix sort ns cs)
+
+-- no bodies make no nets
+pub numbered_none : (prefix : List ℕ) (sort : NetSort) (ns : List ℕ) → numbered_bodies prefix sort ns [] ≡ []
 numbered_none prefix sort [] = refl
 numbered_none prefix sort (n ∷ ns) = refl
 
--- the nets grow by that of the first class
-pub grows : (prefix : List ℕ) (sort : NetSort) (old taken new : List (List ℕ)) (n r stop : ℕ) (c : NetClassData) (cs left : List NetClassData)
+-- the nets grow by that of the first body
+pub grows : (prefix : List ℕ) (sort : NetSort) (old taken new : List (List ℕ)) (n r stop : ℕ) (c : ClassBody) (cs left : List ClassBody)
     (net : Net) (nets grown all : List Net) → r < 2 ^ 64 → r < stop → TakeSame prefix old taken n → IsNextFree prefix taken new n r
-    → net ≡ net_of (prefix ++ decimal r) sort c → grown ≡ nets ++ net ∷ [] → left ≡ c ∷ cs
-    → nets ++ numbered prefix sort (free_below prefix old n stop) left ≡ all
-    → grown ++ numbered prefix sort (free_below prefix old (r + 1) stop) cs ≡ all
+    → net ≡ net_with (prefix ++ decimal r) sort c → grown ≡ nets ++ net ∷ [] → left ≡ c ∷ cs
+    → nets ++ numbered_bodies prefix sort (free_below prefix old n stop) left ≡ all
+    → grown ++ numbered_bodies prefix sort (free_below prefix old (r + 1) stop) cs ≡ all
 grows prefix sort old taken new n r stop c cs left net nets grown all small below same next made pushed rest whole =
-    let later = numbered prefix sort (free_below prefix old (r + 1) stop) cs in
+    let later = numbered_bodies prefix sort (free_below prefix old (r + 1) stop) cs in
     ap (λ (x : List Net). x ++ later) pushed
     ∙ append_assoc nets (net ∷ []) later
     ∙ ap (λ (x : Net). nets ++ x ∷ later) made
     ∙ ap (λ (x : List Net). nets ++ x) (sym (numbers_next prefix sort old taken new n r stop c cs small below same next))
-    ∙ ap (λ (x : List NetClassData). nets ++ numbered prefix sort (free_below prefix old n stop) x) (sym rest)
+    ∙ ap (λ (x : List ClassBody). nets ++ numbered_bodies prefix sort (free_below prefix old n stop) x) (sym rest)
     ∙ whole

@@ -13,7 +13,7 @@ use Rattle.std.proofs.lemmas.Map.Lookups.{exact_bytes}
 use Rattle.std.proofs.lemmas.Option.{get_or_from_slice_get, same_Some, slice_get_within}
 use Rattle.geda_defs.specs.Classes.{AreClasses}
 use Rattle.hierarchy.proofs.ListLemmas.{contains_map}
-use Rattle.link_classes.specs.declared.conductors.FlatConductor.{FlatConductor}
+use Rattle.flat_rows.specs.Conductors.{FlatConductor}
 use Rattle.net_list.specs.declared.member.Member.{Member}
 use Rattle.link_classes.specs.Links.{Linked, names_of}
 use Rattle.geda_defs.specs.Order.{once_in_order}

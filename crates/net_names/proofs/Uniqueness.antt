@@ -3,7 +3,7 @@ use Rattle.std.proofs.Common.{◌≡◌, ℕ, ◌<◌, List, get_or, sym, ap, �
 use Rattle.std.proofs.lemmas.List.{ext_get_or}
 use Rattle.geda_defs.specs.Classes.{AreClasses}
 use Rattle.project_model.specs.Projects.{ProjectData}
-use Rattle.link_classes.specs.declared.conductors.FlatConductor.{FlatConductor}
+use Rattle.flat_rows.specs.Conductors.{FlatConductor}
 use Rattle.net_list.specs.declared.nets.Net.{Net}
 use Rattle.net_list.specs.declared.nets.Nets.{Nets}
 use Rattle.net_list.specs.declared.package.Package.{Package}

@@ -7,7 +7,7 @@ use Rattle.geda_geom.specs.declared.conductor.Conductor.{Conductor}
 use Rattle.geda_geom.specs.declared.conductor.Conductor.TheVariants.{End}
 use Rattle.net_list.specs.declared.member.Member.{Member}
 use Rattle.geda_defs.specs.Order.{once_in_order, by_bytes}
-use Rattle.link_classes.specs.declared.conductors.FlatConductor.{FlatConductor}
+use Rattle.flat_rows.specs.Conductors.{FlatConductor}
 use Rattle.link_classes.specs.Links.{names_of}
 
 -- what joins, with its place in the list and the label of its class

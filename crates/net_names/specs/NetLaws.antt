@@ -6,7 +6,7 @@ use Rattle.project_model.specs.Projects.{ProjectData}
 use Rattle.attr_rules.specs.Libraries.{library_of}
 use Rattle.pin_place.specs.declared.pins.PlacedPin.{PlacedPin}
 use Rattle.pin_place.specs.Pins.{pins_of}
-use Rattle.link_classes.specs.declared.conductors.FlatConductor.{FlatConductor}
+use Rattle.flat_rows.specs.Conductors.{FlatConductor}
 use Rattle.net_list.specs.declared.member.Member.{Member}
 use Rattle.link_classes.specs.Links.{Linked}
 use Rattle.flat_sheets.specs.Conductors.{conductors_of, member_under}

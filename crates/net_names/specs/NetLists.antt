@@ -14,7 +14,7 @@ use Rattle.net_list.specs.declared.nets.NetSort.{NetSort}
 use Rattle.net_list.specs.declared.nets.NetSort.TheVariants as sorts
 use Rattle.net_list.specs.declared.nets.Nets.{Nets}
 use Rattle.geda_defs.specs.Order.{once_in_order, by_bytes}
-use Rattle.link_classes.specs.declared.conductors.FlatConductor.{FlatConductor}
+use Rattle.flat_rows.specs.Conductors.{FlatConductor}
 use Rattle.link_classes.specs.Links.{Linked, names_of}
 use Rattle.flat_sheets.specs.Conductors.{conductors_of}
 use Rattle.net_names.specs.Packages.{packages_of}

@@ -1,31 +1,19 @@
-// The conductors of each class, gathered in one pass.
-ghost use Rattle.std.specs.Prelude.{◌≡◌, codes, length, replicate, IfOk, OnOk, option_copied};
-ghost use Rattle.std.specs.List.{flat_map, fold};
-ghost use Rattle.link_classes.specs.Links.{names_of};
+// What is told of each class by its conductors and their names, gathered in one pass over each.
+ghost use Rattle.std.specs.Prelude.{◌≡◌, ◌<◌, All, length, replicate, IfOk, option_copied};
 ghost use Rattle.net_names.specs.NetClasses.{is_drawn_pin};
-ghost use Rattle.net_names.specs.NetLists.{AreCountable};
-ghost use Rattle.net_names.specs.steps.Gathering.{ArePlaces, empty_class, with_conductor, gathered};
-ghost use Rattle.net_names.specs.steps.Gathering.{lesser};
-ghost use Rattle.net_names.specs.steps.Numbering.{taken_names};
+ghost use Rattle.net_names.specs.steps.Gathering.{empty_class, grown, keyed_rows, label_at};
+ghost use Rattle.net_names.specs.steps.Gathering.{taken_in, with_drawn, with_global, with_row};
 
-use crate::class_pins::ClassPin;
 use crate::names::{CountedName, lesser};
-use crate::taken::TakenNames;
+use flat_rows::FlatRow;
 use geda_geom::Conductor;
-use geda_model::{Block, Items};
-use link_classes::FlatConductor;
+use geda_model::Block;
 use std::alloc::{AllocError, Global};
 use std::marker::Model;
 
-// Room for the pins of most classes.
-const FEW_PINS: usize = 2;
-
-/// A class while its conductors are gathered.
+/// A class while its conductors and names are gathered.
 #[derive(Debug, Drop)]
-pub struct GrowingClass {
-    /// Its pins in order of their places. Most classes have few, so a set's node would be mostly
-    /// empty.
-    pub pins: Vec<ClassPin>,
+pub struct GrowingClass<'a> {
     /// Whether it has no conductor.
     pub is_empty: bool,
     /// Whether it is a single drawn pin.
@@ -35,16 +23,15 @@ pub struct GrowingClass {
     /// Whether it has a pin of a no-connection directive.
     pub directive: bool,
     /// The least of its names.
-    pub least: Option<CountedName>,
+    pub least: Option<CountedName<'a>>,
 }
 
-impl Model for GrowingClass {
+impl<'a> Model for GrowingClass<'a> {
     ghost use Rattle.net_names.specs.steps.Gathering.{GrowingClassData};
 
     ghost Value = { GrowingClassData };
 
     ghost view = { λ g. record {
-      pins = g.pins.items;
       is_empty = g.is_empty;
       is_single_pin = g.is_single_pin;
       global = g.global;
@@ -65,23 +52,12 @@ fn is_drawn_pin(shape: Option<&Conductor>) -> bool
     }
 }
 
-fn least_with(least: Option<CountedName>, names: Items<Block>) -> Option<CountedName>
-    ensures { result ≡ fold lesser least names }
-{
-    let mut least = least;
-    for name in names.into_vec() {
-        least = Some(lesser(least, name));
-    }
-    least
-}
-
-impl GrowingClass {
+impl<'a> GrowingClass<'a> {
     /// A class without conductors. It takes no memory.
-    pub fn new(alloc: Global) -> GrowingClass
+    pub fn new() -> GrowingClass<'a>
         ensures { result ≡ empty_class }
     {
         GrowingClass {
-            pins: Vec::new(alloc),
             is_empty: true,
             is_single_pin: false,
             global: false,
@@ -90,67 +66,104 @@ impl GrowingClass {
         }
     }
 
-    /// Takes in the conductor that stands at a place.
-    pub fn join(&mut self, place: usize, conductor: FlatConductor) -> Result<(), AllocError>
-        ensures { OnOk result (self.new ≡ with_conductor self.old place conductor) }
+    /// Takes in a conductor.
+    pub fn take_row(&mut self, row: &FlatRow)
+        ensures { self.new ≡ with_row self.old row.now }
     {
-        let FlatConductor {
-            shape,
-            global_names,
-            drawn_names,
-            member,
-            directive,
-            ..
-        } = conductor;
-        self.is_single_pin = self.is_empty && is_drawn_pin(shape.as_ref());
+        self.is_single_pin = self.is_empty && is_drawn_pin(row.shape.as_ref());
         self.is_empty = false;
-        self.global = self.global || global_names.as_slice().len() != 0;
-        self.directive = self.directive || directive;
-        self.least = least_with(least_with(self.least.take(), global_names), drawn_names);
-        if let Some(member) = member {
-            if self.pins.is_empty() {
-                self.pins.reserve_exact(FEW_PINS)?;
-            }
-            self.pins.push(ClassPin { place, member })?;
-        }
-        Ok(())
+        self.directive = self.directive || row.directive;
+    }
+
+    /// Takes in a drawn name.
+    pub fn take_drawn(&mut self, name: &'a Block)
+        ensures { self.new ≡ with_drawn self.old name.now }
+    {
+        self.least = Some(lesser(self.least.take(), name));
+    }
+
+    /// Takes in a global name.
+    pub fn take_global(&mut self, name: &'a Block)
+        ensures { self.new ≡ with_global self.old name.now }
+    {
+        self.global = true;
+        self.take_drawn(name);
     }
 }
 
-fn empty_classes(alloc: Global, count: usize) -> Result<Vec<GrowingClass>, AllocError>
+fn empty_classes<'a>(alloc: Global, count: usize) -> Result<Vec<GrowingClass<'a>>, AllocError>
     ensures { IfOk result (λ growing. growing.items ≡ replicate count empty_class) }
 {
     let mut growing = Vec::with_capacity(alloc, count)?;
     for _place in 0..count {
-        growing.push(GrowingClass::new(alloc))?;
+        growing.push(GrowingClass::new())?;
     }
     Ok(growing)
 }
 
-/// The class of each label, the empty ones too, in order of the labels, and the names that look
-/// like those of nets without names.
-pub fn gathered(
-    alloc: Global,
-    conductors: Vec<FlatConductor>,
-    labels: &[usize],
-) -> Result<(Vec<GrowingClass>, TakenNames), AllocError>
-    requires len { length labels.now ≡ length conductors.items }
-    requires in_range { ArePlaces labels.now (length conductors.items) }
-    ensures growing { IfOk result (λ r. r.0.items ≡ gathered conductors.items labels.now) }
-    ensures unnamed { IfOk result (λ r. r.1.unnamed.keys
-        ≡ taken_names (codes "unnamed_net") (flat_map names_of conductors.items)) }
-    ensures unconnected { IfOk result (λ r. r.1.unconnected.keys
-        ≡ taken_names (codes "unconnected_pin-") (flat_map names_of conductors.items)) }
-    ensures countable { IfOk result (λ _. AreCountable conductors.items) }
+fn take_rows(growing: &mut Vec<GrowingClass<'_>>, rows: &[FlatRow], labels: &[usize])
+    requires len { length labels.now ≡ length rows.now }
+    requires labels { All (λ label. label < length growing.old.items) labels.now }
+    ensures { growing.new.items
+        ≡ taken_in (label_at labels.now) with_row growing.old.items (keyed_rows 0 rows.now) }
 {
-    let mut growing = empty_classes(alloc, conductors.len())?;
-    let mut taken = TakenNames::new(alloc);
-    let mut place = 0;
-    for conductor in conductors {
-        taken.take(&conductor)?;
-        let label = labels[place];
-        growing[label].join(place, conductor)?;
-        place += 1;
+    for at in 0..rows.len() {
+        let label = labels[at];
+        growing[label].take_row(&rows[at]);
     }
-    Ok((growing, taken))
+}
+
+fn take_globals<'a>(
+    growing: &mut Vec<GrowingClass<'a>>,
+    names: &'a [(Block, usize)],
+    labels: &[usize],
+)
+    requires labels { All (λ label. label < length growing.old.items) labels.now }
+    requires places { All (λ n. n.1 < length labels.now) names.now }
+    ensures { growing.new.items
+        ≡ taken_in (label_at labels.now) with_global growing.old.items names.now }
+{
+    for at in 0..names.len() {
+        let label = labels[names[at].1];
+        growing[label].take_global(&names[at].0);
+    }
+}
+
+fn take_drawns<'a>(
+    growing: &mut Vec<GrowingClass<'a>>,
+    names: &'a [(Block, usize)],
+    labels: &[usize],
+)
+    requires labels { All (λ label. label < length growing.old.items) labels.now }
+    requires places { All (λ n. n.1 < length labels.now) names.now }
+    ensures { growing.new.items
+        ≡ taken_in (label_at labels.now) with_drawn growing.old.items names.now }
+{
+    for at in 0..names.len() {
+        let label = labels[names[at].1];
+        growing[label].take_drawn(&names[at].0);
+    }
+}
+
+/// What is told of the class of each label, in order of the labels, by rows, global names and drawn
+/// names.
+pub fn grown<'a>(
+    alloc: Global,
+    rows: &[FlatRow],
+    global_names: &'a [(Block, usize)],
+    drawn_names: &'a [(Block, usize)],
+    labels: &[usize],
+) -> Result<Vec<GrowingClass<'a>>, AllocError>
+    requires len { length labels.now ≡ length rows.now }
+    requires labels { All (λ label. label < length rows.now) labels.now }
+    requires global { All (λ n. n.1 < length labels.now) global_names.now }
+    requires drawn { All (λ n. n.1 < length labels.now) drawn_names.now }
+    ensures { IfOk result (λ growing. growing.items
+        ≡ grown rows.now global_names.now drawn_names.now labels.now) }
+{
+    let mut growing = empty_classes(alloc, rows.len())?;
+    take_rows(&mut growing, rows, labels);
+    take_globals(&mut growing, global_names, labels);
+    take_drawns(&mut growing, drawn_names, labels);
+    Ok(growing)
 }

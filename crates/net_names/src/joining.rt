@@ -1,19 +1,21 @@
 // The net list of a project.
 ghost use Rattle.std.specs.Prelude.{◌≡◌, IfOk};
-ghost use Rattle.std.specs.BTreeMap.{get};
+ghost use Rattle.std.specs.List.Sorted.{IsStrictlySortedBy};
+ghost use Rattle.std.specs.Map.{keys_of};
 ghost use Rattle.geda_geom.specs.Keys.{by_key};
 ghost use Rattle.hierarchy.specs.Instances.{instances_of};
 ghost use Rattle.sheet_groups.specs.Conductors.{sheet_conductors};
 ghost use Rattle.sheet_groups.specs.Groups.{AreGroups};
-ghost use Rattle.link_classes.specs.InstanceGroups.{AreInstanceGroups};
+ghost use Rattle.link_classes.specs.InstanceGroups.{AreInstanceGroups, groups_by};
 ghost use Rattle.flat_sheets.specs.Conductors.{conductors_of};
 ghost use Rattle.flat_sheets.specs.ListedParts.{listed_parts};
 ghost use Rattle.net_names.specs.NetLists.{AreCountable, AreNetsOf, IsNetListOf};
 ghost use Rattle.net_names.specs.Packages.{packages_by};
 
 use crate::listing::nets_by;
-use crate::packages::packages_of;
-use flat_sheets::{FlatProject, flatten};
+use crate::packages::{packages_of, part_ranks};
+use flat_rows::FlatRows;
+use flat_sheets::flatten;
 use geda_geom::Key;
 use hierarchy::Hierarchy;
 use instance_objects::InstanceObjects;
@@ -21,19 +23,19 @@ use link_classes::class_labels;
 use net_list::Nets;
 use project_model::Project;
 use std::alloc::{AllocError, Global};
-use std::collections::BTreeMap;
 
 /// The net list of what joins in a project, with these groups of touching conductors.
-fn joined(alloc: Global, flat: FlatProject, groups: &BTreeMap<Key, Key>) -> Result<Nets, AllocError>
-    requires { AreInstanceGroups flat.conductors.items (get by_key groups.now) }
-    ensures packages { IfOk result (λ list. list.packages ≡ packages_by flat.parts.items) }
-    ensures nets { IfOk result (λ list. AreNetsOf flat.conductors.items list.nets) }
-    ensures countable { IfOk result (λ _. AreCountable flat.conductors.items) }
+fn joined(alloc: Global, flat: FlatRows, groups: &[(Key, Key)]) -> Result<Nets, AllocError>
+    requires groups { AreInstanceGroups flat.conductors (groups_by groups.now) }
+    requires rising { IsStrictlySortedBy by_key (keys_of groups.now) }
+    ensures packages { IfOk result (λ list. list.packages ≡ packages_by flat.parts) }
+    ensures nets { IfOk result (λ list. AreNetsOf flat.conductors list.nets) }
+    ensures countable { IfOk result (λ _. AreCountable flat.conductors) }
 {
-    let FlatProject { conductors, parts } = flat;
-    let packages = packages_of(alloc, parts)?;
-    let labels = class_labels(alloc, conductors.as_slice(), groups)?;
-    let nets = nets_by(alloc, conductors, labels.as_slice())?;
+    let labels = class_labels(alloc, &flat, groups)?;
+    let ranks = part_ranks(alloc, flat.parts())?;
+    let nets = nets_by(alloc, &flat, &ranks, labels.as_slice())?;
+    let packages = packages_of(alloc, flat.into_parts(), &ranks)?;
     Ok(Nets { packages, nets })
 }
 
@@ -42,9 +44,9 @@ fn joined(alloc: Global, flat: FlatProject, groups: &BTreeMap<Key, Key>) -> Resu
 pub fn join_objects(
     alloc: Global,
     objects: &InstanceObjects<'_>,
-    groups: &BTreeMap<Key, Key>,
+    groups: &[(Key, Key)],
 ) -> Result<Nets, AllocError>
-    requires groups { AreGroups (sheet_conductors objects.now) groups.now.entries }
+    requires groups { AreGroups (sheet_conductors objects.now) groups.now }
     ensures { IfOk result (IsNetListOf objects.now) }
 {
     let flat = flatten(alloc, objects)?;
@@ -57,11 +59,11 @@ fn flat_project(
     alloc: Global,
     project: &Project,
     hierarchy: &Hierarchy,
-) -> Result<FlatProject, AllocError>
+) -> Result<FlatRows, AllocError>
     requires hierarchy { hierarchy.now.instances ≡ instances_of project.now.contents }
     ensures conductors { IfOk result
-        (λ flat. flat.conductors.items ≡ conductors_of project.now.contents) }
-    ensures parts { IfOk result (λ flat. flat.parts.items ≡ listed_parts project.now.contents) }
+        (λ flat. flat.conductors ≡ conductors_of project.now.contents) }
+    ensures parts { IfOk result (λ flat. flat.parts ≡ listed_parts project.now.contents) }
 {
     let objects = InstanceObjects::of(alloc, project, hierarchy.instances.as_slice())?;
     flatten(alloc, &objects)
@@ -73,10 +75,10 @@ pub fn join(
     alloc: Global,
     project: &Project,
     hierarchy: &Hierarchy,
-    groups: &BTreeMap<Key, Key>,
+    groups: &[(Key, Key)],
 ) -> Result<Nets, AllocError>
     requires hierarchy { hierarchy.now.instances ≡ instances_of project.now.contents }
-    requires groups { AreGroups (sheet_conductors project.now.contents) groups.now.entries }
+    requires groups { AreGroups (sheet_conductors project.now.contents) groups.now }
     ensures { IfOk result (IsNetListOf project.now.contents) }
 {
     let flat = flat_project(alloc, project, hierarchy)?;

@@ -12,6 +12,7 @@ mod joining;
 mod laws;
 mod listing;
 mod named;
+mod nameless;
 mod names;
 mod net_classes;
 mod numbering;

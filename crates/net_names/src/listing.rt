@@ -1,53 +1,70 @@
 // The nets of the conductors of a project, given the label of each.
-ghost use Rattle.std.specs.Prelude.{◌≡◌, length, IfOk};
+ghost use Rattle.std.specs.Prelude.{◌≡◌, ◌<◌, All, IfOk, length, map};
+ghost use Rattle.geda_defs.specs.Order.{by_bytes};
+ghost use Rattle.rank_order.specs.Keys.{AreRanks};
 ghost use Rattle.net_names.specs.NetLists.{AreCountable, nets_by};
-ghost use Rattle.net_names.specs.steps.Gathering.{ArePlaces};
 
-use crate::gathering::gathered;
-use crate::named::listed;
-use crate::net_classes::{NetClasses, in_order};
+use crate::named::{listed, named_nets};
+use crate::nameless::{NamelessClasses, nameless_classes};
+use crate::net_classes::net_classes;
 use crate::numbering::number_classes;
+use crate::taken::taken_names;
+use flat_rows::FlatRows;
 use geda_model::Items;
-use link_classes::FlatConductor;
+use instance_objects::once_in_order;
 use net_list::{NetList, NetSort};
+use rank_order::Ranks;
 use std::alloc::{AllocError, Global};
 
 /// The nets of conductors whose classes have these labels, in order: the named ones by the bytes of
-/// the name, then the unnamed ones, then the unconnected ones, each numbered by the least pin.
+/// the name, then the unnamed ones, then the unconnected ones, each numbered by the least pin. The
+/// parts have these ranks.
 ///
 /// A class without members is no net. Rules: docs/RULES.md, "Names of nets".
 pub fn nets_by(
     alloc: Global,
-    conductors: Vec<FlatConductor>,
+    flat: &FlatRows,
+    ranks: &Ranks,
     labels: &[usize],
 ) -> Result<NetList, AllocError>
-    requires len { length labels.now ≡ length conductors.items }
-    requires in_range { ArePlaces labels.now (length conductors.items) }
-    ensures nets { IfOk result (λ nets. nets ≡ nets_by conductors.items labels.now) }
-    ensures countable { IfOk result (λ _. AreCountable conductors.items) }
+    requires len { length labels.now ≡ length flat.now.conductors }
+    requires labels { All (λ label. label < length flat.now.conductors) labels.now }
+    requires ranks { AreRanks by_bytes (map (λ p. p.refdes) flat.now.parts)
+        ranks.now.ranks.items ranks.now.count }
+    ensures nets { IfOk result (λ nets. nets ≡ nets_by flat.now.conductors labels.now) }
+    ensures countable { IfOk result (λ _. AreCountable flat.now.conductors) }
 {
-    let (growing, taken) = gathered(alloc, conductors, labels)?;
-    let NetClasses {
-        named,
+    let classes = net_classes(alloc, flat, ranks, labels)?;
+    let made = named_nets(alloc, &classes)?;
+    let named = once_in_order(made)?;
+    let NamelessClasses {
         unnamed,
         unconnected,
-    } = in_order(alloc, growing)?;
+    } = nameless_classes(alloc, &classes)?;
     let mut nets = listed(alloc, named)?;
+    let global = flat.global_names();
+    let drawn = flat.drawn_names();
+    // Each of these counts is below 2^63, so that all names can be counted.
+    let _ = flat.rows().len();
+    let _ = global.len();
+    let _ = drawn.len();
+    let taken = taken_names(alloc, "unnamed_net", global, drawn)?;
     number_classes(
         alloc,
         &mut nets,
         "unnamed_net",
         NetSort::Unnamed,
         unnamed,
-        taken.unnamed,
+        taken,
     )?;
+    let alone = taken_names(alloc, "unconnected_pin-", global, drawn)?;
     number_classes(
         alloc,
         &mut nets,
         "unconnected_pin-",
         NetSort::Unconnected,
         unconnected,
-        taken.unconnected,
+        alone,
     )?;
     Ok(Items::from_vec(nets))
 }

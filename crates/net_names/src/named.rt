@@ -1,44 +1,34 @@
 // Nets under their names, and nets in order of them.
-ghost use Rattle.std.specs.Prelude.{◌≡◌, IfOk, map};
-ghost use Rattle.net_names.specs.NetLists.{net_of};
+ghost use Rattle.std.specs.Prelude.{◌≡◌, ◌<◌, ℕ, List, IfOk, OnOk, length};
+ghost use Rattle.std.specs.List.{range_with_len};
+ghost use Rattle.flat_rows.specs.Conductors.{FlatConductor};
+ghost use Rattle.net_names.specs.NetClasses.{labelled_from, net_class_of};
+ghost use Rattle.net_names.specs.steps.Classes.{IsGathered, IsWhole, named_of, net_with};
+ghost use Rattle.net_names.specs.steps.Classes.{with_named};
 
-use crate::class_pins::ClassPin;
-use crate::net_classes::NetClass;
-use geda_model::{Block, Items};
-use net_list::{Members, Net, NetSort};
+use crate::net_classes::{ClassBody, NetClasses};
+use geda_model::Block;
+use net_list::{Net, NetSort};
 use std::alloc::{AllocError, Global};
 use std::cmp::Ordering;
 use std::marker::Model;
 
-fn members(alloc: Global, pins: Vec<ClassPin>) -> Result<Members, AllocError>
-    ensures { IfOk result (λ members. members ≡ map (λ p. p.member) pins.items) }
+/// The net of a class under a name. It takes no memory.
+pub fn net_with(name: Block, sort: NetSort, body: ClassBody) -> Net
+    ensures { result ≡ net_with name sort body }
 {
-    let mut members = Vec::with_capacity(alloc, pins.len())?;
-    for pin in pins {
-        let ClassPin { member, .. } = pin;
-        members.push(member)?;
-    }
-    Ok(Items::from_vec(members))
-}
-
-/// The net of a class under a name.
-pub fn net_of(alloc: Global, name: Block, sort: NetSort, class: NetClass) -> Result<Net, AllocError>
-    ensures { IfOk result (λ net. net ≡ net_of name sort class) }
-{
-    let NetClass {
-        pins,
+    let ClassBody {
         global,
         directive,
-        ..
-    } = class;
-    let members = members(alloc, pins)?;
-    Ok(Net {
+        members,
+    } = body;
+    Net {
         name,
         sort,
         global,
         directive,
         members,
-    })
+    }
 }
 
 /// A net that is ordered by the bytes of its name.
@@ -108,6 +98,45 @@ impl Ord for NamedNet {
     fn cmp(&self, other: &NamedNet) -> Ordering {
         self.net.name.as_str().cmp(other.net.name.as_str())
     }
+}
+
+/// Puts the net of a label's class behind the others, if it has members and a name.
+fn push_named(
+    alloc: Global,
+    named: &mut Vec<NamedNet>,
+    classes: &NetClasses<'_>,
+    label: usize,
+) -> Result<(), AllocError>
+    requires whole { IsWhole classes.now }
+    requires label { label < length classes.now.growing.items }
+    ensures { OnOk result ((conductors : List FlatConductor) (labels : List ℕ)
+        → IsGathered conductors labels classes.now → named.new.items
+        ≡ with_named named.old.items (net_class_of (labelled_from 0 conductors labels) label)) }
+{
+    if classes.chains.heads[label] >= classes.chains.nexts.len() {
+        return Ok(());
+    }
+    if let Some(least) = &classes.growing[label].least {
+        let name = least.text.clone()?;
+        let body = classes.body(alloc, label)?;
+        let net = net_with(name, NetSort::Named, body);
+        named.push(NamedNet { net })?;
+    }
+    Ok(())
+}
+
+/// The nets of the classes that have members and a name, in order of the labels.
+pub fn named_nets(alloc: Global, classes: &NetClasses<'_>) -> Result<Vec<NamedNet>, AllocError>
+    requires whole { IsWhole classes.now }
+    ensures { IfOk result (λ named. (conductors : List FlatConductor) (labels : List ℕ)
+        → IsGathered conductors labels classes.now → named.items
+        ≡ named_of conductors labels (range_with_len 0 (length classes.now.growing.items))) }
+{
+    let mut named = Vec::new(alloc);
+    for label in 0..classes.growing.len() {
+        push_named(alloc, &mut named, classes, label)?;
+    }
+    Ok(named)
 }
 
 /// Nets that stand in order of their names, as they print.

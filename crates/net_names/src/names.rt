@@ -15,31 +15,31 @@ fn slashes(name: &str) -> usize
 
 /// A name with its count of `/`, so that it is counted once.
 #[derive(Debug, Drop)]
-pub struct CountedName {
+pub struct CountedName<'a> {
     /// The name.
-    pub text: Block,
+    pub text: &'a Block,
     slashes: usize,
 }
 
-impl Model for CountedName {
+impl<'a> Model for CountedName<'a> {
     ghost use Rattle.std.specs.Prelude.{◌≡◌, List, ℕ};
     ghost use Rattle.net_names.specs.NetLists.{slashes as slash_count};
 
     ghost Value = { List ℕ };
 
-    ghost view = { λ n. n.text };
+    ghost view = { λ n. n.text.now };
 
-    ghost invariant = { λ n. n.slashes ≡ slash_count n.text };
+    ghost invariant = { λ n. n.slashes ≡ slash_count n.text.now };
 }
 
-fn counted(text: Block) -> CountedName
-    ensures { result ≡ text }
+fn counted<'a>(text: &'a Block) -> CountedName<'a>
+    ensures { result ≡ text.now }
 {
     let slashes = slashes(text.as_str());
     CountedName { text, slashes }
 }
 
-fn compare_names(first: &CountedName, second: &CountedName) -> Ordering
+fn compare_names(first: &CountedName<'_>, second: &CountedName<'_>) -> Ordering
     ensures { result ≡ by_name first.now second.now }
 {
     let by_slashes = first.slashes.cmp(&second.slashes);
@@ -48,8 +48,8 @@ fn compare_names(first: &CountedName, second: &CountedName) -> Ordering
 
 /// The lesser one of a name and of the least so far (docs/RULES.md, "Names of nets"). It takes no
 /// memory.
-pub fn lesser(least: Option<CountedName>, name: Block) -> CountedName
-    ensures { Some result ≡ lesser least name }
+pub fn lesser<'a>(least: Option<CountedName<'a>>, name: &'a Block) -> CountedName<'a>
+    ensures { Some result ≡ lesser least.entry name.now }
 {
     let name = counted(name);
     match least {

@@ -1,211 +1,176 @@
-// Classes of conductors: those with a name as nets, the others in order of their least pins.
-ghost use Rattle.std.specs.Prelude.{◌≡◌, IfOk, OnOk, option_copied, slice_get};
-ghost use Rattle.std.specs.Option.{option_cmp};
-ghost use Rattle.net_names.specs.NetClasses.{by_pin, has_pins};
-ghost use Rattle.net_names.specs.NetLists.{is_unnamed, is_unconnected};
-ghost use Rattle.net_names.specs.steps.Gathering.{as_nameless, as_net_class, with_class, in_order};
-ghost use Rattle.net_names.specs.steps.Gathering.{with_named, named_in_order};
+// The classes of conductors: the pins of each in order, and what is told of it.
+ghost use Rattle.std.specs.Prelude.{◌≡◌, ◌<◌, ◌++◌, ℕ, List, All, IfOk, OnOk, length, map};
+ghost use Rattle.std.specs.Prelude.{slice_get, slice_index};
+ghost use Rattle.std.specs.Ordering.{eq_by_cmp};
+ghost use Rattle.geda_defs.specs.Order.{by_bytes};
+ghost use Rattle.rank_order.specs.Chains.{IsWalk};
+ghost use Rattle.rank_order.specs.Keys.{AreRanks};
+ghost use Rattle.flat_rows.specs.Conductors.{FlatConductor};
+ghost use Rattle.net_names.specs.NetClasses.{by_member, labelled_from, net_class_of};
+ghost use Rattle.net_names.specs.steps.Classes.{AreOrdered, AreWhole, IsGathered, IsWhole};
+ghost use Rattle.net_names.specs.steps.Classes.{body_of, is_new_at, new_at, news, walk_pins};
 
-use crate::class_pins::ClassPin;
-use crate::gathering::GrowingClass;
-use crate::named::{NamedNet, net_of};
-use crate::names::CountedName;
-use instance_objects::once_in_order;
-use net_list::NetSort;
+use crate::class_pins::{ClassPin, class_pins, labels_of_pins, ranks_of_pins};
+use crate::gathering::{GrowingClass, grown};
+use flat_rows::FlatRows;
+use geda_model::Items;
+use net_list::{Member, Members};
+use rank_order::{Chains, Ranks, chains_of, labels_met, places_in_order};
 use std::alloc::{AllocError, Global};
-use std::cmp::Ordering;
-use std::marker::Model;
 
-/// The conductors of one net, without its names. Classes are ordered by their least pins, the
-/// places of these last.
+/// Pins of listed parts, and their order.
+#[derive(Drop)]
+pub struct OrderedPins<'a> {
+    /// The pins as they come.
+    pub pins: Vec<ClassPin<'a>>,
+    /// Their places, in order of refdes, number and place.
+    pub places: Vec<usize>,
+}
+
+/// The classes of all labels.
+#[derive(Drop)]
+pub struct NetClasses<'a> {
+    /// The pins of listed parts, and their order.
+    pub ordered: OrderedPins<'a>,
+    /// For each label the chain of its pins, in order.
+    pub chains: Chains,
+    /// The labels of the classes that have pins, in order of their least pins.
+    pub met: Vec<usize>,
+    /// What is told of the class of each label.
+    pub growing: Vec<GrowingClass<'a>>,
+}
+
+/// The conductors of one net, without its name.
 #[derive(Debug, Drop)]
-pub struct NetClass {
-    /// Its pins in order, each pair of refdes and number once.
-    pub pins: Vec<ClassPin>,
+pub struct ClassBody {
     /// Whether it has a global name.
     pub global: bool,
     /// Whether it has a pin of a no-connection directive.
     pub directive: bool,
-    /// Whether it is a single drawn pin.
-    pub is_single_pin: bool,
+    /// Its members, in order.
+    pub members: Members,
 }
 
-impl Model for NetClass {
-    ghost use Rattle.std.specs.Prelude.{[]};
-    ghost use Rattle.net_names.specs.NetClasses.{NetClassData};
-
-    ghost Value = { NetClassData };
-
-    ghost view = { λ c. record {
-      pins = c.pins.items;
-      names = [];
-      global = c.global;
-      directive = c.directive;
-      is_single_pin = c.is_single_pin;
-    } };
-}
-
-fn compare_pins(first: &ClassPin, second: &ClassPin) -> Ordering
-    ensures { result ≡ by_pin first.now second.now }
+fn ordered_pins<'a>(
+    alloc: Global,
+    flat: &'a FlatRows,
+    ranks: &Ranks,
+) -> Result<OrderedPins<'a>, AllocError>
+    requires { AreRanks by_bytes (map (λ p. p.refdes) flat.now.parts)
+        ranks.now.ranks.items ranks.now.count }
+    ensures { IfOk result (AreOrdered flat.now.conductors) }
 {
-    first.cmp(second).then(first.place.cmp(&second.place))
+    let members = flat.members();
+    let pins = class_pins(alloc, flat.parts(), members)?;
+    let pin_ranks = ranks_of_pins(alloc, &ranks.ranks, members)?;
+    let places = places_in_order(alloc, ranks.count, &pin_ranks, &pins)?;
+    Ok(OrderedPins { pins, places })
 }
 
-fn least_pin(pins: &[ClassPin]) -> Option<&ClassPin>
-    ensures { option_copied result ≡ slice_get pins.now 0 }
+/// The classes of conductors that have these labels; the parts have these ranks.
+pub fn net_classes<'a>(
+    alloc: Global,
+    flat: &'a FlatRows,
+    ranks: &Ranks,
+    labels: &[usize],
+) -> Result<NetClasses<'a>, AllocError>
+    requires len { length labels.now ≡ length flat.now.conductors }
+    requires labels { All (λ label. label < length flat.now.conductors) labels.now }
+    requires ranks { AreRanks by_bytes (map (λ p. p.refdes) flat.now.parts)
+        ranks.now.ranks.items ranks.now.count }
+    ensures { IfOk result (IsGathered flat.now.conductors labels.now) }
 {
-    pins.first()
-}
-
-fn compare_least(first: Option<&ClassPin>, second: Option<&ClassPin>) -> Ordering
-    ensures { result ≡ option_cmp by_pin (option_copied first.entry) (option_copied second.entry) }
-{
-    match (first, second) {
-        (None, None) => Ordering::Equal,
-        (None, Some(_)) => Ordering::Less,
-        (Some(_), None) => Ordering::Greater,
-        (Some(first), Some(second)) => compare_pins(first, second),
-    }
-}
-
-impl PartialEq for NetClass {
-    ghost use Rattle.std.specs.Cmp.{eq_by_cmp_equiv, partial_equiv_from_equiv};
-    ghost use Rattle.std.specs.Ordering.{eq_by_cmp};
-    ghost use Rattle.net_names.specs.NetLists.{by_least_pin};
-    ghost use Rattle.net_names.specs.steps.Orders.{by_least_pin_total};
-
-    ghost eq = { eq_by_cmp by_least_pin };
-
-    ghost laws = { partial_equiv_from_equiv (eq_by_cmp_equiv by_least_pin_total) };
-
-    fn eq(&self, other: &NetClass) -> bool {
-        self.cmp(other).is_eq()
-    }
-}
-
-impl Eq for NetClass {
-    ghost use Rattle.std.specs.Cmp.{eq_by_cmp_equiv};
-    ghost use Rattle.net_names.specs.steps.Orders.{by_least_pin_total};
-
-    ghost laws = { eq_by_cmp_equiv by_least_pin_total };
-}
-
-impl PartialOrd for NetClass {
-    ghost use Rattle.std.specs.Prelude.{Some};
-    ghost use Rattle.std.specs.Cmp.{partial_order_from_total};
-    ghost use Rattle.std.specs.Ordering.{as_partial_cmp};
-    ghost use Rattle.net_names.specs.NetLists.{by_least_pin};
-    ghost use Rattle.net_names.specs.steps.Orders.{by_least_pin_total};
-
-    ghost partial_cmp = { as_partial_cmp by_least_pin };
-
-    ghost laws = { partial_order_from_total by_least_pin_total };
-
-    fn partial_cmp(&self, other: &NetClass) -> Option<Ordering> {
-        Some(self.cmp(other))
-    }
-}
-
-impl Ord for NetClass {
-    ghost use Rattle.std.proofs.Common.{rules};
-    ghost use Rattle.std.specs.Cmp.Rules.{comparing};
-    ghost use Rattle.net_names.specs.NetLists.{by_least_pin};
-    ghost use Rattle.net_names.specs.steps.Orders.{by_least_pin_total};
-
-    ghost cmp = { by_least_pin };
-
-    ghost total = { by_least_pin_total };
-
-    ghost matches_partial_cmp = { Prim.search (comparing, rules) };
-
-    ghost matches_eq = { Prim.search (comparing, rules) };
-
-    fn cmp(&self, other: &NetClass) -> Ordering {
-        compare_least(
-            least_pin(self.pins.as_slice()),
-            least_pin(other.pins.as_slice()),
-        )
-    }
-}
-
-/// Classes that have members: the nets of those with a name, those that print as unnamed, and those
-/// that print as unconnected.
-#[derive(Debug, Drop)]
-pub struct NetClasses {
-    /// With a name.
-    pub named: Vec<NamedNet>,
-    /// Of two and more conductors, or of a single one that is no drawn pin.
-    pub unnamed: Vec<NetClass>,
-    /// Of a single drawn pin.
-    pub unconnected: Vec<NetClass>,
-}
-
-fn name_and_class(growing: GrowingClass) -> Result<(Option<CountedName>, NetClass), AllocError>
-    ensures name { IfOk result (λ r. r.0 ≡ growing.least) }
-    ensures class { IfOk result (λ r. r.1 ≡ as_nameless growing) }
-{
-    let GrowingClass {
-        pins,
-        is_single_pin,
-        global,
-        directive,
-        least,
-        ..
-    } = growing;
-    let class = NetClass {
-        pins: once_in_order(pins)?,
-        global,
-        directive,
-        is_single_pin,
-    };
-    Ok((least, class))
-}
-
-impl NetClasses {
-    fn take(&mut self, alloc: Global, growing: GrowingClass) -> Result<(), AllocError>
-        ensures named { OnOk result
-            (self.new.named.items ≡ with_named self.old.named.items (as_net_class growing)) }
-        ensures unnamed { OnOk result (self.new.unnamed.items
-            ≡ with_class is_unnamed self.old.unnamed.items (as_net_class growing)) }
-        ensures unconnected { OnOk result (self.new.unconnected.items
-            ≡ with_class is_unconnected self.old.unconnected.items (as_net_class growing)) }
-    {
-        let (name, class) = name_and_class(growing)?;
-        if class.pins.len() == 0 {
-            return Ok(());
-        }
-        if let Some(name) = name {
-            let net = net_of(alloc, name.text, NetSort::Named, class)?;
-            self.named.push(NamedNet { net })?;
-            return Ok(());
-        }
-        if class.is_single_pin {
-            self.unconnected.push(class)?;
-        } else {
-            self.unnamed.push(class)?;
-        }
-        Ok(())
-    }
-}
-
-/// The classes that have members, in order.
-pub fn in_order(alloc: Global, growing: Vec<GrowingClass>) -> Result<NetClasses, AllocError>
-    ensures named { IfOk result (λ o. o.named.items ≡ named_in_order growing.items) }
-    ensures unnamed { IfOk result (λ o. o.unnamed.items ≡ in_order is_unnamed growing.items) }
-    ensures unconnected { IfOk result
-        (λ o. o.unconnected.items ≡ in_order is_unconnected growing.items) }
-{
-    let mut passed = NetClasses {
-        named: Vec::new(alloc),
-        unnamed: Vec::new(alloc),
-        unconnected: Vec::new(alloc),
-    };
-    for class in growing {
-        passed.take(alloc, class)?;
-    }
+    let ordered = ordered_pins(alloc, flat, ranks)?;
+    let pin_labels = labels_of_pins(alloc, &ordered.pins, &ordered.places, labels)?;
+    let chains = chains_of(alloc, labels.len(), &pin_labels)?;
+    let met = labels_met(alloc, labels.len(), &pin_labels)?;
+    let growing = grown(
+        alloc,
+        flat.rows(),
+        flat.global_names(),
+        flat.drawn_names(),
+        labels,
+    )?;
     Ok(NetClasses {
-        named: once_in_order(passed.named)?,
-        unnamed: once_in_order(passed.unnamed)?,
-        unconnected: once_in_order(passed.unconnected)?,
+        ordered,
+        chains,
+        met,
+        growing,
     })
+}
+
+fn is_new(pins: &[ClassPin<'_>], last: usize, pin: usize) -> bool
+    requires { pin < length pins.now }
+    ensures { result
+        ≡ is_new_at (eq_by_cmp by_member) (slice_get pins.now last) (slice_get pins.now pin) }
+{
+    if last >= pins.len() {
+        return true;
+    }
+    !pins[pin].prints_as(&pins[last])
+}
+
+/// Puts a pin behind the members, unless the last one prints alike.
+fn push_new(
+    members: &mut Vec<Member>,
+    pins: &[ClassPin<'_>],
+    last: usize,
+    pin: usize,
+) -> Result<(), AllocError>
+    requires { pin < length pins.now }
+    ensures { OnOk result (members.new.items ≡ members.old.items ++ map (λ p. p.member)
+        (new_at (eq_by_cmp by_member) (slice_get pins.now last) (slice_get pins.now pin))) }
+{
+    if is_new(pins, last, pin) {
+        let member = pins[pin].member()?;
+        members.push(member)?;
+    }
+    Ok(())
+}
+
+/// The members of a chain of pins, in order; of several that print alike the first.
+fn members(
+    alloc: Global,
+    pins: &[ClassPin<'_>],
+    places: &[usize],
+    nexts: &[usize],
+    head: usize,
+) -> Result<Members, AllocError>
+    requires { AreWhole (length pins.now) places.now nexts.now }
+    ensures { IfOk result (λ members. (walk : List ℕ) → IsWalk nexts.now head walk
+        → members ≡ map (λ p. p.member)
+        (news (eq_by_cmp by_member) None (walk_pins pins.now places.now walk))) }
+{
+    let mut members = Vec::new(alloc);
+    let mut last = pins.len();
+    let mut at = head;
+    while at < nexts.len() {
+        let pin = places[at];
+        push_new(&mut members, pins, last, pin)?;
+        last = pin;
+        at = nexts[at];
+    }
+    Ok(Items::from_vec(members))
+}
+
+impl NetClasses<'_> {
+    /// The class of a label, without its name.
+    pub fn body(&self, alloc: Global, label: usize) -> Result<ClassBody, AllocError>
+        requires whole { IsWhole self.now }
+        requires label { label < length self.now.growing.items }
+        ensures { IfOk result (λ body. (conductors : List FlatConductor) (labels : List ℕ)
+            → IsGathered conductors labels self.now
+            → body ≡ body_of (net_class_of (labelled_from 0 conductors labels) label)) }
+    {
+        let head = self.chains.heads[label];
+        let pins = &self.ordered.pins;
+        let places = &self.ordered.places;
+        let members = members(alloc, pins, places, &self.chains.nexts, head)?;
+        let growing = &self.growing[label];
+        Ok(ClassBody {
+            global: growing.global,
+            directive: growing.directive,
+            members,
+        })
+    }
 }

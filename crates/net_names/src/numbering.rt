@@ -4,10 +4,11 @@ ghost use Rattle.std.specs.Prelude.{◌≡◌, ◌++◌, ◌+◌, ◌<◌, ◌^�
 ghost use Rattle.std.specs.Prelude.{IfOk, OnOk, decimal, length};
 ghost use Rattle.net_names.specs.steps.Numbering.{AreNumbered, IsNextFree};
 
-use crate::named::net_of;
+use crate::named::net_with;
 use crate::names::NetName;
-use crate::net_classes::NetClass;
+use crate::net_classes::ClassBody;
 use geda_model::Block;
+use itoa::Buffer;
 use net_list::{Net, NetSort};
 use std::alloc::{AllocError, Global};
 use std::collections::BTreeSet;
@@ -19,7 +20,9 @@ fn numbered_name(alloc: Global, prefix: &str, number: usize) -> Result<NetName, 
     ensures { IfOk result (λ name. name ≡ prefix.now ++ decimal number) }
 {
     let mut text = String::with_capacity(alloc, NAME_ROOM)?;
-    write!(text, "{prefix}{number}")?;
+    let mut digits = Buffer::new();
+    text.push_str(prefix)?;
+    text.push_str(digits.format(number))?;
     Ok(NetName {
         text: Block::from_string(text),
     })
@@ -54,7 +57,7 @@ pub fn number_classes(
     nets: &mut Vec<Net>,
     prefix: &str,
     sort: NetSort,
-    classes: Vec<NetClass>,
+    classes: Vec<ClassBody>,
     taken: BTreeSet<NetName>,
 ) -> Result<(), AllocError>
     ensures { OnOk result
@@ -67,7 +70,7 @@ pub fn number_classes(
     let mut next = 1;
     for class in classes {
         let (number, name) = free_name(alloc, prefix, next, &mut taken)?;
-        nets.push(net_of(alloc, name.text, sort, class)?)?;
+        nets.push(net_with(name.text, sort, class))?;
         next = number + 1;
     }
     Ok(())

@@ -1,110 +1,108 @@
-// The packages of a list of parts.
-ghost use Rattle.std.specs.Prelude.{◌≡◌, IfOk, OnOk, map};
-ghost use Rattle.std.specs.BTreeMap.{IsOrdered};
-ghost use Rattle.std.specs.Option.{option_or};
+// The packages of a list of parts, and the rank of each part among them.
+ghost use Rattle.std.specs.Prelude.{◌≡◌, ◌<◌, None, IfOk, length, map, replicate};
+ghost use Rattle.std.specs.List.{filter_map};
 ghost use Rattle.geda_defs.specs.Order.{by_bytes};
+ghost use Rattle.rank_order.specs.Keys.{AreRanks};
 ghost use Rattle.net_names.specs.Packages.{packages_by};
-ghost use Rattle.net_names.specs.steps.PackageRows.{AreRowsOf, TakesIn, no_attributes};
-ghost use Rattle.net_names.specs.steps.PackageRows.{package_of_row};
+ghost use Rattle.net_names.specs.steps.PackageRows.{merged, with_part};
 
-use geda_model::{Block, Items, Line};
+use geda_model::{Items, Line};
 use net_list::{Package, Packages};
+use rank_order::{Ranks, ranks_of};
 use std::alloc::{AllocError, Global};
-use std::collections::BTreeMap;
 
-/// The attributes of a package, as far as they are known.
-#[derive(Drop)]
-pub struct PackageAttributes {
-    /// The attribute `device`.
-    pub device: Option<Block>,
-    /// The attribute `value`.
-    pub value: Option<Block>,
-    /// The attribute `footprint`.
-    pub footprint: Option<Block>,
+fn refdeses<'a>(alloc: Global, parts: &'a [Package]) -> Result<Vec<&'a Line>, AllocError>
+    ensures { IfOk result (λ refdeses.
+        map (λ r. r.now) refdeses.items ≡ map (λ p. p.refdes) parts.now) }
+{
+    let mut refdeses = Vec::with_capacity(alloc, parts.len())?;
+    for at in 0..parts.len() {
+        refdeses.push(&parts[at].refdes)?;
+    }
+    Ok(refdeses)
 }
 
-fn no_attributes() -> PackageAttributes
-    ensures { result ≡ no_attributes }
+/// The rank of each part: the place of its package among the packages.
+pub fn part_ranks(alloc: Global, parts: &[Package]) -> Result<Ranks, AllocError>
+    ensures { IfOk result (λ r.
+        AreRanks by_bytes (map (λ p. p.refdes) parts.now) r.ranks.items r.count) }
 {
-    PackageAttributes {
-        device: None,
-        value: None,
-        footprint: None,
+    let refdeses = refdeses(alloc, parts)?;
+    let ranks = ranks_of(alloc, &refdeses)?;
+    Ok(ranks)
+}
+
+/// A part, or what is known of its package, with what the part says of it besides.
+fn merged(known: Option<Package>, part: Package) -> Package
+    ensures { result ≡ merged known part }
+{
+    match known {
+        None => part,
+        Some(known) => {
+            let Package {
+                refdes,
+                device,
+                value,
+                footprint,
+            } = known;
+            Package {
+                refdes,
+                device: device.or(part.device),
+                value: value.or(part.value),
+                footprint: footprint.or(part.footprint),
+            }
+        }
     }
 }
 
-fn take_attributes(
-    known: &mut PackageAttributes,
-    device: Option<Block>,
-    value: Option<Block>,
-    footprint: Option<Block>,
-)
-    ensures device { known.new.device ≡ option_or known.old.device device }
-    ensures value { known.new.value ≡ option_or known.old.value value }
-    ensures footprint { known.new.footprint ≡ option_or known.old.footprint footprint }
+fn no_packages(alloc: Global, count: usize) -> Result<Vec<Option<Package>>, AllocError>
+    ensures { IfOk result (λ rows. rows.items ≡ replicate count None) }
 {
-    known.device = known.device.take().or(device);
-    known.value = known.value.take().or(value);
-    known.footprint = known.footprint.take().or(footprint);
-}
-
-/// Takes in a part. An attribute that its package has already stays.
-fn take_part(rows: &mut BTreeMap<Line, PackageAttributes>, part: Package) -> Result<(), AllocError>
-    ensures { OnOk result (TakesIn part rows.old rows.new) }
-{
-    let Package {
-        refdes,
-        device,
-        value,
-        footprint,
-    } = part;
-    let known = rows.entry(refdes)?.or_insert(no_attributes());
-    take_attributes(known, device, value, footprint);
-    Ok(())
-}
-
-fn rows_of(
-    alloc: Global,
-    parts: Vec<Package>,
-) -> Result<BTreeMap<Line, PackageAttributes>, AllocError>
-    ensures { IfOk result (AreRowsOf parts.items) }
-{
-    let mut rows = BTreeMap::new(alloc);
-    for part in parts {
-        take_part(&mut rows, part)?;
+    let mut rows = Vec::with_capacity(alloc, count)?;
+    for _place in 0..count {
+        rows.push(None)?;
     }
     Ok(rows)
 }
 
-fn packages_of_rows(
-    alloc: Global,
-    rows: BTreeMap<Line, PackageAttributes>,
-) -> Result<Packages, AllocError>
-    ensures packages { IfOk result (λ packages. packages ≡ map package_of_row rows.entries) }
-    ensures ordered { IsOrdered by_bytes rows }
+/// Takes in a part at its rank. An attribute that its package has already stays.
+fn take_part(rows: &mut Vec<Option<Package>>, rank: usize, part: Package)
+    requires { rank < length rows.old.items }
+    ensures { rows.new.items ≡ with_part rows.old.items rank part }
 {
-    let mut packages = Vec::new(alloc);
-    for (refdes, attributes) in rows {
-        let PackageAttributes {
-            device,
-            value,
-            footprint,
-        } = attributes;
-        packages.push(Package {
-            refdes,
-            device,
-            value,
-            footprint,
-        })?;
+    let row = &mut rows[rank];
+    *row = Some(merged(row.take(), part));
+}
+
+fn listed(alloc: Global, rows: Vec<Option<Package>>) -> Result<Packages, AllocError>
+    ensures { IfOk result (λ packages. packages ≡ filter_map (λ row. row) rows.items) }
+{
+    let mut packages = Vec::with_capacity(alloc, rows.len())?;
+    for row in rows {
+        if let Some(package) = row {
+            packages.push(package)?;
+        }
     }
     Ok(Items::from_vec(packages))
 }
 
-/// The packages of parts, in order of the bytes of the refdes. The first part of a package that has
-/// an attribute gives it.
-pub fn packages_of(alloc: Global, parts: Vec<Package>) -> Result<Packages, AllocError>
+/// The packages of parts that have these ranks, in order of the bytes of the refdes. The first part
+/// of a package that has an attribute gives it.
+pub fn packages_of(
+    alloc: Global,
+    parts: Vec<Package>,
+    ranks: &Ranks,
+) -> Result<Packages, AllocError>
+    requires { AreRanks by_bytes (map (λ p. p.refdes) parts.items)
+        ranks.now.ranks.items ranks.now.count }
     ensures { IfOk result (λ packages. packages ≡ packages_by parts.items) }
 {
-    let rows = rows_of(alloc, parts)?;
-    packages_of_rows(alloc, rows)
+    let mut rows = no_packages(alloc, ranks.count)?;
+    let mut place = 0;
+    for part in parts {
+        take_part(&mut rows, ranks.ranks[place], part);
+        place += 1;
+    }
+    let packages = listed(alloc, rows)?;
+    Ok(packages)
 }

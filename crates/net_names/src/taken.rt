@@ -1,25 +1,24 @@
 // Names of conductors that look like those of nets without names.
-ghost use Rattle.std.specs.Prelude.{◌≡◌, ◌<◌, ◌^◌, [], OnOk, codes, length};
+ghost use Rattle.std.specs.Prelude.{◌≡◌, ◌++◌, IfOk, OnOk, map};
 ghost use Rattle.std.specs.List.{fold};
-ghost use Rattle.link_classes.specs.Links.{names_of};
-ghost use Rattle.net_names.specs.steps.Numbering.{with_taken};
+ghost use Rattle.net_names.specs.steps.Numbering.{taken_names, with_taken};
 
 use crate::names::NetName;
 use attr_rules::begins_with;
 use geda_model::Block;
-use link_classes::FlatConductor;
 use std::alloc::{AllocError, Global};
 use std::collections::BTreeSet;
 
 fn take_names(
     taken: &mut BTreeSet<NetName>,
     prefix: &str,
-    names: &[Block],
+    names: &[(Block, usize)],
 ) -> Result<(), AllocError>
-    ensures { OnOk result
-        (taken.new.keys ≡ fold (with_taken prefix.now) taken.old.keys names.now) }
+    ensures { OnOk result (taken.new.keys
+        ≡ fold (with_taken prefix.now) taken.old.keys (map (λ n. n.0) names.now)) }
 {
-    for name in names {
+    for at in 0..names.len() {
+        let name = &names[at].0;
         if begins_with(name.as_str(), prefix) {
             let text = name.clone()?;
             taken.insert(NetName { text })?;
@@ -28,43 +27,18 @@ fn take_names(
     Ok(())
 }
 
-/// The names that begin as those of nets without names do, each once.
-#[derive(Debug, Drop)]
-pub struct TakenNames {
-    /// As those of unnamed nets do.
-    pub unnamed: BTreeSet<NetName>,
-    /// As those of unconnected pins do.
-    pub unconnected: BTreeSet<NetName>,
-}
-
-impl TakenNames {
-    /// No names. It takes no memory.
-    pub fn new(alloc: Global) -> TakenNames
-        ensures unnamed { result.unnamed.keys ≡ [] }
-        ensures unconnected { result.unconnected.keys ≡ [] }
-    {
-        TakenNames {
-            unnamed: BTreeSet::new(alloc),
-            unconnected: BTreeSet::new(alloc),
-        }
-    }
-
-    /// Takes in the names of a conductor.
-    pub fn take(&mut self, conductor: &FlatConductor) -> Result<(), AllocError>
-        ensures unnamed { OnOk result (self.new.unnamed.keys
-            ≡ fold (with_taken (codes "unnamed_net")) self.old.unnamed.keys
-            (names_of conductor.now)) }
-        ensures unconnected { OnOk result (self.new.unconnected.keys
-            ≡ fold (with_taken (codes "unconnected_pin-")) self.old.unconnected.keys
-            (names_of conductor.now)) }
-        ensures few { length (names_of conductor.now) < 2 ^ 65 }
-    {
-        let global = conductor.global_names.as_slice();
-        let drawn = conductor.drawn_names.as_slice();
-        take_names(&mut self.unnamed, "unnamed_net", global)?;
-        take_names(&mut self.unnamed, "unnamed_net", drawn)?;
-        take_names(&mut self.unconnected, "unconnected_pin-", global)?;
-        take_names(&mut self.unconnected, "unconnected_pin-", drawn)?;
-        Ok(())
-    }
+/// Those of two lists of names that begin with a prefix, each once.
+pub fn taken_names(
+    alloc: Global,
+    prefix: &str,
+    first: &[(Block, usize)],
+    second: &[(Block, usize)],
+) -> Result<BTreeSet<NetName>, AllocError>
+    ensures { IfOk result (λ taken. taken.keys
+        ≡ taken_names prefix.now (map (λ n. n.0) first.now ++ map (λ n. n.0) second.now)) }
+{
+    let mut taken = BTreeSet::new(alloc);
+    take_names(&mut taken, prefix, first)?;
+    take_names(&mut taken, prefix, second)?;
+    Ok(taken)
 }

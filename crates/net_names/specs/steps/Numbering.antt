@@ -1,13 +1,13 @@
 -- Steps of the code; no public clause cites them.
 -- The names that look like those of nets without names, and numbers that skip them.
-use Rattle.std.specs.Prelude.{◌≡◌, ℕ, ◌+◌, ◌-◌, ◌^◌, ◌<◌, ◌≤◌, ◌==◌, not, if◌then◌else◌, Bool, true, false, List, [], ◌++◌, length, filter}
+use Rattle.std.specs.Prelude.{◌≡◌, ℕ, ◌+◌, ◌-◌, ◌^◌, ◌<◌, ◌≤◌, ◌==◌, not, if◌then◌else◌, Bool, true, false, List, [], ◌∷◌, ◌++◌, length, filter}
 use Rattle.std.specs.List.{fold, list_any, range_with_len, starts_with}
 use Rattle.std.specs.Fmt.{decimal}
 use Rattle.std.specs.BTreeSet.{insert_key}
 use Rattle.net_list.specs.declared.nets.Net.{Net}
 use Rattle.net_list.specs.declared.nets.NetSort.{NetSort}
-use Rattle.net_names.specs.NetClasses.{NetClassData}
-use Rattle.net_names.specs.NetLists.{numbered}
+use Rattle.net_names.specs.declared.net_classes.ClassBody.{ClassBody}
+use Rattle.net_names.specs.steps.Classes.{net_with}
 use Rattle.geda_defs.specs.Order.{by_bytes, is_equal}
 
 -- names in order, with one more if it begins with a prefix
@@ -48,9 +48,15 @@ pub record IsNextFree (prefix : List ℕ) (old new : List (List ℕ)) (from give
   pub same : TakeSame prefix old new given
   pub fewer : given + length new ≤ from + length old
 
--- nets grow by those of classes, numbered from 1 on, at any stop that leaves enough numbers
+-- the nets of bodies under their numbers
+abbrev pub numbered_bodies : List ℕ → NetSort → List ℕ → List ClassBody → List Net
+numbered_bodies prefix sort (n ∷ ns) (b ∷ bs) =
+    net_with (prefix ++ decimal n) sort b ∷ numbered_bodies prefix sort ns bs
+numbered_bodies prefix sort numbers bodies = []
+
+-- nets grow by those of bodies, numbered from 1 on, at any stop that leaves enough numbers
 abbrev pub AreNumbered :
-    List ℕ → NetSort → List (List ℕ) → List NetClassData → List Net → List Net → Type 0
-AreNumbered prefix sort taken classes old new =
-    (stop : ℕ) → length taken + length classes < stop
-    → new ≡ old ++ numbered prefix sort (free_below prefix taken 1 stop) classes
+    List ℕ → NetSort → List (List ℕ) → List ClassBody → List Net → List Net → Type 0
+AreNumbered prefix sort taken bodies old new =
+    (stop : ℕ) → length taken + length bodies < stop
+    → new ≡ old ++ numbered_bodies prefix sort (free_below prefix taken 1 stop) bodies

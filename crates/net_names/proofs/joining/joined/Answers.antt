@@ -1,7 +1,8 @@
+use Rattle.std.proofs.Common.{length}
 use Rattle.pair_classes.proofs.LabelLemmas.{label_inside}
+use Rattle.net_names.proofs.GatheredLemmas.{labels_all}
 use Rattle.net_names.proofs.joining.joined.Goals as goal
 
-pub nets_by-requires-clause-in_range : goal.nets_by-requires-clause-in_range
-nets_by-requires-clause-in_range c = λ i h.
-    let are = rw c.as_slice.ensures.value at c.in_ok-labels.ensures in
-    rw c.as_slice-2.ensures.value (label_inside _ _ c.in_ok-labels.labels.items are i (rw c.as_slice-2.ensures.value at h))
+pub nets_by-requires-clause-labels : goal.nets_by-requires-clause-labels
+nets_by-requires-clause-labels c =
+    rw c.as_slice.ensures.value (labels_all (length c.args.flat.conductors) c.in_ok-labels.labels.items (λ i h. label_inside _ _ c.in_ok-labels.labels.items c.in_ok-labels.ensures i h))

@@ -2,9 +2,9 @@ use Rattle.std.proofs.Common.{◌≡◌, [], ◌++◌, ◌<◌, ◌^◌, ℕ, Li
 use Rattle.std.specs.Vec.Iter.{into_iter_items}
 use Rattle.std.proofs.lemmas.List.{append-nil, nil_from_length}
 use Rattle.net_list.specs.declared.nets.Net.{Net}
-use Rattle.net_names.specs.NetClasses.{NetClassData}
-use Rattle.net_names.specs.NetLists.{net_of, numbered}
-use Rattle.net_names.specs.steps.Numbering.{free_below}
+use Rattle.net_names.specs.declared.net_classes.ClassBody.{ClassBody}
+use Rattle.net_names.specs.steps.Classes.{net_with}
+use Rattle.net_names.specs.steps.Numbering.{free_below, numbered_bodies}
 use Rattle.net_names.proofs.NumberingLemmas.{grows, take_later, numbered_none}
 use Rattle.net_names.proofs.numbering.number_classes.Goals as goal
 
@@ -29,9 +29,9 @@ loop-class-preserved c =
       rest = λ stop enough.
           let below : number < stop = omega (arith, enough, kept.room, next.fewer, one_fewer) in
           let name = c.name.view_is ∙ c.in_ok-number.ensures.name in
-          let made = c.in_ok-net_of.ensures ∙ ap (λ (text : List ℕ). net_of text sort c.in-Some.class) name in
+          let made = c.net_with.ensures ∙ ap (λ (text : List ℕ). net_with text sort c.in-Some.class) name in
           grows prefix sort first taken later c.loop-class.next number stop c.in-Some.class (into_iter_items c.next.new.self) (into_iter_items c.loop-class.class-iterator)
-          c.in_ok-net_of.field-0 c.loop-class.nets.items c.push.new.self.items _ small below kept.same next made c.in_ok-push.ensures.items steps.0
+          c.net_with.result c.loop-class.nets.items c.push.new.self.items _ small below kept.same next made c.in_ok-push.ensures.items steps.0
           (kept.rest stop enough);
     }
 
@@ -41,5 +41,5 @@ returns c = λ stop enough.
     let none : [] ≡ into_iter_items c.loop-class.class-iterator = sym (nil_from_length (into_iter_items c.loop-class.class-iterator) (sym c.loop-class.invariant.len ∙ c.in-None.ensures.steps.0)) in
     sym (append-nil c.loop-class.nets.items)
     ∙ ap (λ (nets : List Net). c.loop-class.nets.items ++ nets) (sym (numbered_none c.args.prefix.now c.args.sort (free_below c.args.prefix.now c.args.taken.keys c.loop-class.next stop)))
-    ∙ ap (λ (cs : List NetClassData). c.loop-class.nets.items ++ numbered c.args.prefix.now c.args.sort (free_below c.args.prefix.now c.args.taken.keys c.loop-class.next stop) cs) none
+    ∙ ap (λ (cs : List ClassBody). c.loop-class.nets.items ++ numbered_bodies c.args.prefix.now c.args.sort (free_below c.args.prefix.now c.args.taken.keys c.loop-class.next stop) cs) none
     ∙ kept
