@@ -16,7 +16,6 @@ use net_names::{join, join_objects};
 use project_model::Project;
 use sheet_groups::local_groups;
 use std::alloc::{AllocError, Global};
-use std::collections::BTreeMap;
 
 /// The net list of a project (docs/RULES.md, "Nets").
 ///
@@ -35,9 +34,9 @@ fn net_report_by(
     alloc: Global,
     form: Form,
     project: &Project,
-    groups: &BTreeMap<Key, Key>,
+    groups: &[(Key, Key)],
 ) -> Result<Vec<u8>, ElabFault>
-    requires { AreGroups (sheet_conductors project.now.contents) groups.now.entries }
+    requires { AreGroups (sheet_conductors project.now.contents) groups.now }
     ensures { Elaborates
         (OfNetList ElabFault.TooManyInstances (net_text form) project.now.contents)
         (seen result) }
@@ -75,9 +74,9 @@ fn check_by(
     alloc: Global,
     matrix: &Matrix,
     project: &Project,
-    groups: &BTreeMap<Key, Key>,
+    groups: &[(Key, Key)],
 ) -> Result<Check, ElabFault>
-    requires { AreGroups (sheet_conductors project.now.contents) groups.now.entries }
+    requires { AreGroups (sheet_conductors project.now.contents) groups.now }
     ensures { Elaborates
         (OfNetList ElabFault.TooManyInstances (checked project.now.contents matrix.now)
         project.now.contents) result }

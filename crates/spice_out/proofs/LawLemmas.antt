@@ -9,7 +9,7 @@ use Rattle.std.proofs.lemmas.List.Elements.{All-contains_itself, All-weaker, Con
 use Rattle.std.proofs.lemmas.Option.{none-some, same_Some}
 use Rattle.geda_defs.proofs.Bytes.{bytes_true}
 use Rattle.pair_classes.proofs.ListLemmas.{head_is_in}
-use Rattle.link_classes.specs.declared.conductors.FlatConductor.{FlatConductor}
+use Rattle.flat_rows.specs.Conductors.{FlatConductor}
 use Rattle.net_list.specs.declared.member.Member.{Member}
 use Rattle.net_list.specs.declared.package.Package.{Package}
 use Rattle.net_list.specs.declared.nets.Net.{Net}

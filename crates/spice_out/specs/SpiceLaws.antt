@@ -7,7 +7,7 @@ use Rattle.std.specs.Option.{unwrap_or}
 use Rattle.geda_defs.specs.Classes.{Joined}
 use Rattle.geda_defs.specs.Lines.{is_line_feed}
 use Rattle.printed_texts.specs.PrintedTexts.{flat}
-use Rattle.link_classes.specs.declared.conductors.FlatConductor.{FlatConductor}
+use Rattle.flat_rows.specs.Conductors.{FlatConductor}
 use Rattle.net_list.specs.declared.member.Member.{Member}
 use Rattle.link_classes.specs.Links.{Linked}
 use Rattle.net_list.specs.declared.package.Package.{Package}

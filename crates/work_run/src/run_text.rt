@@ -17,7 +17,6 @@ use net_list::Nets;
 use project_model::Project;
 use reports::net_list;
 use std::alloc::{AllocError, Global};
-use std::collections::BTreeMap;
 
 fn live(alloc: Global, project: &Project) -> Result<usize, AllocError>
     ensures { IfOk result (λ count. count ≡ length (entries project.now.contents.objects)) }
@@ -25,10 +24,10 @@ fn live(alloc: Global, project: &Project) -> Result<usize, AllocError>
     Ok(project.objects_by_id(alloc)?.len())
 }
 
-fn group_count(groups: &BTreeMap<Key, Key>) -> usize
-    ensures { result ≡ count_by is_first groups.now.entries }
+fn group_count(groups: &[(Key, Key)]) -> usize
+    ensures { result ≡ count_by is_first groups.now }
 {
-    groups.iter().filter(|(key, first)| key == first).count()
+    groups.iter().filter(|row| row.0 == row.1).count()
 }
 
 fn put_number(text: &mut String, name: &str, number: u64) -> Result<(), AllocError>
@@ -44,12 +43,12 @@ fn told(
     alloc: Global,
     asked: (u32, u32),
     run: &Run,
-    groups: &BTreeMap<Key, Key>,
+    groups: &[(Key, Key)],
     nets: &Nets,
 ) -> Result<Vec<u8>, AllocError>
-    requires { AreGroups (sheet_conductors run.now.board.project) groups.now.entries }
+    requires { AreGroups (sheet_conductors run.now.board.project) groups.now }
     ensures text { IfOk result (λ text. text.items ≡ run_text asked.0 asked.1 (run_of run.now)
-        groups.now.entries run.now.board.asked nets.now) }
+        groups.now run.now.board.asked nets.now) }
     ensures calls { OnOk result (run.now.board.asked < 2 ^ 64) }
 {
     let mut text = String::new(alloc);

@@ -4,5 +4,5 @@ use Rattle.work_run.proofs.run_text.told.Goals as goal
 
 pub returns : goal.returns
 returns c =
-    let rows = length-rows _ c.args.groups.now.entries c.requires in
+    let rows = length-rows _ c.args.groups.now c.requires in
     search (rules, append_assoc)

@@ -16,8 +16,8 @@ nets_of-requires c =
 
 pub returns : goal.returns
 returns c =
-    let groups = c.in_ok-groups.groups.entries in
-    let are_groups = subst (λ (run : OpenRun). AreGroups (sheet_conductors run.board.project) groups) c.run.view_is c.in_ok-groups.ensures in
+    let groups = c.in_ok-groups.groups.items in
+    let are_groups = subst (λ (run : OpenRun). AreGroups (sheet_conductors run.board.project) groups) c.run.view_is c.in_ok-groups.ensures.groups in
     let same = c.project.ensures ∙ ap (λ (run : OpenRun). run.board.project) c.run.view_is in
     WorkComesTo-text c.args.start c.args.count c.in_ok-run.run' c.project.result.now.contents groups c.in_ok-nets.nets c.in_ok-told.field-0.items
-    same c.in_ok-run.ensures.run c.in_ok-run.ensures.sound c.in_ok-told.ensures.calls are_groups c.in_ok-nets.ensures c.in_ok-told.ensures.text
+    same c.in_ok-run.ensures.run c.in_ok-run.ensures.sound c.in_ok-told.ensures.calls are_groups c.in_ok-nets.ensures (rw c.deref.ensures.value at c.in_ok-told.ensures.text)
