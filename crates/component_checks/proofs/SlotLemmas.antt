@@ -1,6 +1,6 @@
 -- The slots of packages after all components are those of the packages.
 use Rattle.std.proofs.Common.{◌≡◌, ◌∙◌, ℕ, Bool, true, false, ◌&&◌, ◌||◌, cond, List, [], ◌∷◌, Option, Some, None, refl, ap, sym}
-use Rattle.std.specs.Prelude.{unwrap_or}
+use Rattle.std.specs.Prelude.{is_some, not, unwrap_or}
 use Rattle.std.specs.BTreeMap.{Updates, is_at}
 use Rattle.std.specs.BTreeSet.{contains}
 use Rattle.std.specs.List.{filter_map, flat_map, list_any, range_with_len, slice_get}
@@ -14,7 +14,7 @@ use Rattle.geda_defs.specs.Order.{by_bytes}
 use Rattle.component_checks.specs.CheckedComponents.{CheckedData}
 use Rattle.component_checks.specs.OnPackages.{is_number, of_package, slot_value, unused_slot, unused_slots, uses_slot}
 use Rattle.component_checks.specs.declared.slot_rows.PackageSlots.{PackageSlots}
-use Rattle.component_checks.specs.steps.SlotRows.{AddsNumber, AreSlotsOf, SlotRows, TakesIn, all_unused_in, count_after, count_in, count_of, is_part_of, is_used, row_at, unused_in, uses_in}
+use Rattle.component_checks.specs.steps.SlotRows.{AddsNumber, AreSlotsOf, SlotRows, TakesIn, TakesInIfListed, all_unused_in, count_after, count_in, count_of, has_no_slots, is_part_of, is_used, row_at, unused_in, uses_in}
 use Rattle.component_checks.proofs.ListLemmas.{first_cons, flat_map_same, option_or-assoc, option_or-none}
 
 -- ---- one component
@@ -68,6 +68,30 @@ takes_in refdes c old mid new none known made is no_count no_used count used out
         by : (b : Bool) → bytes_eq q refdes ≡ b → is_used (row_at new q) k ≡ (is_used (row_at old q) k || (b && is_number k (slot_value c.slot)))
         by true e = rw (row_back refdes old mid new made out back q, e, used k, is, known_used (row_at old refdes) none k (no_used k), (bytes_eq-Decides q refdes).0 e) refl
         by false e = rw (row_back refdes old mid new made out back q, e) (or_false (is_used (row_at old q) k))
+
+-- neither a count nor a slot
+neither : (slots : Option ℕ) (slot : Option (List ℕ)) → (not (is_some slots) && not (is_some slot)) ≡ true
+    → (slots ≡ None) × (slot ≡ None)
+neither None None e = (refl, refl)
+neither None (Some s) e = absurd (let h = e in cc)
+neither (Some n) slot e = absurd (let h = e in cc)
+
+no_count : (known slots : Option ℕ) (b : Bool) → slots ≡ None → known ≡ option_or known (cond b slots None)
+no_count known slots true e = rw e (sym (option_or-none known))
+no_count known slots false e = sym (option_or-none known)
+
+no_use : (used b : Bool) (k : ℕ) (slot : Option (List ℕ)) → slot ≡ None → used ≡ (used || (b && is_number k (slot_value slot)))
+no_use used true k slot e = rw e (or_false used)
+no_use used false k slot e = or_false used
+
+-- a component without slots changes no row
+pub takes_none : (c : CheckedData) (rows : SlotRows) → has_no_slots c ≡ true → TakesInIfListed c rows rows
+takes_none c rows none =
+    let both = neither c.slots c.slot none in
+    record {
+      counts = λ q. no_count (count_in (row_at rows q)) c.slots (is_part_of q c) both.0;
+      used = λ q k. no_use (is_used (row_at rows q) k) (is_part_of q c) k c.slot both.1;
+    }
 
 -- ---- all components
 

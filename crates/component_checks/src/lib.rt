@@ -1,7 +1,7 @@
 //! What the check finds on the components of a project and on its packages.
 //!
 //! `checked_components` gathers what the rules ask of each component in each instance of its sheet;
-//! the other calls add what they find to a set of findings. Rules: docs/RULES.md, "Findings".
+//! the other calls add what they find to a list of findings. Rules: docs/RULES.md, "Findings".
 //! Definitions: specs/CheckedComponents.antt, specs/OnComponents.antt and specs/OnPackages.antt.
 #![tactic(auto)]
 

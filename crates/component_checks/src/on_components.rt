@@ -1,7 +1,6 @@
 // What is found on components.
-ghost use Rattle.std.specs.Prelude.{◌≡◌, OnOk};
+ghost use Rattle.std.specs.Prelude.{◌≡◌, ◌++◌, OnOk};
 ghost use Rattle.std.specs.List.{flat_map};
-ghost use Rattle.drc_findings.specs.Order.{with_findings};
 ghost use Rattle.component_checks.specs.OnComponents.{found_on_components};
 ghost use Rattle.component_checks.specs.steps.FoundBy.{found_by};
 
@@ -11,31 +10,28 @@ use crate::on_refdes::add_on_refdes;
 use crate::repeats::{Repeats, repeats_of};
 use drc_findings::Finding;
 use std::alloc::{AllocError, Global};
-use std::collections::BTreeSet;
 
-#[tactic(auto, using(drc_findings::proofs::FoundLemmas::with_append))]
 fn add_found_on<'a>(
     alloc: Global,
-    found: &mut BTreeSet<Finding>,
+    found: &mut Vec<Finding>,
     repeats: &Repeats<'a>,
     component: &'a CheckedComponent,
 ) -> Result<(), AllocError>
     ensures { OnOk result
-        (found.new.keys ≡ with_findings found.old.keys (found_by repeats.now component.now)) }
+        (found.new.items ≡ found.old.items ++ found_by repeats.now component.now) }
 {
     add_on_refdes(alloc, found, repeats, component)?;
     add_on_contents(alloc, found, component)
 }
 
-#[tactic(auto, using(drc_findings::proofs::FoundLemmas::with_append))]
 fn add_found_on_each<'a>(
     alloc: Global,
-    found: &mut BTreeSet<Finding>,
+    found: &mut Vec<Finding>,
     repeats: &Repeats<'a>,
     components: &'a [CheckedComponent],
 ) -> Result<(), AllocError>
-    ensures { OnOk result (found.new.keys
-        ≡ with_findings found.old.keys (flat_map (found_by repeats.now) components.now)) }
+    ensures { OnOk result
+        (found.new.items ≡ found.old.items ++ flat_map (found_by repeats.now) components.now) }
 {
     for component in components {
         add_found_on(alloc, found, repeats, component)?;
@@ -47,11 +43,11 @@ fn add_found_on_each<'a>(
 /// DuplicateSlot, BadSlot, UnknownPintype, MissingSymbol and BadNet.
 pub fn add_on_components(
     alloc: Global,
-    found: &mut BTreeSet<Finding>,
+    found: &mut Vec<Finding>,
     components: &[CheckedComponent],
 ) -> Result<(), AllocError>
-    ensures { OnOk result (found.new.keys
-        ≡ with_findings found.old.keys (found_on_components components.now)) }
+    ensures { OnOk result
+        (found.new.items ≡ found.old.items ++ found_on_components components.now) }
 {
     let repeats = repeats_of(alloc, components)?;
     add_found_on_each(alloc, found, &repeats, components)

@@ -1,7 +1,6 @@
 // What is found on the slot, the pins, the symbol and the nets of a component.
-ghost use Rattle.std.specs.Prelude.{◌≡◌, OnOk};
+ghost use Rattle.std.specs.Prelude.{◌≡◌, ◌++◌, OnOk};
 ghost use Rattle.std.specs.List.{flat_map};
-ghost use Rattle.drc_findings.specs.Order.{with_findings};
 ghost use Rattle.component_checks.specs.OnComponents.{bad_net, bad_slot, fault_word};
 ghost use Rattle.component_checks.specs.OnComponents.{missing_symbol, unknown_pin};
 ghost use Rattle.component_checks.specs.steps.FoundBy.{found_on_contents};
@@ -14,7 +13,6 @@ use pin_matrix::same_kind;
 use pin_place::PlacedPin;
 use printed_texts::{numbered_words, pair_words, pin_words};
 use std::alloc::{AllocError, Global};
-use std::collections::BTreeSet;
 
 fn fault_word(fault: SlotFault) -> &'static str
     ensures { result.now ≡ fault_word fault }
@@ -30,11 +28,10 @@ fn fault_word(fault: SlotFault) -> &'static str
 #[tactic(auto, using(crate::proofs::FaultLemmas::fault_again))]
 fn add_bad_slot(
     alloc: Global,
-    found: &mut BTreeSet<Finding>,
+    found: &mut Vec<Finding>,
     component: &CheckedComponent,
 ) -> Result<(), AllocError>
-    ensures { OnOk result
-        (found.new.keys ≡ with_findings found.old.keys (bad_slot component.now)) }
+    ensures { OnOk result (found.new.items ≡ found.old.items ++ bad_slot component.now) }
 {
     if let Some(fault) = component.slot_fault {
         if is_listed(component) {
@@ -47,12 +44,11 @@ fn add_bad_slot(
 
 fn add_unknown_pin(
     alloc: Global,
-    found: &mut BTreeSet<Finding>,
+    found: &mut Vec<Finding>,
     component: &CheckedComponent,
     pin: &PlacedPin,
 ) -> Result<(), AllocError>
-    ensures { OnOk result (found.new.keys
-        ≡ with_findings found.old.keys (unknown_pin component.now pin.now)) }
+    ensures { OnOk result (found.new.items ≡ found.old.items ++ unknown_pin component.now pin.now) }
 {
     if is_listed(component) && same_kind(pin.kind, PinKind::Unknown) {
         let words = pin_words(alloc, refdes_of(component), pin.number.as_str())?;
@@ -61,15 +57,14 @@ fn add_unknown_pin(
     Ok(())
 }
 
-#[tactic(auto, using(drc_findings::proofs::FoundLemmas::with_append))]
 fn add_unknown_pins(
     alloc: Global,
-    found: &mut BTreeSet<Finding>,
+    found: &mut Vec<Finding>,
     component: &CheckedComponent,
     pins: &[PlacedPin],
 ) -> Result<(), AllocError>
-    ensures { OnOk result (found.new.keys
-        ≡ with_findings found.old.keys (flat_map (unknown_pin component.now) pins.now)) }
+    ensures { OnOk result
+        (found.new.items ≡ found.old.items ++ flat_map (unknown_pin component.now) pins.now) }
 {
     for pin in pins {
         add_unknown_pin(alloc, found, component, pin)?;
@@ -79,11 +74,10 @@ fn add_unknown_pins(
 
 fn add_missing_symbol(
     alloc: Global,
-    found: &mut BTreeSet<Finding>,
+    found: &mut Vec<Finding>,
     component: &CheckedComponent,
 ) -> Result<(), AllocError>
-    ensures { OnOk result
-        (found.new.keys ≡ with_findings found.old.keys (missing_symbol component.now)) }
+    ensures { OnOk result (found.new.items ≡ found.old.items ++ missing_symbol component.now) }
 {
     if !component.has_symbol {
         let sheet = component.sheet.as_str();
@@ -98,10 +92,10 @@ fn add_missing_symbol(
 
 fn add_bad_net(
     alloc: Global,
-    found: &mut BTreeSet<Finding>,
+    found: &mut Vec<Finding>,
     component: &CheckedComponent,
 ) -> Result<(), AllocError>
-    ensures { OnOk result (found.new.keys ≡ with_findings found.old.keys (bad_net component.now)) }
+    ensures { OnOk result (found.new.items ≡ found.old.items ++ bad_net component.now) }
 {
     if component.has_bad_net {
         let sheet = component.sheet.as_str();
@@ -116,14 +110,12 @@ fn add_bad_net(
 
 /// Adds what is found on the slot, the pins, the symbol and the nets of a component: the rules
 /// BadSlot, UnknownPintype, MissingSymbol and BadNet.
-#[tactic(auto, using(drc_findings::proofs::FoundLemmas::with_append))]
 pub fn add_on_contents(
     alloc: Global,
-    found: &mut BTreeSet<Finding>,
+    found: &mut Vec<Finding>,
     component: &CheckedComponent,
 ) -> Result<(), AllocError>
-    ensures { OnOk result
-        (found.new.keys ≡ with_findings found.old.keys (found_on_contents component.now)) }
+    ensures { OnOk result (found.new.items ≡ found.old.items ++ found_on_contents component.now) }
 {
     add_bad_slot(alloc, found, component)?;
     add_unknown_pins(alloc, found, component, component.pins.as_slice())?;

@@ -1,9 +1,8 @@
 // What is found on packages.
-ghost use Rattle.std.specs.Prelude.{◌≡◌, IfOk, List, OnOk, Some, map};
+ghost use Rattle.std.specs.Prelude.{◌≡◌, ◌++◌, IfOk, List, OnOk, Some, map};
 ghost use Rattle.text_tallies.specs.LookAlike.{look_alike};
 ghost use Rattle.text_tallies.specs.NameSets.{HasNames};
 ghost use Rattle.net_list.specs.declared.package.Package.{Package};
-ghost use Rattle.drc_findings.specs.Order.{with_findings};
 ghost use Rattle.component_checks.specs.CheckedComponents.{CheckedData};
 ghost use Rattle.component_checks.specs.OnPackages.{found_on_package, found_on_packages, refdeses};
 ghost use Rattle.component_checks.specs.steps.SlotRows.{AreSlotsOf, all_unused_in, row_at};
@@ -21,13 +20,13 @@ use text_tallies::alike_texts;
 
 fn add_if_unused(
     alloc: Global,
-    found: &mut BTreeSet<Finding>,
+    found: &mut Vec<Finding>,
     slots: &PackageSlots,
     refdes: &str,
     number: u32,
 ) -> Result<(), AllocError>
-    ensures { OnOk result (found.new.keys
-        ≡ with_findings found.old.keys (unused_in (Some slots.now) refdes.now number)) }
+    ensures { OnOk result
+        (found.new.items ≡ found.old.items ++ unused_in (Some slots.now) refdes.now number) }
 {
     if !slots.used.contains(&number) {
         add_warning(
@@ -39,15 +38,14 @@ fn add_if_unused(
     Ok(())
 }
 
-#[tactic(auto, using(drc_findings::proofs::FoundLemmas::with_append))]
 fn add_unused_of(
     alloc: Global,
-    found: &mut BTreeSet<Finding>,
+    found: &mut Vec<Finding>,
     slots: &PackageSlots,
     refdes: &str,
 ) -> Result<(), AllocError>
-    ensures { OnOk result (found.new.keys
-        ≡ with_findings found.old.keys (all_unused_in (Some slots.now) refdes.now)) }
+    ensures { OnOk result
+        (found.new.items ≡ found.old.items ++ all_unused_in (Some slots.now) refdes.now) }
 {
     let count = slots.count.unwrap_or(0);
     for place in 0..count {
@@ -58,12 +56,12 @@ fn add_unused_of(
 
 fn add_unused_slots(
     alloc: Global,
-    found: &mut BTreeSet<Finding>,
+    found: &mut Vec<Finding>,
     rows: &BTreeMap<Line, PackageSlots>,
     refdes: &Line,
 ) -> Result<(), AllocError>
-    ensures { OnOk result (found.new.keys ≡ with_findings found.old.keys
-        (all_unused_in (row_at rows.now refdes.now) refdes.now)) }
+    ensures { OnOk result (found.new.items
+        ≡ found.old.items ++ all_unused_in (row_at rows.now refdes.now) refdes.now) }
 {
     match rows.get(refdes) {
         None => Ok(()),
@@ -88,17 +86,16 @@ fn alike_refdeses(alloc: Global, packages: &[Package]) -> Result<BTreeSet<Line>,
     alike_texts(alloc, texts.as_slice())
 }
 
-#[tactic(auto, using(drc_findings::proofs::FoundLemmas::with_append))]
 fn add_on_package(
     alloc: Global,
-    found: &mut BTreeSet<Finding>,
+    found: &mut Vec<Finding>,
     rows: &BTreeMap<Line, PackageSlots>,
     alike: &BTreeSet<Line>,
     part: &Package,
 ) -> Result<(), AllocError>
     ensures { (cs : List CheckedData) (all : List Package) → AreSlotsOf cs rows.now
-        → HasNames (look_alike (refdeses all)) alike.now → OnOk result (found.new.keys
-        ≡ with_findings found.old.keys (found_on_package cs all part.now)) }
+        → HasNames (look_alike (refdeses all)) alike.now → OnOk result
+        (found.new.items ≡ found.old.items ++ found_on_package cs all part.now) }
 {
     add_unused_slots(alloc, found, rows, &part.refdes)?;
     add_same_text(alloc, found, alike, part.refdes.as_str())
@@ -106,15 +103,14 @@ fn add_on_package(
 
 /// Adds what is found on packages, by the components: the rule UnusedSlot, and the rule SameText on
 /// packages.
-#[tactic(auto, using(drc_findings::proofs::FoundLemmas::with_append))]
 pub fn add_on_packages(
     alloc: Global,
-    found: &mut BTreeSet<Finding>,
+    found: &mut Vec<Finding>,
     components: &[CheckedComponent],
     packages: &[Package],
 ) -> Result<(), AllocError>
-    ensures { OnOk result (found.new.keys
-        ≡ with_findings found.old.keys (found_on_packages components.now packages.now)) }
+    ensures { OnOk result
+        (found.new.items ≡ found.old.items ++ found_on_packages components.now packages.now) }
 {
     let rows = slots_by_refdes(alloc, components)?;
     let alike = alike_refdeses(alloc, packages)?;

@@ -1,6 +1,5 @@
 // What is found on the refdes of a component.
-ghost use Rattle.std.specs.Prelude.{◌≡◌, OnOk};
-ghost use Rattle.drc_findings.specs.Order.{with_findings};
+ghost use Rattle.std.specs.Prelude.{◌≡◌, ◌++◌, OnOk};
 ghost use Rattle.component_checks.specs.OnComponents.{lacks_refdes, unnumbered, without_refdes};
 ghost use Rattle.component_checks.specs.steps.FoundBy.{clashes, duplicate_by, duplicate_slot_by};
 ghost use Rattle.component_checks.specs.steps.FoundBy.{found_on_refdes, is_duplicate_by};
@@ -13,15 +12,13 @@ use drc_findings::{Finding, Rule, add_error};
 use geda_model::Line;
 use printed_texts::{name_words, numbered_words, pair_words};
 use std::alloc::{AllocError, Global};
-use std::collections::BTreeSet;
 
 fn add_unnumbered(
     alloc: Global,
-    found: &mut BTreeSet<Finding>,
+    found: &mut Vec<Finding>,
     component: &CheckedComponent,
 ) -> Result<(), AllocError>
-    ensures { OnOk result
-        (found.new.keys ≡ with_findings found.old.keys (unnumbered component.now)) }
+    ensures { OnOk result (found.new.items ≡ found.old.items ++ unnumbered component.now) }
 {
     let refdes = refdes_of(component);
     if is_numbered(component) && ends_open(refdes.as_bytes()) {
@@ -44,11 +41,10 @@ fn lacks_refdes(component: &CheckedComponent) -> bool
 
 fn add_without_refdes(
     alloc: Global,
-    found: &mut BTreeSet<Finding>,
+    found: &mut Vec<Finding>,
     component: &CheckedComponent,
 ) -> Result<(), AllocError>
-    ensures { OnOk result
-        (found.new.keys ≡ with_findings found.old.keys (without_refdes component.now)) }
+    ensures { OnOk result (found.new.items ≡ found.old.items ++ without_refdes component.now) }
 {
     if lacks_refdes(component) {
         let sheet = component.sheet.as_str();
@@ -87,12 +83,12 @@ fn is_duplicate(repeats: &Repeats<'_>, component: &CheckedComponent) -> bool
 
 fn add_duplicate(
     alloc: Global,
-    found: &mut BTreeSet<Finding>,
+    found: &mut Vec<Finding>,
     repeats: &Repeats<'_>,
     component: &CheckedComponent,
 ) -> Result<(), AllocError>
     ensures { OnOk result
-        (found.new.keys ≡ with_findings found.old.keys (duplicate_by repeats.now component.now)) }
+        (found.new.items ≡ found.old.items ++ duplicate_by repeats.now component.now) }
 {
     if is_duplicate(repeats, component) {
         add_error(
@@ -118,12 +114,12 @@ fn is_duplicate_slot<'a>(repeats: &Repeats<'a>, component: &'a CheckedComponent)
 
 fn add_duplicate_slot<'a>(
     alloc: Global,
-    found: &mut BTreeSet<Finding>,
+    found: &mut Vec<Finding>,
     repeats: &Repeats<'a>,
     component: &'a CheckedComponent,
 ) -> Result<(), AllocError>
-    ensures { OnOk result (found.new.keys
-        ≡ with_findings found.old.keys (duplicate_slot_by repeats.now component.now)) }
+    ensures { OnOk result
+        (found.new.items ≡ found.old.items ++ duplicate_slot_by repeats.now component.now) }
 {
     if is_duplicate_slot(repeats, component) {
         let words = pair_words(alloc, refdes_of(component), slot_of(component))?;
@@ -134,15 +130,14 @@ fn add_duplicate_slot<'a>(
 
 /// Adds what is found on the refdes of a component: the rules Unnumbered, NoRefdes, DuplicateRefdes
 /// and DuplicateSlot.
-#[tactic(auto, using(drc_findings::proofs::FoundLemmas::with_append))]
 pub fn add_on_refdes<'a>(
     alloc: Global,
-    found: &mut BTreeSet<Finding>,
+    found: &mut Vec<Finding>,
     repeats: &Repeats<'a>,
     component: &'a CheckedComponent,
 ) -> Result<(), AllocError>
-    ensures { OnOk result (found.new.keys
-        ≡ with_findings found.old.keys (found_on_refdes repeats.now component.now)) }
+    ensures { OnOk result
+        (found.new.items ≡ found.old.items ++ found_on_refdes repeats.now component.now) }
 {
     add_unnumbered(alloc, found, component)?;
     add_without_refdes(alloc, found, component)?;

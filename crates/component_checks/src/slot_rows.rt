@@ -5,7 +5,7 @@ ghost use Rattle.std.specs.Option.{option_or};
 ghost use Rattle.std.specs.Ordering.{nat_cmp};
 ghost use Rattle.component_checks.specs.OnPackages.{slot_value};
 ghost use Rattle.component_checks.specs.steps.SlotRows.{AddsNumber, AreSlotsOf, TakesIn};
-ghost use Rattle.component_checks.specs.steps.SlotRows.{TakesInIfListed, is_used};
+ghost use Rattle.component_checks.specs.steps.SlotRows.{TakesInIfListed, has_no_slots, is_used};
 
 use crate::checked::CheckedComponent;
 use crate::parts::is_listed;
@@ -83,6 +83,13 @@ fn take_listed(
     Ok(())
 }
 
+fn has_no_slots(component: &CheckedComponent) -> bool
+    ensures { result ≡ has_no_slots component.now }
+{
+    component.slots.is_none() && component.slot.is_none()
+}
+
+/// Takes in a component. One without slots changes no row, and is left out.
 fn take_component(
     alloc: Global,
     rows: &mut BTreeMap<Line, PackageSlots>,
@@ -90,6 +97,9 @@ fn take_component(
 ) -> Result<(), AllocError>
     ensures { OnOk result (TakesInIfListed component.now rows.old rows.new) }
 {
+    if has_no_slots(component) {
+        return Ok(());
+    }
     if !is_listed(component) {
         return Ok(());
     }

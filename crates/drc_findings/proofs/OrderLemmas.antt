@@ -1,7 +1,8 @@
--- Findings in order are those that were found.
+-- Findings in order are those that were found, and rise.
 use Rattle.std.proofs.Common.{◌≡◌, ◌∙◌, List, [], ◌∷◌, Bool, true, false, ◌||◌, refl, ap, sym, arith}
 use Rattle.std.specs.Prelude.{Contains, ◌↔◌}
 use Rattle.std.specs.List.{list_any}
+use Rattle.std.specs.List.Sorted.{IsStrictlySortedBy}
 use Rattle.std.specs.BTreeSet.{insert_key}
 use Rattle.std.specs.Cmp.{eq_by_cmp_equiv}
 use Rattle.std.specs.Ordering.{eq_by_cmp, match_ordering, nat_cmp, ordering_then, then_cmp, on}
@@ -10,6 +11,7 @@ use Rattle.std.specs.declared.cmp.Ordering.TheVariants.{Less, Equal, Greater}
 use Rattle.std.specs.Cmp.Lexicographic.{slice_cmp}
 use Rattle.std.proofs.lemmas.Map.Lookups.{CmpEqualImpliesEq, exact_bytes, exact_unsigned}
 use Rattle.std.proofs.lemmas.Map.Views.{Contains-from_any, list_any-from_Contains, tells_apart}
+use Rattle.geda_defs.proofs.OnceLaws.{is_once_in_order}
 use Rattle.drc_findings.specs.declared.finding.Finding.{Finding}
 use Rattle.pin_matrix.specs.declared.level.Level.{Level}
 use Rattle.pin_matrix.specs.declared.level.Level.TheVariants as levels
@@ -96,3 +98,7 @@ order_keeps found f = (
   λ k. Contains-from_any (tells_apart exact_findings) f found (sym (order_has f found) ∙ list_any-from_Contains (eq_by_cmp_equiv by_finding_total) f (in_order found) k),
   λ k. Contains-from_any (tells_apart exact_findings) f (in_order found) (order_has f found ∙ list_any-from_Contains (eq_by_cmp_equiv by_finding_total) f found k),
 )
+
+-- findings in order rise
+pub order_rises : (found : List Finding) → IsStrictlySortedBy by_finding (in_order found)
+order_rises found = (is_once_in_order by_finding_total found).rising

@@ -14,6 +14,6 @@ mod rule;
 
 pub use adding::{add_error, add_finding, add_warning};
 pub use finding::Finding;
-pub use found::{add_same_text, listed, order_law};
+pub use found::{add_same_text, order_law};
 pub use report::report_text;
 pub use rule::Rule;

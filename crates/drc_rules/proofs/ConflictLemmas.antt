@@ -1,5 +1,5 @@
 -- Kinds that meet, by counts.
-use Rattle.std.proofs.Common.{◌≡◌, ◌∙◌, ℕ, ◌==◌, List, [], ◌∷◌, Bool, true, false, ◌&&◌, ◌||◌, refl, ap, sym, arith, if◌then◌else◌}
+use Rattle.std.proofs.Common.{◌≡◌, ◌∙◌, ℕ, ◌==◌, List, [], ◌∷◌, ◌++◌, Bool, true, false, ◌&&◌, ◌||◌, refl, ap, sym, append-nil, arith, if◌then◌else◌}
 use Rattle.std.specs.Prelude.{◌<◌, count_by, length, map, nat_le, not}
 use Rattle.std.specs.List.{flat_map, list_any}
 use Rattle.std.proofs.lemmas.Bool.Decides.{nat_tests}
@@ -13,7 +13,6 @@ use Rattle.text_tallies.proofs.PairLemmas.{and_false, any_same, both_counted, ei
 use Rattle.drc_findings.specs.declared.rule.Rule.TheVariants as drc
 use Rattle.drc_findings.specs.declared.finding.Finding.{Finding}
 use Rattle.drc_findings.specs.Findings.{finding, found_if}
-use Rattle.drc_findings.specs.Order.{with_findings}
 use Rattle.drc_rules.specs.declared.kind_counts.KindCount.{KindCount}
 use Rattle.drc_rules.specs.OnNets.{conflict, conflict_words, conflicts, conflicts_with, is_of_kind, meet}
 use Rattle.drc_rules.specs.steps.Counts.{conflict_by, conflicts_by, conflicts_with_by, kind_count, kind_counts, meet_by}
@@ -98,8 +97,8 @@ none_with matrix name (b ∷ others) a none = rw (none_conflicts matrix name a b
 
 -- so nothing is found on it with others
 pub none_found : (found : List Finding) (matrix : List Level) (name : List ℕ) (others : List KindCount) (a : KindCount)
-    → a.count ≡ 0 → found ≡ with_findings found (conflicts_with_by matrix name others a)
-none_found found matrix name others a none = rw (none_with matrix name others a none) refl
+    → a.count ≡ 0 → found ≡ found ++ conflicts_with_by matrix name others a
+none_found found matrix name others a none = rw (none_with matrix name others a none) (sym (append-nil found))
 
 -- fewer than two members are no two
 few_meet : (members : List Member) (a b : PinKind) → length members < 2 → meet members a b ≡ false
@@ -123,5 +122,5 @@ few_among matrix n others (a ∷ kinds) few = rw (few_with matrix n others a few
 
 -- so nothing is found on a net with fewer than two
 pub few_found : (found : List Finding) (matrix : List Level) (n : Net) → length n.members < 2
-    → found ≡ with_findings found (conflicts matrix n)
-few_found found matrix n few = rw (few_among matrix n all_kinds all_kinds few) refl
+    → found ≡ found ++ conflicts matrix n
+few_found found matrix n few = rw (few_among matrix n all_kinds all_kinds few) (sym (append-nil found))

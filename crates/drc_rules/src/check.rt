@@ -1,25 +1,23 @@
 // The findings of a project.
-ghost use Rattle.std.specs.Prelude.{◌≡◌, ◌∷◌, [], IfOk, OnOk, map};
+ghost use Rattle.std.specs.Prelude.{◌≡◌, ◌++◌, ◌∷◌, [], IfOk, OnOk, map};
 ghost use Rattle.std.specs.List.Sorted.{IsStrictlySortedBy};
 ghost use Rattle.hierarchy.specs.Instances.{instances_of, lost_of};
-ghost use Rattle.drc_findings.specs.Order.{by_finding, with_findings};
+ghost use Rattle.drc_findings.specs.Order.{by_finding};
 ghost use Rattle.drc_rules.specs.Findings.{findings, lost_finding};
 
 use crate::on_nets::add_on_nets;
 use component_checks::{add_on_components, add_on_packages, checked_components};
-use drc_findings::{Finding, Rule, add_error, add_warning, listed};
+use drc_findings::{Finding, Rule, add_error, add_warning};
 use hierarchy::{Hierarchy, Lost};
-use instance_objects::InstanceObjects;
+use instance_objects::{InstanceObjects, once_in_order};
 use net_list::Nets;
 use pin_matrix::Matrix;
 use printed_texts::{name_words, pair_words};
 use project_model::Project;
 use std::alloc::{AllocError, Global};
-use std::collections::BTreeSet;
 
-fn add_lost_one(alloc: Global, found: &mut BTreeSet<Finding>, lost: &Lost) -> Result<(), AllocError>
-    ensures { OnOk result
-        (found.new.keys ≡ with_findings found.old.keys (lost_finding lost.now ∷ [])) }
+fn add_lost_one(alloc: Global, found: &mut Vec<Finding>, lost: &Lost) -> Result<(), AllocError>
+    ensures { OnOk result (found.new.items ≡ found.old.items ++ lost_finding lost.now ∷ []) }
 {
     match lost {
         Lost::MissingSource { sheet, value } => {
@@ -37,9 +35,8 @@ fn add_lost_one(alloc: Global, found: &mut BTreeSet<Finding>, lost: &Lost) -> Re
     }
 }
 
-fn add_lost(alloc: Global, found: &mut BTreeSet<Finding>, lost: &[Lost]) -> Result<(), AllocError>
-    ensures { OnOk result (found.new.keys
-        ≡ with_findings found.old.keys (map lost_finding lost.now)) }
+fn add_lost(alloc: Global, found: &mut Vec<Finding>, lost: &[Lost]) -> Result<(), AllocError>
+    ensures { OnOk result (found.new.items ≡ found.old.items ++ map lost_finding lost.now) }
 {
     for one in lost {
         add_lost_one(alloc, found, one)?;
@@ -50,7 +47,6 @@ fn add_lost(alloc: Global, found: &mut BTreeSet<Finding>, lost: &[Lost]) -> Resu
 /// The findings of a project by its objects in the instances of its sheets, what its hierarchy
 /// leaves out and this net list, under a matrix, in order, equal ones once (docs/RULES.md,
 /// "Findings").
-#[tactic(auto, using(drc_findings::proofs::FoundLemmas::with_append))]
 pub fn findings_on(
     alloc: Global,
     objects: &InstanceObjects<'_>,
@@ -63,12 +59,13 @@ pub fn findings_on(
     ensures rising { IfOk result (λ list. IsStrictlySortedBy by_finding list.items) }
 {
     let components = checked_components(alloc, objects)?;
-    let mut found = BTreeSet::new(alloc);
+    let mut found = Vec::new(alloc);
     add_on_components(alloc, &mut found, &components)?;
     add_on_packages(alloc, &mut found, &components, nets.packages.as_slice())?;
     add_on_nets(alloc, &mut found, matrix, nets.nets.as_slice())?;
     add_lost(alloc, &mut found, lost)?;
-    listed(alloc, found)
+    let list = once_in_order(found)?;
+    Ok(list)
 }
 
 /// The findings of a project with this hierarchy and this net list under a matrix, in order, equal

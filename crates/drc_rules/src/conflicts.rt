@@ -1,6 +1,5 @@
 // Kinds of pins that should not meet in a net.
-ghost use Rattle.std.specs.Prelude.{◌≡◌, OnOk};
-ghost use Rattle.drc_findings.specs.Order.{with_findings};
+ghost use Rattle.std.specs.Prelude.{◌≡◌, ◌++◌, OnOk};
 ghost use Rattle.drc_rules.specs.OnNets.{conflicts};
 ghost use Rattle.drc_rules.specs.steps.Counts.{conflict_by, conflicts_by, conflicts_with_by};
 ghost use Rattle.drc_rules.specs.steps.Counts.{is_conflict_by, meet_by};
@@ -11,7 +10,6 @@ use drc_findings::{Finding, Rule, add_finding};
 use net_list::Net;
 use pin_matrix::{Matrix, are_in_order, is_correct, same_kind};
 use std::alloc::{AllocError, Global};
-use std::collections::BTreeSet;
 
 fn meet(first: KindCount, second: KindCount) -> bool
     ensures { result ≡ meet_by first second }
@@ -36,14 +34,14 @@ fn is_conflict(matrix: &Matrix, first: KindCount, second: KindCount) -> bool
 
 fn add_conflict(
     alloc: Global,
-    found: &mut BTreeSet<Finding>,
+    found: &mut Vec<Finding>,
     matrix: &Matrix,
     name: &str,
     first: KindCount,
     second: KindCount,
 ) -> Result<(), AllocError>
-    ensures { OnOk result (found.new.keys
-        ≡ with_findings found.old.keys (conflict_by matrix.now name.now first second)) }
+    ensures { OnOk result
+        (found.new.items ≡ found.old.items ++ conflict_by matrix.now name.now first second) }
 {
     if is_conflict(matrix, first, second) {
         let words = conflict_words(alloc, name, first.kind, second.kind)?;
@@ -57,17 +55,16 @@ fn add_conflict(
     Ok(())
 }
 
-#[tactic(auto, using(drc_findings::proofs::FoundLemmas::flat_more))]
 fn add_conflicts_with(
     alloc: Global,
-    found: &mut BTreeSet<Finding>,
+    found: &mut Vec<Finding>,
     matrix: &Matrix,
     name: &str,
     others: &[KindCount],
     first: KindCount,
 ) -> Result<(), AllocError>
-    ensures { OnOk result (found.new.keys
-        ≡ with_findings found.old.keys (conflicts_with_by matrix.now name.now others.now first)) }
+    ensures { OnOk result (found.new.items
+        ≡ found.old.items ++ conflicts_with_by matrix.now name.now others.now first) }
 {
     if first.count == 0 {
         return Ok(());
@@ -78,16 +75,15 @@ fn add_conflicts_with(
     Ok(())
 }
 
-#[tactic(auto, using(drc_findings::proofs::FoundLemmas::flat_more))]
 fn add_conflicts_among(
     alloc: Global,
-    found: &mut BTreeSet<Finding>,
+    found: &mut Vec<Finding>,
     matrix: &Matrix,
     name: &str,
     counts: &[KindCount],
 ) -> Result<(), AllocError>
-    ensures { OnOk result (found.new.keys
-        ≡ with_findings found.old.keys (conflicts_by matrix.now name.now counts.now)) }
+    ensures { OnOk result
+        (found.new.items ≡ found.old.items ++ conflicts_by matrix.now name.now counts.now) }
 {
     for first in counts {
         add_conflicts_with(alloc, found, matrix, name, counts, *first)?;
@@ -98,12 +94,11 @@ fn add_conflicts_among(
 #[tactic(auto, using(crate::proofs::ConflictLemmas::conflicts_counted))]
 fn add_conflicts_of(
     alloc: Global,
-    found: &mut BTreeSet<Finding>,
+    found: &mut Vec<Finding>,
     matrix: &Matrix,
     net: &Net,
 ) -> Result<(), AllocError>
-    ensures { OnOk result (found.new.keys
-        ≡ with_findings found.old.keys (conflicts matrix.now net.now)) }
+    ensures { OnOk result (found.new.items ≡ found.old.items ++ conflicts matrix.now net.now) }
 {
     let counts = kind_counts(net.members.as_slice());
     add_conflicts_among(alloc, found, matrix, net.name.as_str(), &counts)
@@ -112,12 +107,11 @@ fn add_conflicts_of(
 /// Adds what is found on kinds that meet in a net; nothing does where it has one member alone.
 pub fn add_conflicts(
     alloc: Global,
-    found: &mut BTreeSet<Finding>,
+    found: &mut Vec<Finding>,
     matrix: &Matrix,
     net: &Net,
 ) -> Result<(), AllocError>
-    ensures { OnOk result (found.new.keys
-        ≡ with_findings found.old.keys (conflicts matrix.now net.now)) }
+    ensures { OnOk result (found.new.items ≡ found.old.items ++ conflicts matrix.now net.now) }
 {
     if net.members.as_slice().len() < 2 {
         return Ok(());

@@ -1,7 +1,6 @@
 // Nets that nothing drives.
-ghost use Rattle.std.specs.Prelude.{◌≡◌, OnOk};
+ghost use Rattle.std.specs.Prelude.{◌≡◌, ◌++◌, OnOk};
 ghost use Rattle.std.specs.List.{list_all};
-ghost use Rattle.drc_findings.specs.Order.{with_findings};
 ghost use Rattle.drc_rules.specs.OnNets.{is_driven_kind, is_undriven, not_driven};
 
 use crate::kind_counts::is_of_kind;
@@ -11,7 +10,6 @@ use drc_findings::{Finding, Rule, add_error};
 use net_list::{Member, Net};
 use printed_texts::name_words;
 use std::alloc::{AllocError, Global};
-use std::collections::BTreeSet;
 
 fn is_driven_kind(member: &Member) -> bool
     ensures { result ≡ is_driven_kind member.now }
@@ -39,13 +37,8 @@ fn is_undriven(net: &Net) -> bool
 }
 
 /// Adds what is found on a net that nothing drives.
-pub fn add_not_driven(
-    alloc: Global,
-    found: &mut BTreeSet<Finding>,
-    net: &Net,
-) -> Result<(), AllocError>
-    ensures { OnOk result
-        (found.new.keys ≡ with_findings found.old.keys (not_driven net.now)) }
+pub fn add_not_driven(alloc: Global, found: &mut Vec<Finding>, net: &Net) -> Result<(), AllocError>
+    ensures { OnOk result (found.new.items ≡ found.old.items ++ not_driven net.now) }
 {
     if is_undriven(net) {
         add_error(

@@ -1,6 +1,5 @@
 // What is found on nets.
-ghost use Rattle.std.specs.Prelude.{◌≡◌, IfOk, List, OnOk, map};
-ghost use Rattle.drc_findings.specs.Order.{with_findings};
+ghost use Rattle.std.specs.Prelude.{◌≡◌, ◌++◌, IfOk, List, OnOk, map};
 ghost use Rattle.net_list.specs.declared.nets.Net.{Net};
 ghost use Rattle.drc_rules.specs.OnNets.{by_count, found_on_net, found_on_nets, names_of};
 ghost use Rattle.drc_rules.specs.steps.Pins.{HasAlikeNames, HasPinsOnTwo};
@@ -38,26 +37,24 @@ fn alike_names(alloc: Global, nets: &[Net]) -> Result<BTreeSet<Line>, AllocError
 }
 
 /// Adds what is found by the count of the members of a net.
-#[tactic(auto, using(drc_findings::proofs::FoundLemmas::with_append), unfolding(crate::specs::OnNets::by_count))]
-fn add_by_count(alloc: Global, found: &mut BTreeSet<Finding>, net: &Net) -> Result<(), AllocError>
-    ensures { OnOk result (found.new.keys ≡ with_findings found.old.keys (by_count net.now)) }
+#[tactic(auto, unfolding(crate::specs::OnNets::by_count))]
+fn add_by_count(alloc: Global, found: &mut Vec<Finding>, net: &Net) -> Result<(), AllocError>
+    ensures { OnOk result (found.new.items ≡ found.old.items ++ by_count net.now) }
 {
     add_one_pin(alloc, found, net)?;
     add_no_connection(alloc, found, net)
 }
 
-#[tactic(auto, using(drc_findings::proofs::FoundLemmas::with_append))]
 fn add_on_net<'a>(
     alloc: Global,
-    found: &mut BTreeSet<Finding>,
+    found: &mut Vec<Finding>,
     matrix: &Matrix,
     on_two: &BTreeSet<PairKey<'a>>,
     alike: &BTreeSet<Line>,
     net: &'a Net,
 ) -> Result<(), AllocError>
     ensures { (nets : List Net) → HasPinsOnTwo nets on_two.now → HasAlikeNames nets alike.now
-        → OnOk result (found.new.keys
-        ≡ with_findings found.old.keys (found_on_net matrix.now nets net.now)) }
+        → OnOk result (found.new.items ≡ found.old.items ++ found_on_net matrix.now nets net.now) }
 {
     add_conflicts(alloc, found, matrix, net)?;
     add_by_count(alloc, found, net)?;
@@ -67,10 +64,9 @@ fn add_on_net<'a>(
     add_same_text(alloc, found, alike, net.name.as_str())
 }
 
-#[tactic(auto, using(drc_findings::proofs::FoundLemmas::flat_more))]
 fn add_on_each<'a>(
     alloc: Global,
-    found: &mut BTreeSet<Finding>,
+    found: &mut Vec<Finding>,
     matrix: &Matrix,
     on_two: &BTreeSet<PairKey<'a>>,
     alike: &BTreeSet<Line>,
@@ -78,8 +74,7 @@ fn add_on_each<'a>(
 ) -> Result<(), AllocError>
     requires on_two { HasPinsOnTwo nets.now on_two.now }
     requires alike { HasAlikeNames nets.now alike.now }
-    ensures { OnOk result (found.new.keys
-        ≡ with_findings found.old.keys (found_on_nets matrix.now nets.now)) }
+    ensures { OnOk result (found.new.items ≡ found.old.items ++ found_on_nets matrix.now nets.now) }
 {
     for net in nets {
         add_on_net(alloc, found, matrix, on_two, alike, net)?;
@@ -91,12 +86,11 @@ fn add_on_each<'a>(
 /// PinOnTwoNets, SameText on the names of nets, and NoConnection.
 pub fn add_on_nets(
     alloc: Global,
-    found: &mut BTreeSet<Finding>,
+    found: &mut Vec<Finding>,
     matrix: &Matrix,
     nets: &[Net],
 ) -> Result<(), AllocError>
-    ensures { OnOk result (found.new.keys
-        ≡ with_findings found.old.keys (found_on_nets matrix.now nets.now)) }
+    ensures { OnOk result (found.new.items ≡ found.old.items ++ found_on_nets matrix.now nets.now) }
 {
     let on_two = pairs_on_two(alloc, nets)?;
     let alike = alike_names(alloc, nets)?;

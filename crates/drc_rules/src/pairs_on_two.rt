@@ -75,11 +75,20 @@ fn take_net<'a>(
     add_members(seen, members)
 }
 
+// For room alone: no answer rests on it.
+fn member_count(nets: &[Net]) -> usize {
+    let mut count: usize = 0;
+    for net in nets {
+        count = count.saturating_add(net.members.as_slice().len());
+    }
+    count
+}
+
 /// The pins that are members of two nets.
 pub fn pairs_on_two<'a>(alloc: Global, nets: &'a [Net]) -> Result<BTreeSet<PairKey<'a>>, AllocError>
     ensures { IfOk result (HasPinsOnTwo nets.now) }
 {
-    let mut seen = HashSet::new(alloc);
+    let mut seen = HashSet::with_capacity(alloc, member_count(nets))?;
     let mut twice = BTreeSet::new(alloc);
     for net in nets {
         take_net(&mut seen, &mut twice, net.members.as_slice())?;

@@ -1,6 +1,5 @@
 // Pins that are members of two nets, as findings.
-ghost use Rattle.std.specs.Prelude.{◌≡◌, OnOk};
-ghost use Rattle.drc_findings.specs.Order.{with_findings};
+ghost use Rattle.std.specs.Prelude.{◌≡◌, ◌++◌, OnOk};
 ghost use Rattle.drc_rules.specs.steps.Pins.{member_on_two_by, pins_on_two_by};
 
 use crate::pairs_on_two::pair_of;
@@ -13,12 +12,12 @@ use text_tallies::PairKey;
 
 fn add_member_on_two<'a>(
     alloc: Global,
-    found: &mut BTreeSet<Finding>,
+    found: &mut Vec<Finding>,
     on_two: &BTreeSet<PairKey<'a>>,
     member: &'a Member,
 ) -> Result<(), AllocError>
-    ensures { OnOk result (found.new.keys
-        ≡ with_findings found.old.keys (member_on_two_by on_two.now member.now)) }
+    ensures { OnOk result
+        (found.new.items ≡ found.old.items ++ member_on_two_by on_two.now member.now) }
 {
     if on_two.contains(&pair_of(member)) {
         let words = pin_words(alloc, member.refdes.as_str(), member.pin.as_str())?;
@@ -28,15 +27,14 @@ fn add_member_on_two<'a>(
 }
 
 /// Adds what is found on members, by the pins that are members of two nets.
-#[tactic(auto, using(drc_findings::proofs::FoundLemmas::flat_more))]
 pub fn add_pins_on_two<'a>(
     alloc: Global,
-    found: &mut BTreeSet<Finding>,
+    found: &mut Vec<Finding>,
     on_two: &BTreeSet<PairKey<'a>>,
     members: &'a [Member],
 ) -> Result<(), AllocError>
-    ensures { OnOk result (found.new.keys
-        ≡ with_findings found.old.keys (pins_on_two_by on_two.now members.now)) }
+    ensures { OnOk result
+        (found.new.items ≡ found.old.items ++ pins_on_two_by on_two.now members.now) }
 {
     for member in members {
         add_member_on_two(alloc, found, on_two, member)?;

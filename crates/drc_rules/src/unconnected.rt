@@ -1,7 +1,6 @@
 // Pins that join nothing, and those that may.
-ghost use Rattle.std.specs.Prelude.{◌≡◌, OnOk};
+ghost use Rattle.std.specs.Prelude.{◌≡◌, ◌++◌, OnOk};
 ghost use Rattle.std.specs.List.{flat_map};
-ghost use Rattle.drc_findings.specs.Order.{with_findings};
 ghost use Rattle.drc_rules.specs.OnNets.{is_unconnected, may_be_open, unconnected_member};
 ghost use Rattle.drc_rules.specs.OnNets.{unconnected_pin};
 
@@ -11,7 +10,6 @@ use net_list::{Member, Net, NetSort};
 use pin_matrix::{Matrix, is_correct};
 use printed_texts::pin_words;
 use std::alloc::{AllocError, Global};
-use std::collections::BTreeSet;
 
 /// Whether a net is an unconnected pin. It takes no memory.
 pub fn is_unconnected(net: &Net) -> bool
@@ -32,13 +30,13 @@ pub fn may_be_open(net: &Net) -> bool
 
 fn add_member(
     alloc: Global,
-    found: &mut BTreeSet<Finding>,
+    found: &mut Vec<Finding>,
     matrix: &Matrix,
     net: &Net,
     member: &Member,
 ) -> Result<(), AllocError>
-    ensures { OnOk result (found.new.keys
-        ≡ with_findings found.old.keys (unconnected_member matrix.now net.now member.now)) }
+    ensures { OnOk result
+        (found.new.items ≡ found.old.items ++ unconnected_member matrix.now net.now member.now) }
 {
     let level = matrix.entry(PinKind::Unconnected, member.kind);
     if is_unconnected(net) && !is_correct(level) {
@@ -48,16 +46,15 @@ fn add_member(
     Ok(())
 }
 
-#[tactic(auto, using(drc_findings::proofs::FoundLemmas::flat_more))]
 fn add_members(
     alloc: Global,
-    found: &mut BTreeSet<Finding>,
+    found: &mut Vec<Finding>,
     matrix: &Matrix,
     net: &Net,
     members: &[Member],
 ) -> Result<(), AllocError>
-    ensures { OnOk result (found.new.keys ≡ with_findings found.old.keys
-        (flat_map (unconnected_member matrix.now net.now) members.now)) }
+    ensures { OnOk result (found.new.items
+        ≡ found.old.items ++ flat_map (unconnected_member matrix.now net.now) members.now) }
 {
     for member in members {
         add_member(alloc, found, matrix, net, member)?;
@@ -68,12 +65,12 @@ fn add_members(
 /// Adds what is found on the member of an unconnected pin.
 pub fn add_unconnected_pin(
     alloc: Global,
-    found: &mut BTreeSet<Finding>,
+    found: &mut Vec<Finding>,
     matrix: &Matrix,
     net: &Net,
 ) -> Result<(), AllocError>
-    ensures { OnOk result (found.new.keys
-        ≡ with_findings found.old.keys (unconnected_pin matrix.now net.now)) }
+    ensures { OnOk result
+        (found.new.items ≡ found.old.items ++ unconnected_pin matrix.now net.now) }
 {
     add_members(alloc, found, matrix, net, net.members.as_slice())
 }

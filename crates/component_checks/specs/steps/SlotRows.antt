@@ -1,6 +1,6 @@
 -- Steps of the code; no public clause cites them.
 -- The slots of packages, gathered by refdes in one pass over the components.
-use Rattle.std.specs.Prelude.{◌≡◌, ℕ, Bool, false, not, ◌&&◌, ◌||◌, if◌then◌else◌, List, [], ◌∷◌, Option, Some, None, unwrap_or}
+use Rattle.std.specs.Prelude.{◌≡◌, ℕ, Bool, false, not, ◌&&◌, ◌||◌, if◌then◌else◌, List, [], ◌∷◌, Option, Some, None, is_some, unwrap_or}
 use Rattle.std.specs.BTreeMap.{BTreeMap, get}
 use Rattle.std.specs.BTreeSet.{BTreeSet, contains}
 use Rattle.std.specs.Fmt.{decimal}
@@ -51,6 +51,10 @@ count_of refdes c = if is_part_of refdes c then c.slots else None
 -- it uses the slot of this number in a package
 abbrev pub uses_in : List ℕ → ℕ → CheckedData → Bool
 uses_in refdes k c = is_part_of refdes c && is_number k (slot_value c.slot)
+
+-- a component without slots: it gives no count of them, and has none
+abbrev pub has_no_slots : CheckedData → Bool
+has_no_slots c = not (is_some c.slots) && not (is_some c.slot)
 
 -- the rows after a component with this refdes
 pub record TakesIn (refdes : List ℕ) (c : CheckedData) (old new : SlotRows) : Type 0 where

@@ -1,7 +1,5 @@
-use Rattle.std.proofs.Common.{◌∙◌, ◌+◌, ◌-◌, ◌<◌, ℕ, List, Some, rules, ap, sym}
+use Rattle.std.proofs.Common.{◌∙◌, ◌++◌, ◌+◌, ◌-◌, ◌<◌, ℕ, List, Some, append_assoc, rules, ap, sym}
 use Rattle.std.specs.List.{flat_map, range_with_len}
-use Rattle.drc_findings.specs.Order.{with_findings}
-use Rattle.drc_findings.proofs.FoundLemmas.{flat_more}
 use Rattle.component_checks.specs.steps.SlotRows.{unused_in}
 use Rattle.component_checks.proofs.ListLemmas.{range_first}
 use Rattle.component_checks.proofs.on_packages.add_unused_of.Goals as goal
@@ -13,6 +11,6 @@ loop-place-preserved c =
     let unused = unused_in (Some c.args.slots.now) c.args.refdes.now in
     let inside : place < count = search rules in
     rw c.in_ok-add_if_unused.ensures
-    (flat_more c.loop-place.found.keys unused (place + 1) (range_with_len (place + 1 + 1) (count - (place + 1)))
-    ∙ ap (λ (ns : List ℕ). with_findings c.loop-place.found.keys (flat_map unused ns)) (sym (range_first place count inside))
+    (append_assoc c.loop-place.found.items (unused (place + 1)) (flat_map unused (range_with_len (place + 1 + 1) (count - (place + 1))))
+    ∙ ap (λ (ns : List ℕ). c.loop-place.found.items ++ flat_map unused ns) (sym (range_first place count inside))
     ∙ c.loop-place.invariant)

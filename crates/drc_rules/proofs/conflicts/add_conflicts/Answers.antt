@@ -5,4 +5,4 @@ use Rattle.drc_rules.proofs.conflicts.add_conflicts.Goals as goal
 pub returns-then-as_slice-lt2 : goal.returns-then-as_slice-lt2
 returns-then-as_slice-lt2 c =
     let few : length c.args.net.now.members < 2 = search rules in
-    few_found c.args.found.now.keys c.args.matrix.now c.args.net.now few
+    few_found c.args.found.now.items c.args.matrix.now c.args.net.now few

@@ -4,4 +4,4 @@ use Rattle.drc_rules.proofs.pairs_on_two.pairs_on_two.Goals as goal
 
 pub loop-net-init : goal.loop-net-init
 loop-net-init c = λ q.
-    rw (c.new-seen.ensures.empty, c.new-twice.ensures.empty) (twice_from_none (has_pair_in q) c.args.nets.now)
+    rw (c.in_ok-seen.ensures.empty, c.new-twice.ensures.empty) (twice_from_none (has_pair_in q) c.args.nets.now)
