@@ -1,0 +1,10 @@
+mod CutLines
+mod SpelledRows
+mod SpelledObjects
+mod MovedBodies
+mod WritableHistories
+mod OrderlyHistories
+mod TakenEntries
+mod RepeatedEntries
+mod FilledComponents
+mod TableLaws
