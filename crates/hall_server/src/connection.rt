@@ -16,7 +16,7 @@ use web_http::{Link, LinkEnd, serve};
 
 /// Answers the requests of a link in order until it ends, at most 10,000, by a seat of a hall
 /// (docs/RULES.md, "Transcripts", "Ends of connections", "Seats"). It waits for the link, and for
-/// an edit for the hall's lock; a report takes no lock.
+/// an edit for the hall's lock; a report waits while another makes the same text of one board.
 ///
 /// What the seat has seen in the end is a legal history, which begins with what it had seen. Each
 /// reply is what a prefix of it answers the request, byte for byte, and the prefixes never shrink;

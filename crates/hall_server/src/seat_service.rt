@@ -55,7 +55,8 @@ fn shown(front: u32, told: Result<Vec<u8>, ReportFault>) -> Shown
 }
 
 /// The report on what is published, by the usual matrix: a text that is kept, or one that is made.
-fn report_on<B: HallName, S: ShowsKept<B, KeptReports<B>>>(
+fn report_on<W: Wait, B: HallName, S: ShowsKept<B, KeptReports<B>>>(
+    rt: &W,
     alloc: Global,
     published: &S,
     what: &What,
@@ -63,7 +64,7 @@ fn report_on<B: HallName, S: ShowsKept<B, KeptReports<B>>>(
     ensures { Reports (project (S.list published.now)) usual what.now (seen result) }
 {
     let kept = published.kept();
-    kept.report(alloc, published.board(), published.prefix(), what)
+    kept.report(rt, alloc, published.board(), published.prefix(), what)
 }
 
 impl<W: Wait, K: Keeper, B: HallName, S: ShowsKept<B, KeptReports<B>>, R: Wait + Drop> Service
@@ -94,9 +95,10 @@ impl<W: Wait, K: Keeper, B: HallName, S: ShowsKept<B, KeptReports<B>>, R: Wait +
 
     fn report(&mut self, alloc: Global, least: Option<u64>, what: &What) -> Shown {
         let wanted = wanted(least);
-        let told = self
-            .seat
-            .look_whole(wanted, |published: &S| report_on(alloc, published, what));
+        let rt = self.rt;
+        let told = self.seat.look_whole(wanted, |published: &S| {
+            report_on(rt, alloc, published, what)
+        });
         match told {
             Some((front, Some(told))) => shown(front, told),
             Some((front, None)) => Shown::Behind { front },

@@ -6,43 +6,44 @@ ghost use Rattle.reports.specs.NetLists.{seen};
 ghost use Rattle.reports.specs.Reports.{Reports};
 ghost use Rattle.kept_reports.specs.steps.KeptTexts.{IsText, what_of};
 
-use crate::kept_text::KeptText;
+use crate::kept_text::{KeptText, TextPlace};
 use crate::kind::{ReportKind, kind_of};
 use board_core::Board;
 use hall_log::{HallName, Prefix};
 use pin_matrix::Matrix;
 use reports::{Form, ReportFault, What, report};
 use std::alloc::Global;
-use std::sync::OnceLock;
+use std::sync::Wait;
 
 /// The texts of reports that were made on a board. Who asks first makes one and keeps it; it is
-/// then read without a lock. Those who ask meanwhile make it too, and wait for nobody.
+/// then read without a lock. Those who ask meanwhile wait for it, so that no two of a kind are made
+/// at once.
 #[derive(Drop)]
 pub struct KeptReports<B: HallName> {
-    list: OnceLock<KeptText<B>>,
-    tango: OnceLock<KeptText<B>>,
-    pcb: OnceLock<KeptText<B>>,
-    bom: OnceLock<KeptText<B>>,
-    drc: OnceLock<KeptText<B>>,
-    sheets: OnceLock<KeptText<B>>,
+    list: TextPlace<B>,
+    tango: TextPlace<B>,
+    pcb: TextPlace<B>,
+    bom: TextPlace<B>,
+    drc: TextPlace<B>,
+    sheets: TextPlace<B>,
 }
 
 impl<B: HallName> Default for KeptReports<B> {
     /// None yet. It takes no memory.
     fn default() -> KeptReports<B> {
         KeptReports {
-            list: OnceLock::new(),
-            tango: OnceLock::new(),
-            pcb: OnceLock::new(),
-            bom: OnceLock::new(),
-            drc: OnceLock::new(),
-            sheets: OnceLock::new(),
+            list: TextPlace::new(),
+            tango: TextPlace::new(),
+            pcb: TextPlace::new(),
+            bom: TextPlace::new(),
+            drc: TextPlace::new(),
+            sheets: TextPlace::new(),
         }
     }
 }
 
 impl<B: HallName> KeptReports<B> {
-    fn cell(&self, kind: ReportKind) -> &OnceLock<KeptText<B>> {
+    fn place(&self, kind: ReportKind) -> &TextPlace<B> {
         match kind {
             ReportKind::Net(Form::List) => &self.list,
             ReportKind::Net(Form::Tango) => &self.tango,
@@ -56,7 +57,7 @@ impl<B: HallName> KeptReports<B> {
     fn found(&self, kind: ReportKind, prefix: &Prefix<B>) -> Option<&[u8]>
         ensures { IfSome result (λ text. IsText prefix.now kind text.now) }
     {
-        self.cell(kind).get()?.text_of(kind, prefix)
+        self.place(kind).kept.get()?.text_of(kind, prefix)
     }
 
     // Keeps a copy, where there is memory for it and none was kept.
@@ -67,11 +68,11 @@ impl<B: HallName> KeptReports<B> {
             return;
         };
         let kept = KeptText::new(prefix.again(), kind, text);
-        let _set = self.cell(kind).try_set(kept);
+        let _set = self.place(kind).kept.try_set(kept);
     }
 
-    // The report of a kind on the board of these entries.
-    fn report_of(
+    // The report of a kind on the board of these entries: a text that is kept, or one that is made.
+    fn kept_or_made(
         &self,
         alloc: Global,
         kind: ReportKind,
@@ -91,10 +92,33 @@ impl<B: HallName> KeptReports<B> {
         Ok(text)
     }
 
-    /// The text of a report on the board of these entries, as `reports::report` makes it by the
-    /// usual matrix.
-    pub fn report(
+    // The report of a kind on the board of these entries. Who finds none waits for its turn, and
+    // then looks again.
+    fn report_of<W: Wait>(
         &self,
+        rt: &W,
+        alloc: Global,
+        kind: ReportKind,
+        board: &Board,
+        prefix: &Prefix<B>,
+        what: &What,
+    ) -> Result<Vec<u8>, ReportFault>
+        requires board { board.now.project ≡ project prefix.now }
+        requires kind { what_of kind ≡ what.now }
+        ensures { Reports (project prefix.now) usual what.now (seen result) }
+    {
+        if let Some(text) = self.found(kind, prefix) {
+            return Ok(text.to_vec(alloc)?);
+        }
+        let _turn = self.place(kind).turn.lock(rt);
+        self.kept_or_made(alloc, kind, board, prefix, what)
+    }
+
+    /// The text of a report on the board of these entries, as `reports::report` makes it by the
+    /// usual matrix. It waits while another makes the same one, by `rt`.
+    pub fn report<W: Wait>(
+        &self,
+        rt: &W,
         alloc: Global,
         board: &Board,
         prefix: &Prefix<B>,
@@ -104,7 +128,7 @@ impl<B: HallName> KeptReports<B> {
         ensures { Reports (project prefix.now) usual what.now (seen result) }
     {
         match kind_of(what) {
-            Some(kind) => self.report_of(alloc, kind, board, prefix, what),
+            Some(kind) => self.report_of(rt, alloc, kind, board, prefix, what),
             None => report(alloc, board, what, &Matrix::usual()),
         }
     }

@@ -1,10 +1,11 @@
-// One text that is kept.
+// One text that is kept, and its place.
 ghost use Rattle.std.specs.Prelude.{◌≡◌, IfSome};
 ghost use Rattle.kept_reports.specs.steps.KeptTexts.{IsText};
 
 use crate::kind::ReportKind;
 use hall_log::{HallName, Prefix};
 use std::marker::Model;
+use std::sync::{Mutex, OnceLock};
 
 /// The text of a report, with the entries and the kind that it is of.
 #[derive(Drop)]
@@ -46,5 +47,24 @@ impl<B: HallName> KeptText<B> {
             return None;
         }
         Some(&self.text)
+    }
+}
+
+/// Where a text is kept once it is made, with the turn of the one who makes it.
+#[derive(Drop)]
+pub struct TextPlace<B: HallName> {
+    /// The text; none before it is made.
+    pub kept: OnceLock<KeptText<B>>,
+    /// Held by who makes it.
+    pub turn: Mutex<()>,
+}
+
+impl<B: HallName> TextPlace<B> {
+    /// No text yet. It takes no memory.
+    pub fn new() -> TextPlace<B> {
+        TextPlace {
+            kept: OnceLock::new(),
+            turn: Mutex::new(()),
+        }
     }
 }
