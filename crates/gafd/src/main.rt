@@ -3,7 +3,8 @@
 //! canonical text of a schematic or of a symbol. `gafd table SHEET` prints the attributes of a
 //! schematic as a table. `gafd renumber FILE...` gives numbers to components without one, in the
 //! files, and `gafd fill SHEET TABLE` puts a table back. `gafd serve ADDRESS STORE` serves a history
-//! of edits over HTTP, and `gafd store STORE DB` copies one into a database.
+//! of edits over HTTP, whose rows are in a folder or in a database, and `gafd store STORE DB`
+//! copies one into a database.
 //!
 //! `gafd_run::run` is all of the program, over anything outside; `main` makes the real ones.
 #![tactic(auto)]
@@ -11,7 +12,6 @@
 #[cfg(test)]
 mod edges;
 
-use file_keeper::FileKeeper;
 use gafd_run::{report_want_of_memory, run};
 use gates::TcpGate;
 use hall_core::Places;
@@ -21,6 +21,7 @@ use sql_file_keeper::SqlFileKeeper;
 use std::process::ExitCode;
 use std::rt::Env;
 use std::{env, io};
+use store_keeper::StoreKeeper;
 
 /// The arguments after the program's name. Those that are not UTF-8 ask for no command, as none do.
 fn arguments<R: Env + AllocGlobal>(rt: &R) -> io::Result<Vec<String>> {
@@ -42,7 +43,7 @@ fn main(rt: HostRuntime) -> ExitCode {
     let mut out = StdSink::new(rt.stdout());
     let mut err = StdSink::new(rt.stderr());
     let mut gate = TcpGate::new(&rt);
-    let keeper = FileKeeper::new(&rt);
+    let keeper = StoreKeeper::new(&rt);
     let database = SqlFileKeeper::new(&rt);
     let mut places = Places::new();
     let status = match arguments(&rt) {
