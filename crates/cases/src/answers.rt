@@ -18,6 +18,7 @@ fn row<W: Threads + Wait + Clock + Sync>(
         "work" => programs::work(rt, alloc, cells, files),
         "rewritten" => rewrites::rewritten(rt, alloc, cells, files),
         "status" => served::status(rt, alloc, cell(cells, 0), files),
+        "given" => served::given(rt, alloc, cell(cells, 0), files),
         _ => Err(CaseFault::BadCase),
     }
 }

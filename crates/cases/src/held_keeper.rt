@@ -1,4 +1,5 @@
-// A keeper in memory, of which one call waits. It tells no rows.
+// A keeper in memory that notes the store which it is given, and of which one call waits. It tells no
+// rows.
 ghost use Rattle.std.specs.Prelude.{◌≡◌, None};
 ghost use Rattle.geda_defs.specs.Causes.{HasCause};
 
@@ -17,10 +18,11 @@ pub struct HeldCall {
     pub until: Milestone,
 }
 
-/// A keeper in memory that tells all when a call begins. One call may wait then, and fails where it
-/// waits in vain.
+/// A keeper in memory that tells all when a call begins, and notes its store under its name. One call
+/// may wait then, and fails where it waits in vain.
 #[derive(Drop)]
 pub struct HeldKeeper<'a, W: Wait + Clock> {
+    name: &'static str,
     keeper: MemoryKeeper,
     progress: Progress<'a, W>,
     place: usize,
@@ -30,14 +32,16 @@ pub struct HeldKeeper<'a, W: Wait + Clock> {
 }
 
 impl<'a, W: Wait + Clock> HeldKeeper<'a, W> {
-    /// This keeper, whose steps stand at a place.
+    /// This keeper under a name, whose steps stand at a place.
     pub fn new(
+        name: &'static str,
         keeper: MemoryKeeper,
         progress: Progress<'a, W>,
         place: usize,
         held: Option<HeldCall>,
     ) -> HeldKeeper<'a, W> {
         HeldKeeper {
+            name,
             keeper,
             progress,
             place,
@@ -83,6 +87,7 @@ impl<W: Wait + Clock> Keeper for HeldKeeper<'_, W> {
         if !self.begin_call() {
             return self.counted(Err(KeepFault::Failed));
         }
+        self.progress.note(self.name, store)?;
         let done = self.keeper.attach(store);
         self.counted(done)
     }

@@ -10,6 +10,7 @@
 mod answers;
 mod case_words;
 mod held_keeper;
+mod noted_gate;
 mod programs;
 mod progress;
 mod rewrites;

@@ -41,10 +41,12 @@ impl Trace {
     }
 }
 
-/// What all connections have written, and how far the keeper is.
+/// What all connections have written, how far the keeper is, and which texts gate and keepers were
+/// given.
 #[derive(Drop)]
 pub struct Traces {
     list: Vec<Trace>,
+    given: String,
 }
 
 impl Traces {
@@ -57,7 +59,16 @@ impl Traces {
                 steps: 0,
             })?;
         }
-        Ok(Traces { list })
+        Ok(Traces {
+            list,
+            given: String::new(alloc),
+        })
+    }
+
+    /// Notes who was given a text, and the text.
+    fn note(&mut self, who: &str, text: &str) -> Result<(), AllocError> {
+        let between = if self.given.is_empty() { "" } else { ", " };
+        write!(self.given, "{between}{who} {text}")
     }
 
     /// Counts a step.
@@ -73,6 +84,11 @@ impl Traces {
             Some(trace) => trace.put(piece),
             None => Ok(()),
         }
+    }
+
+    /// A copy of who was given which text.
+    fn given(&self, alloc: Global) -> Result<String, AllocError> {
+        String::from_str(alloc, self.given.as_str())
     }
 
     fn has_come(&self, wanted: Milestone) -> bool {
@@ -117,6 +133,16 @@ impl<'a, W: Wait + Clock> Progress<'a, W> {
     /// A copy of what a connection has written.
     pub fn written(&self, alloc: Global, place: usize) -> Result<Vec<u8>, AllocError> {
         self.traces.lock(self.rt).written(alloc, place)
+    }
+
+    /// Notes who was given a text, and the text.
+    pub fn note(&self, who: &str, text: &str) -> Result<(), AllocError> {
+        self.traces.lock(self.rt).note(who, text)
+    }
+
+    /// Who was given which text, in the order in which they were.
+    pub fn given(&self, alloc: Global) -> Result<String, AllocError> {
+        self.traces.lock(self.rt).given(alloc)
     }
 
     fn has_come(&self, wanted: Milestone) -> bool {

@@ -32,6 +32,18 @@ pub fn status<W: Threads + Wait + Clock + Sync>(
     status_line(alloc, &ran)
 }
 
+/// The address that the gate was given, and the stores that the keepers were, in the order in which
+/// they were.
+pub fn given<W: Threads + Wait + Clock + Sync>(
+    rt: &W,
+    alloc: Global,
+    text: &str,
+    files: &TableFiles,
+) -> Result<String, CaseFault> {
+    let ran = run_case(rt, alloc, &serving_case(text), files)?;
+    Ok(Progress::new(rt, &ran.traces).given(alloc)?)
+}
+
 /// What so many connections have written, from a place on.
 fn written_from<W: Wait + Clock>(
     alloc: Global,

@@ -1,6 +1,7 @@
 // The whole program over what is in memory.
 use crate::case_words::{ServingCase, held_call_of};
 use crate::held_keeper::{HeldCall, HeldKeeper};
+use crate::noted_gate::NotedGate;
 use crate::progress::{Progress, Traces};
 use crate::scripts::{counted_name, name_count, script_of};
 use crate::shared_link::SharedLink;
@@ -17,6 +18,9 @@ use std::collections::BTreeMap;
 use std::sync::{Mutex, Wait};
 use std::thread::Threads;
 use std::time::Clock;
+
+/// Where steps are not counted.
+const NO_PLACE: usize = usize::MAX;
 
 /// How many bytes an output of a serving takes.
 const ROOM: usize = 1_000;
@@ -111,7 +115,7 @@ fn links_of<'a, W: Wait + Clock>(
 struct Wires<'a, W: Wait + Clock> {
     start: Start,
     links: Vec<SharedLink<'a, W>>,
-    progress: Progress<'a, W>,
+    traces: &'a Mutex<Traces>,
     place: usize,
 }
 
@@ -128,7 +132,7 @@ fn run_with<'a, W: Threads + Wait + Clock + Sync>(
     let Wires {
         start,
         links,
-        progress,
+        traces,
         place,
     } = wires;
     let Start {
@@ -137,9 +141,12 @@ fn run_with<'a, W: Threads + Wait + Clock + Sync>(
         failing_binds,
         held,
     } = start;
-    let mut gate = MemoryGate::new(rt, links, failing_binds);
+    let gate = MemoryGate::new(rt, links, failing_binds);
+    let mut gate = NotedGate::new(gate, Progress::new(rt, traces));
     let mut places = Places::new();
-    let keeper = HeldKeeper::new(keeper, progress, place, held);
+    let keeper = HeldKeeper::new("keeper", keeper, Progress::new(rt, traces), place, held);
+    let progress = Progress::new(rt, traces);
+    let database = HeldKeeper::new("database", database, progress, NO_PLACE, None);
     let status = run(
         rt,
         alloc,
@@ -175,7 +182,7 @@ pub fn status_in<W: Threads + Wait + Clock + Sync>(
             held: None,
         },
         links: Vec::new(alloc),
-        progress: Progress::new(rt, &traces),
+        traces: &traces,
         place: 0,
     };
     Ok(run_with(rt, alloc, arguments, folder, outputs, wires))
@@ -196,7 +203,7 @@ fn status_of<W: Threads + Wait + Clock + Sync>(
     let wires = Wires {
         start,
         links,
-        progress: Progress::new(rt, traces),
+        traces,
         place: name_count(case.links)?,
     };
     let mut folder = MemoryFolder::new(BTreeMap::new(alloc), Vec::new(alloc));

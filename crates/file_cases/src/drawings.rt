@@ -96,7 +96,41 @@ fn touching(
     Ok(keys)
 }
 
-/// The first place, but for the one that is gone, whose neighbours are not those that touch.
+/// Whether a conductor is one of some, or touches one of them.
+fn is_spanned(drawing: &[Conductor; 25], some: &[Key], key: Key) -> bool {
+    let Some(own) = drawing.get(key.id as usize) else {
+        return false;
+    };
+    for other in some {
+        if *other == key {
+            return true;
+        }
+        if let Some(conductor) = drawing.get(other.id as usize) {
+            if touches(own, conductor) {
+                return true;
+            }
+        }
+    }
+    false
+}
+
+/// Whether all of some keys are wanted, and each that is wanted is one of them, or touches one.
+fn are_spanning(drawing: &[Conductor; 25], some: &[Key], wanted: &[Key]) -> bool {
+    for key in some {
+        if !wanted.contains(key) {
+            return false;
+        }
+    }
+    for key in wanted {
+        if !is_spanned(drawing, some, *key) {
+            return false;
+        }
+    }
+    true
+}
+
+/// The first place, but for the one that is gone, whose neighbours are not those that touch, or not
+/// spanned by some of them.
 fn first_wrong(
     alloc: Global,
     index: &mut TouchIndex,
@@ -109,7 +143,8 @@ fn first_wrong(
         if place != gone {
             let wanted = touching(alloc, drawing, gone, place)?;
             let found = index.neighbours(key(place))?;
-            if found != wanted {
+            let some = index.spanning_neighbours(key(place))?;
+            if found != wanted || !are_spanning(drawing, &some, &wanted) {
                 return Ok(Some(place));
             }
         }
