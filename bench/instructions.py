@@ -32,6 +32,7 @@ import project_limits
 import reading
 import sheet_shapes
 import symbols
+import table_shapes
 from comparing import put
 from drawing import LIBRARY, part, wire
 from part_shapes import sheet
@@ -77,6 +78,7 @@ def rows():
     for count, sheets in ((10_000, 1), (10_000, 100), (100_000, 2)):
         files = numbering_times.open_sheets(count, sheets)
         yield f"components R? {count:,}, sheets {sheets:,}", ["renumber"], files, [*files]
+    yield from table_rows()
     yield from symbol_rows()
     for count in (1_000, 4_000, 16_000):
         yield f"work 7 {count:,}", ["work"], {}, ["7", str(count)]
@@ -96,6 +98,17 @@ def resistors(count):
         objects.append(part(x, y, f"R{number + 1}", "value=1k"))
         objects.append(wire(x + 300, y, x + 400 - 50 * (number % 100 == 99), y))
     return {"two.sym": LIBRARY["two.sym"], "x.sch": sheet(objects)}
+
+
+def table_rows():
+    """Tables of components with few names, of those with many of which each has some, and of one
+    component with many; as they are, and with all values changed."""
+    for shape in ((10_000, 4, 4), (10_000, 64, 4), (1, 800, 800)):
+        (_, files, _), *_, (_, changed, _) = table_shapes.tables(*shape)
+        name, table = table_shapes.name_of(shape), table_shapes.TABLE
+        yield name, ["export", "table"], files, [table_shapes.SHEET]
+        yield f"{name}, own table", ["fill"], files, [table_shapes.SHEET, table]
+        yield f"{name}, all changed", ["fill"], changed, [table_shapes.SHEET, table]
 
 
 def symbol_rows():

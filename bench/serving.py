@@ -3,8 +3,8 @@
 
 Usage:
   serving.py edits [SECONDS]    edits acknowledged a second, by one writer and by eight, each in a
-                                process of its own; on the disk, and in /dev/shm, where a sync does
-                                nothing
+                                process of its own; in a folder and in a database; on the disk, and
+                                in /dev/shm, where a sync does nothing
   serving.py replies [SECONDS]  replies a second to `GET /sheets` over eight connections that stay
                                 open, by wrk where it is installed, else by eight processes of
                                 Python, beside nginx with a file of the same bytes where that is
@@ -43,7 +43,7 @@ import paths
 import part_shapes
 import sheet_shapes
 from built import built
-from served import Served, free_port
+from served import Served, free_port, new_database
 from writers import Writer
 
 WRITERS = 8
@@ -87,10 +87,16 @@ class Edits:
 def edits(seconds):
     for what, parent in (("on the disk", None), ("without a sync", "/dev/shm")):
         for count in (1, WRITERS):
-            with tempfile.TemporaryDirectory(dir=parent) as room, Served(room + "/store") as server:
-                Writer(server.port, "first").opens()
-                acknowledged = sum(beside(count, Edits(server.port, seconds)))
-            print(f"{what:14} {count} writers: {acknowledged / seconds:8.0f} edits a second")
+            for form, store in (("folder", new_store), ("database", new_database)):
+                with tempfile.TemporaryDirectory(dir=parent) as room, Served(store(room)) as server:
+                    Writer(server.port, "first").opens()
+                    acknowledged = sum(beside(count, Edits(server.port, seconds)))
+                rate = acknowledged / seconds
+                print(f"{what:14} {form:8} {count} writers: {rate:8.0f} edits a second", flush=True)
+
+
+def new_store(room):
+    return room + "/store"
 
 
 class Replies:
@@ -226,14 +232,19 @@ def rows(count):
         yield {"base": serial, "edit": edit, "number": serial + 1, "session": "ann"}
 
 
+def make_store(store, count):
+    """A store of that history, without a server."""
+    store.mkdir()
+    for serial, row in enumerate(rows(count)):
+        text = json.dumps(row, sort_keys=True, separators=(",", ":")) + "\n"
+        (store / f"{serial:010}.json").write_text(text)
+
+
 def starts(counts):
     for count in counts:
         with tempfile.TemporaryDirectory() as room:
             store = pathlib.Path(room, "store")
-            store.mkdir()
-            for serial, row in enumerate(rows(count)):
-                text = json.dumps(row, sort_keys=True, separators=(",", ":")) + "\n"
-                (store / f"{serial:010}.json").write_text(text)
+            make_store(store, count)
             times = []
             for _ in range(3):
                 with Served(store) as server:

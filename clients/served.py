@@ -47,6 +47,14 @@ def free_port():
     raise RuntimeError("no port is free")
 
 
+def new_database(room):
+    """The path of a database in this folder. It has the rows of `rows` there, or none."""
+    made = pathlib.Path(room, "rows.db")
+    words = [program(), "store", str(pathlib.Path(room, "rows")), str(made)]
+    subprocess.run(words, stdout=subprocess.DEVNULL, timeout=LONGEST, check=True)
+    return made
+
+
 class Served:
     """A server over a store. Its address stays when it is started again."""
 

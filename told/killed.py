@@ -1,9 +1,10 @@
 #!/usr/bin/env python3
 """Kills a server amid edits, with SIGKILL, and looks whether what it acknowledged is there.
 
-Usage: killed.py [--rounds N] [--writers N] [--seed S]    100 rounds of four writers, seed 1
+Usage: killed.py [--database] [--rounds N] [--writers N] [--seed S]
 
-GAFD names the program, else the one that is built. In each round writers edit as fast as they are
+100 rounds of four writers, seed 1, over a folder; over a database with `--database`. GAFD names the
+program, else the one that is built. In each round writers edit as fast as they are
 answered until the server is killed, after 20 to 400 milliseconds. It is started again, over the
 same store, and each entry that was answered 200 is sent once more: the answer has to be the same
 bytes, as it is only for an entry that stands where it stood. In the end each acknowledged wire has
@@ -24,7 +25,8 @@ import time
 sys.dont_write_bytecode = True
 
 from built import built
-from served import Served
+from gafd_sync.databases import rows_of
+from served import Served, new_database
 from writers import SHEET, Writer
 
 MOST = 300
@@ -67,15 +69,21 @@ def lost_of(server, done):
     return [entry for entry, body in done if again.ask("POST", "/edits", entry)[::2] != (200, body)]
 
 
+def new_store(room):
+    return pathlib.Path(room, "store")
+
+
 def main():
     parser = argparse.ArgumentParser(description=__doc__.split("\n")[0])
+    parser.add_argument("--database", action="store_true")
     parser.add_argument("--rounds", type=int, default=100)
     parser.add_argument("--writers", type=int, default=4)
     parser.add_argument("--seed", default="1")
     asked = parser.parse_args()
     built()
     draw = random.Random(asked.seed)
-    with tempfile.TemporaryDirectory() as room, Served(pathlib.Path(room, "store")) as server:
+    new = new_database if asked.database else new_store
+    with tempfile.TemporaryDirectory() as room, Served(new(room)) as server:
         Writer(server.port, "first").opens()
         every, lost = [], []
         for number in range(asked.rounds):
@@ -84,17 +92,20 @@ def main():
             lost += lost_of(server, done)
             every += done
         _, front, sheet = Writer(server.port, "last").ask("GET", "/sheets/" + SHEET)
-        rows = sorted(pathlib.Path(server.store).glob("*.json"))
-        broken = [row.name for row in rows if not row.read_bytes().endswith(b"}\n")]
         lines = sheet.decode().splitlines()[1:]
+        # While a server has it nobody else reads a database.
+        server.stop(signal.SIGKILL)
+        rows = rows_of(server.store)
+        there = [serial for serial in range(rows.count) if serial not in rows.missing]
+        broken = [serial for serial in there if not rows.data(serial).endswith(b"}\n")]
     texts = [json.loads(entry) for entry, _ in every]
     serials = [json.loads(body)["serial"] for _, body in every]
     lost += [text for text in texts if text["edit"]["text"].strip() not in lines]
     print(f"{asked.rounds} kills, {len(every)} edits acknowledged, {len(lost)} lost")
     print(f"{front - 1 - len(every)} stand without an answer, {len(broken)} rows broken")
-    is_whole = len(rows) == front == len(lines) + 1 and len(set(serials)) == len(serials)
+    is_whole = len(there) == front == len(lines) + 1 and len(set(serials)) == len(serials)
     if lost or broken or not is_whole or not every:
-        print(f"rows {len(rows)}, front {front}, objects {len(lines)}: {lost[:3]} {broken[:3]}")
+        print(f"rows {len(there)}, front {front}, objects {len(lines)}: {lost[:3]} {broken[:3]}")
         return 1
     return 0
 

@@ -33,7 +33,7 @@ class DatabaseRows:
             with closing(sqlite3.connect(place, uri=True)) as connection:
                 self.bodies = dict(connection.execute("select serial, body from entry_rows"))
         except sqlite3.Error as error:
-            raise Stop(f"{store}: {error}; while `gafd store` writes it nobody else reads it") from None
+            raise Stop(f"{store}: {error}; while `gafd` has it nobody else reads it") from None
         self.greatest = max(self.bodies, default=None)
         self.count = 0 if self.greatest is None else self.greatest + 1
         self.missing = [serial for serial in range(self.count) if serial not in self.bodies]
