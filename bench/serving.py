@@ -43,7 +43,7 @@ import paths
 import part_shapes
 import sheet_shapes
 from built import built
-from served import Served, free_port, new_database
+from served import Served, free_port, new_database, new_store
 from writers import Writer
 
 WRITERS = 8
@@ -93,10 +93,6 @@ def edits(seconds):
                     acknowledged = sum(beside(count, Edits(server.port, seconds)))
                 rate = acknowledged / seconds
                 print(f"{what:14} {form:8} {count} writers: {rate:8.0f} edits a second", flush=True)
-
-
-def new_store(room):
-    return room + "/store"
 
 
 class Replies:

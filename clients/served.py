@@ -47,6 +47,11 @@ def free_port():
     raise RuntimeError("no port is free")
 
 
+def new_store(room):
+    """The path of a folder for a store in this folder."""
+    return pathlib.Path(room, "store")
+
+
 def new_database(room):
     """The path of a database in this folder. It has the rows of `rows` there, or none."""
     made = pathlib.Path(room, "rows.db")

@@ -26,7 +26,7 @@ sys.dont_write_bytecode = True
 
 from built import built
 from gafd_sync.databases import rows_of
-from served import Served, new_database
+from served import Served, new_database, new_store
 from writers import SHEET, Writer
 
 MOST = 300
@@ -67,10 +67,6 @@ def lost_of(server, done):
     """Of the acknowledged entries those that do not stand where they stood."""
     again = Writer(server.port, "again")
     return [entry for entry, body in done if again.ask("POST", "/edits", entry)[::2] != (200, body)]
-
-
-def new_store(room):
-    return pathlib.Path(room, "store")
 
 
 def main():
