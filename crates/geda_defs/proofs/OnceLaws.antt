@@ -22,7 +22,7 @@ pub option_or-assoc : {A : Type 0} (a b c : Option A) → option_or (option_or a
 option_or-assoc None b c = refl
 option_or-assoc (Some x) b c = refl
 
-one_of : {A : Type 0} (b : Bool) (x : A) (f : Option A) → option_or (cond b (Some x) None) f ≡ cond b (Some x) f
+pub one_of : {A : Type 0} (b : Bool) (x : A) (f : Option A) → option_or (cond b (Some x) None) f ≡ cond b (Some x) f
 one_of true x f = refl
 one_of false x f = refl
 
@@ -172,7 +172,6 @@ module _ {K : Type 0} {cmp : K → K → Ordering} (o : IsTotalOrder cmp) where
   past_first q x xs a Less e = rw e refl
   past_first q x xs a Greater e = rw e refl
 
-  -- two rising lists in which the same keys are found are one list
   ascends_same : (xs ys : List K) → Ascends xs → Ascends ys → ((q : K) → find (is_equal cmp q) xs ≡ find (is_equal cmp q) ys) → xs ≡ ys
   ascends_same [] [] s t h = refl
   ascends_same [] (y ∷ ys) s t h = absurd (let e : None ≡ Some y = h y ∙ found_first y ys in cc)
@@ -194,7 +193,7 @@ module _ {K : Type 0} {cmp : K → K → Ordering} (o : IsTotalOrder cmp) where
           ap (λ (z : K). z ∷ xs) one ∙ ap (λ (zs : List K). y ∷ zs) (rest later)
 
   -- two equal keys compare alike
-  same_side : (q x k : K) → cmp x k ≡ Equal → cmp q x ≡ cmp q k
+  pub same_side : (q x k : K) → cmp x k ≡ Equal → cmp q x ≡ cmp q k
   same_side q x k e = o.antisymm q x ∙ ap ordering_reverse (o.congr x k q e) ∙ sym (o.antisymm q k)
 
   -- a key that equals the one before it is not the first to be found
@@ -216,7 +215,8 @@ module _ {K : Type 0} {cmp : K → K → Ordering} (o : IsTotalOrder cmp) where
       by Greater e g h = ap (λ (f : Option K). cond (is_eq (cmp q k)) (Some k) f) h
       by Equal e g h = g ∙ passed_by q k x (find (is_equal cmp q) xs) (cmp q k) refl (same_side q x k e)
 
-  find_dedup : (q : K) (xs : List K) → find (is_equal cmp q) (dedup (eq_by_cmp cmp) xs) ≡ find (is_equal cmp q) xs
+  -- what is found is found where equals after the first are left out
+  pub find_dedup : (q : K) (xs : List K) → find (is_equal cmp q) (dedup (eq_by_cmp cmp) xs) ≡ find (is_equal cmp q) xs
   find_dedup q [] = refl
   find_dedup q (x ∷ xs) = find_dedup_from q x xs
 
@@ -243,6 +243,10 @@ module _ {K : Type 0} {cmp : K → K → Ordering} (o : IsTotalOrder cmp) where
   rises [] s = tt
   rises (x ∷ xs) s = (s.0, rises xs s.1)
 
+  -- two rising lists in which the same keys are found are one list
+  pub same_found : (xs ys : List K) → IsStrictlySortedBy cmp xs → IsStrictlySortedBy cmp ys → ((q : K) → find (is_equal cmp q) xs ≡ find (is_equal cmp q) ys) → xs ≡ ys
+  same_found xs ys s t h = ascends_same xs ys (rises xs s) (rises ys t) h
+
   same_dedup_from : (same : K → K → Bool) → ((x y : K) → same x y ≡ eq_by_cmp cmp x y) → (k : K) (xs : List K) → dedup_from same k xs ≡ dedup_from (eq_by_cmp cmp) k xs
   same_dedup_from same agree k [] = refl
   same_dedup_from same agree k (x ∷ xs) = rw (agree x k, same_dedup_from same agree k xs, same_dedup_from same agree x xs) refl
@@ -260,7 +264,7 @@ module _ {K : Type 0} {cmp : K → K → Ordering} (o : IsTotalOrder cmp) where
       find_tied q ys ∙ ap (λ (ks : List K). slice_get ks 0) (stable q) ∙ sym (find_tied q xs) in
       dedup_is same ys zs left
       ∙ same_dedup same agree ys
-      ∙ ascends_same once (once_in_order cmp xs)
-      (rises once (IsStrictlySortedBy-dedup o (λ _ _. refl) ys sorted))
-      (ascends_fold [] xs tt)
+      ∙ same_found once (once_in_order cmp xs)
+      (IsStrictlySortedBy-dedup o (λ _ _. refl) ys sorted)
+      (is_once_in_order xs).rising
       (λ q. find_dedup q ys ∙ first q ∙ sym (find_once q xs))

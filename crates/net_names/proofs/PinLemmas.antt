@@ -10,11 +10,12 @@ use Rattle.std.specs.Cmp.{IsTotalOrder, tied_itself}
 use Rattle.std.proofs.lemmas.List.{get_or-map, length-map}
 use Rattle.std.proofs.lemmas.List.Elements.{All-from_recursion, All-get_or, recursion_from_All}
 use Rattle.geda_defs.specs.Order.{by_bytes, once_in_order}
+use Rattle.geda_defs.proofs.OnceLaws.{same_side}
 use Rattle.rank_order.specs.Chains.{IsWalk}
 use Rattle.rank_order.specs.Keys.{AreRanks}
 use Rattle.rank_order.specs.Ranks.{in_order, places_from}
 use Rattle.rank_order.proofs.KeyLemmas.{key_at, rising_compares}
-use Rattle.rank_order.proofs.MemberLemmas.{order_inside, ranked_in_order, same_side}
+use Rattle.rank_order.proofs.MemberLemmas.{order_inside, ranked_in_order}
 use Rattle.rank_order.proofs.RankedKeys.{rank_below, ranks_compare}
 use Rattle.flat_rows.specs.Conductors.{FlatConductor}
 use Rattle.flat_rows.specs.Keyed.{Keyed, keyed_from}

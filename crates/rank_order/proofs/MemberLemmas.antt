@@ -10,7 +10,7 @@ use Rattle.std.specs.List.Sorted.{IsStrictlySortedBy}
 use Rattle.std.specs.Cmp.{IsTotalOrder, then_total}
 use Rattle.std.specs.BTreeSet.{insert_key}
 use Rattle.geda_defs.specs.Order.{once_in_order, is_equal}
-use Rattle.geda_defs.proofs.OnceLaws.{is_once_in_order, option_or-none, option_or-assoc}
+use Rattle.geda_defs.proofs.OnceLaws.{find_dedup, is_once_in_order, one_of, option_or-none, option_or-assoc}
 use Rattle.rank_order.specs.Ranks.{by_rank, in_order}
 use Rattle.rank_order.proofs.OrderLemmas.{all_insert, all_moved, all_once, once_agrees, once_is}
 use Rattle.std.proofs.lemmas.List.Elements.{All-from_recursion}
@@ -126,35 +126,6 @@ module _ {K : Type 0} {cmp : K → K → Ordering} (o : IsTotalOrder cmp) where
   strict_dedup [] c = tt
   strict_dedup (x ∷ xs) c = strict_from x xs c.0 c.1
 
-  pub same_side : (q x k : K) → cmp x k ≡ Equal → cmp q x ≡ cmp q k
-  same_side q x k e = o.antisymm q x ∙ ap ordering_reverse (o.congr x k q e) ∙ sym (o.antisymm q k)
-
-  passed_by : (q k x : K) (f : Option K) (r : Ordering) → cmp q k ≡ r → cmp q x ≡ r
-      → cond (is_eq (cmp q k)) (Some k) f ≡ cond (is_eq (cmp q k)) (Some k) (cond (is_eq (cmp q x)) (Some x) f)
-  passed_by q k x f Less e g = rw (e, g) refl
-  passed_by q k x f Equal e g = rw e refl
-  passed_by q k x f Greater e g = rw (e, g) refl
-
-  find_dedup_from : (q k : K) (xs : List K) → find (is_equal cmp q) (dedup_from same k xs) ≡ find (is_equal cmp q) (k ∷ xs)
-  find_dedup_from q k [] = refl
-  find_dedup_from q k (x ∷ xs) = by (cmp x k) refl (find_dedup_from q k xs) (find_dedup_from q x xs)
-    where
-      by : (r : Ordering) → cmp x k ≡ r
-          → find (is_equal cmp q) (dedup_from same k xs) ≡ find (is_equal cmp q) (k ∷ xs)
-          → find (is_equal cmp q) (dedup_from same x xs) ≡ find (is_equal cmp q) (x ∷ xs)
-          → find (is_equal cmp q) (cond (is_eq r) (dedup_from same k xs) (k ∷ dedup_from same x xs)) ≡ find (is_equal cmp q) (k ∷ x ∷ xs)
-      by Less e g h = ap (λ (f : Option K). cond (is_eq (cmp q k)) (Some k) f) h
-      by Greater e g h = ap (λ (f : Option K). cond (is_eq (cmp q k)) (Some k) f) h
-      by Equal e g h = g ∙ passed_by q k x (find (is_equal cmp q) xs) (cmp q k) refl (same_side q x k e)
-
-  find_dedup : (q : K) (xs : List K) → find (is_equal cmp q) (dedup same xs) ≡ find (is_equal cmp q) xs
-  find_dedup q [] = refl
-  find_dedup q (x ∷ xs) = find_dedup_from q x xs
-
-  none_below : (q k : K) (xs : List K) → cmp q k ≡ Equal → AllByRecursion (λ y. cmp k y ≡ Less) xs → find (is_equal cmp q) xs ≡ None
-  none_below q k [] e a = refl
-  none_below q k (y ∷ ys) e a = rw (o.congr q k y e, a.0) (none_below q k ys e a.1)
-
   module _ {tie : K → K → Ordering} (t : IsTotalOrder tie) (p : K → Bool) where
     abbrev fine : K → K → Ordering
     fine = then_cmp cmp tie
@@ -246,10 +217,6 @@ module _ {K : Type 0} {cmp : K → K → Ordering} (o : IsTotalOrder cmp) where
         by Equal e s f h = rw f (behind (takes q x) x _ _ _ h)
         by Greater e s f h = behind (takes q x) x _ _ _ h
 
-    one_of : (b : Bool) (x : K) (f : Option K) → option_or (cond b (Some x) None) f ≡ cond b (Some x) f
-    one_of true x f = refl
-    one_of false x f = refl
-
     heads : (x : K) (xs ks : List K) → AllByRecursion (λ k. AllByRecursion (λ y. tie k y ≡ Less) (x ∷ xs)) ks → AllByRecursion (λ k. tie k x ≡ Less) ks
     heads x xs ks a = all_moved (λ k. AllByRecursion (λ y. tie k y ≡ Less) (x ∷ xs)) (λ k. tie k x ≡ Less) (λ k h. h.0) ks a
 
@@ -274,4 +241,4 @@ module _ {K : Type 0} {cmp : K → K → Ordering} (o : IsTotalOrder cmp) where
     part_in_order xs s =
         let ys = once_in_order fine xs in
         once_is o (filter p xs) (dedup same (filter p ys)) (strict_dedup (filter p ys) (climbs_filter p ys (climbs ys (is_once_in_order fine_total xs).rising)))
-        (λ q. find_dedup q (filter p ys) ∙ find_filter q ys ∙ taken_fold q [] xs tt tt s ∙ sym (find_filter q xs))
+        (λ q. find_dedup o q (filter p ys) ∙ find_filter q ys ∙ taken_fold q [] xs tt tt s ∙ sym (find_filter q xs))
