@@ -46,6 +46,7 @@ fn cut_field(bytes: &[u8]) -> (&[u8], &[u8])
 
 /// The number that 1 to 9 digits spell, where they stand first and before a blank or the end, and
 /// the bytes behind that blank.
+#[inline(always)]
 fn cut_digits(bytes: &[u8]) -> Option<(u32, &[u8])>
     ensures { IfSome result (λ r. BeginsWithDigits bytes.now r.0 r.1.now) }
 {
