@@ -4,3 +4,4 @@ pub mod Data
 pub mod Ranges
 pub mod Shapes
 pub mod Sheets
+pub mod steps

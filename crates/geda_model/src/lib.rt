@@ -13,6 +13,7 @@ mod limits;
 mod name;
 mod object;
 mod shape;
+mod short_text;
 mod text;
 mod word;
 

@@ -7,6 +7,7 @@ ghost use Rattle.geda_model.specs.Names.{IsName, is_name, is_name_byte};
 ghost use Rattle.geda_model.specs.declared.name.NameFault.TheVariants.{NoMemory};
 
 use crate::limits::MOST_NAME_BYTES;
+use crate::short_text::ShortText;
 use std::alloc::{AllocError, Global};
 use std::cmp::Ordering;
 use std::hash::{Hash, Hasher};
@@ -33,19 +34,18 @@ impl From<AllocError> for NameFault {
 /// `+` and `.`, the first of which is no `.`. Names are ordered by their bytes.
 #[derive(Debug, Drop)]
 pub struct Name {
-    text: String,
+    text: ShortText,
 }
 
 impl Model for Name {
     ghost use Rattle.std.specs.Prelude.{List, ℕ};
-    ghost use Rattle.std.specs.String.{string_bytes};
     ghost use Rattle.geda_model.specs.Names.{IsName};
 
     ghost Value = { List ℕ };
 
-    ghost view = { λ n. string_bytes n.text };
+    ghost view = { λ n. n.text };
 
-    ghost invariant = { λ n. IsName (string_bytes n.text) };
+    ghost invariant = { λ n. IsName n.text };
 }
 
 fn is_name_byte(byte: u8) -> bool
@@ -87,7 +87,7 @@ impl Name {
         if !is_name(text.as_bytes()) {
             return Err(NameFault::NotAName);
         }
-        let text = String::from_str(alloc, text)?;
+        let text = ShortText::new(alloc, text)?;
         Ok(Name { text })
     }
 
@@ -204,6 +204,8 @@ impl NameRoom {
         let NameRoom { mut text } = self;
         let source = &name.text;
         text.push_str(source.as_str()).unwrap();
-        Name { text }
+        Name {
+            text: ShortText::from_string(text),
+        }
     }
 }

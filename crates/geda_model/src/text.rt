@@ -3,22 +3,22 @@ ghost use Rattle.std.specs.Prelude.{◌≡◌, ◌↔◌, ◌<◌, IsTrue, count
 ghost use Rattle.geda_model.specs.Ranges.{IsContent, has_cr_end, is_after_line, line_feeds};
 
 use crate::limits::MOST_LINES;
+use crate::short_text::ShortText;
 use std::alloc::{AllocError, Global};
 use std::marker::Model;
 
 /// Any UTF-8 text.
 #[derive(Debug, Drop)]
 pub struct Block {
-    text: String,
+    text: ShortText,
 }
 
 impl Model for Block {
     ghost use Rattle.std.specs.Prelude.{List, ℕ};
-    ghost use Rattle.std.specs.String.{string_bytes};
 
     ghost Value = { List ℕ };
 
-    ghost view = { λ b. string_bytes b.text };
+    ghost view = { λ b. b.text };
 }
 
 impl Block {
@@ -29,7 +29,7 @@ impl Block {
     pub fn new(alloc: Global, text: &str) -> Result<Block, AllocError>
         ensures { IfOk result (λ b. b ≡ text.now) }
     {
-        let text = String::from_str(alloc, text)?;
+        let text = ShortText::new(alloc, text)?;
         Ok(Block { text })
     }
 
@@ -37,7 +37,9 @@ impl Block {
     pub fn from_string(text: String) -> Block
         ensures { result ≡ string_bytes text }
     {
-        Block { text }
+        Block {
+            text: ShortText::from_string(text),
+        }
     }
 
     /// The text. It takes no memory.
@@ -45,13 +47,6 @@ impl Block {
         ensures { result.now ≡ self.now }
     {
         self.text.as_str()
-    }
-
-    /// The text itself. It takes no memory.
-    pub fn into_string(self) -> String
-        ensures { string_bytes result ≡ self }
-    {
-        self.text
     }
 }
 

@@ -4,6 +4,7 @@ ghost use Rattle.geda_model.specs.Names.{IsLine, IsLineByte, IsWord, IsWordByte}
 
 use crate::limits::MOST_WORD_BYTES;
 use crate::name::NameFault;
+use crate::short_text::ShortText;
 use std::alloc::{AllocError, Global};
 use std::cmp::Ordering;
 use std::marker::Model;
@@ -135,19 +136,18 @@ impl Ord for Line {
 /// ordered by their bytes.
 #[derive(Debug, Drop)]
 pub struct Word {
-    text: String,
+    text: ShortText,
 }
 
 impl Model for Word {
     ghost use Rattle.std.specs.Prelude.{List, ℕ};
-    ghost use Rattle.std.specs.String.{string_bytes};
     ghost use Rattle.geda_model.specs.Names.{IsWord};
 
     ghost Value = { List ℕ };
 
-    ghost view = { λ w. string_bytes w.text };
+    ghost view = { λ w. w.text };
 
-    ghost invariant = { λ w. IsWord (string_bytes w.text) };
+    ghost invariant = { λ w. IsWord w.text };
 }
 
 fn are_word_bytes(bytes: &[u8]) -> bool
@@ -178,7 +178,7 @@ impl Word {
         if !is_word(text) {
             return Err(NameFault::NotAName);
         }
-        let text = String::from_str(alloc, text)?;
+        let text = ShortText::new(alloc, text)?;
         Ok(Word { text })
     }
 
