@@ -5,7 +5,8 @@
 //!
 //! Contracts see a project as finite maps (specs/Projects.antt) with the room that was reserved for
 //! changes, and a change as a list of things with their new values (Changes.antt). `Project::apply`
-//! puts one in, can't fail, and answers the change that undoes it.
+//! puts one in, can't fail, and answers the change that undoes it; `Project::put_one` puts in one
+//! item alone.
 #![tactic(auto)]
 
 mod change;

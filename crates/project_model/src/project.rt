@@ -122,10 +122,26 @@ impl Project {
         ensures things { self.old.spare.things ≤ self.new.spare.things }
         ensures names { self.old.spare.names ≤ self.new.spare.names }
     {
-        let names = change.count_names();
+        self.reserve_for(alloc, change.len(), change.count_names())
+    }
+
+    /// Makes room for as many more things, and for as many names of sheets and symbols among them.
+    /// The project and the room that it has stay, also where memory runs out.
+    pub fn reserve_for(
+        &mut self,
+        alloc: Global,
+        things: usize,
+        names: usize,
+    ) -> Result<(), AllocError>
+        ensures contents { self.new.contents ≡ self.old.contents }
+        ensures ok { OnOk result
+            ((things ≤ self.new.spare.things) × (names ≤ self.new.spare.names)) }
+        ensures things { self.old.spare.things ≤ self.new.spare.things }
+        ensures names { self.old.spare.names ≤ self.new.spare.names }
+    {
         self.sheets.reserve(alloc, names)?;
         self.symbols.reserve(alloc, names)?;
-        self.objects.reserve(change.len())
+        self.objects.reserve(things)
     }
 
     /// An equal project, without the room for changes.
@@ -140,8 +156,11 @@ impl Project {
         })
     }
 
-    // Gives a thing a value, or none, and answers the value that it had.
-    fn swap(&mut self, thing: &Thing, value: Option<Value>) -> Option<Value>
+    /// Gives a thing a value, or none, as `apply` does with a change of this one item, and answers
+    /// the value that it had.
+    ///
+    /// A value of another kind than its thing counts as none. It can't fail and takes no memory.
+    pub fn put_one(&mut self, thing: &Thing, value: Option<Value>) -> Option<Value>
         requires things { 0 < self.old.spare.things }
         requires names { name_count thing.now ≤ self.old.spare.names }
         requires id { IsIdInRange thing.now }
@@ -190,7 +209,7 @@ impl Project {
         let mut items = change.items.into_vec();
         for item in items.iter_mut() {
             let value = item.1.take();
-            item.1 = self.swap(&item.0, value);
+            item.1 = self.put_one(&item.0, value);
         }
         Change {
             items: Items::from_vec(items),
