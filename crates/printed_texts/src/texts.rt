@@ -1,5 +1,5 @@
 // Single texts, byte by byte.
-ghost use Rattle.std.specs.Prelude.{◌≡◌, ◌==◌, ◌++◌, OnOk};
+ghost use Rattle.std.specs.Prelude.{◌≡◌, ◌++◌, OnOk, nat_lt};
 ghost use Rattle.std.specs.List.{list_all};
 ghost use Rattle.printed_texts.specs.PrintedTexts.{flat, flat_byte, is_break, word, word_byte};
 
@@ -27,11 +27,11 @@ fn flat_byte(byte: u8) -> u8
     if is_break(byte) { b' ' } else { byte }
 }
 
-/// Whether each byte of a text prints in a word as it is.
+// Each byte is above all that print in a word as another one.
 fn stays_in_word(text: &[u8]) -> bool
-    ensures { result ≡ list_all (λ b. word_byte b == b) text.now }
+    ensures { result ≡ list_all (λ b. nat_lt 32 b) text.now }
 {
-    text.iter().all(|byte| word_byte(*byte) == *byte)
+    text.iter().all(|byte| *byte > b' ')
 }
 
 /// Writes a text in which each space, tab, CR and LF becomes `_` (docs/FORMATS.md, "List text").
