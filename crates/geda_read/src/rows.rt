@@ -108,7 +108,10 @@ impl OpenRows {
         let mut objects = self.objects(alloc)?.into_vec();
         match (objects.pop(), objects.is_empty()) {
             (Some(object), true) => Ok(object),
-            _ => Err(Refusal::Stray),
+            (others, _) => {
+                drop(others);
+                Err(Refusal::Stray)
+            }
         }
     }
 }

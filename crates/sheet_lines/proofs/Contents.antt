@@ -82,6 +82,14 @@ last_line c line h k u = record {
   no_cr = line_added c.content line h.no_cr k;
 }
 
+-- so does a line alone
+pub line_alone : (line : List ℕ) → IsCutLine line → IsUtf8 line → IsContent line
+line_alone line k u = record {
+  text = is_utf8-from_IsUtf8 line u;
+  lines = omega (arith, no_feeds line k.one);
+  no_cr = cut_has_no_cr line k;
+}
+
 -- with another line it is one as before
 pub next_line : (c : ContentData) (line : List ℕ) → IsBegun c → IsCutLine line → IsUtf8 line → c.left ≢ 1 → IsBegun (with_line c line)
 next_line c line h k u others = record {

@@ -57,12 +57,15 @@ impl Content {
     }
 
     /// The content with its last line.
-    pub fn whole(self, line: &str) -> Result<Block, AllocError>
+    pub fn whole(self, alloc: Global, line: &str) -> Result<Block, AllocError>
         requires { IsCutLine line.now }
         ensures content { IfOk result (λ b. b ≡ self.content ++ line.now) }
         ensures range { IfOk result IsContent }
     {
         let Content { mut text, .. } = self;
+        if text.is_empty() {
+            return Ok(Block::new(alloc, line)?);
+        }
         text.push_str(line)?;
         Ok(Block::from_string(text))
     }

@@ -38,7 +38,12 @@ pub enum Progress {
     Whole(Shape),
 }
 
-fn with_text_line(text: Text, content: Content, line: &str) -> Result<Progress, LineFault>
+fn with_text_line(
+    alloc: Global,
+    text: Text,
+    content: Content,
+    line: &str,
+) -> Result<Progress, LineFault>
     requires { IsCutLine line.now }
     ensures added { Adds (add (pending_of (pendings.Text text content)) line.now) result }
     ensures range { IfOk result ProgressIsInRange }
@@ -55,7 +60,7 @@ fn with_text_line(text: Text, content: Content, line: &str) -> Result<Progress, 
             align,
             ..
         } = text;
-        let content = content.whole(line)?;
+        let content = content.whole(alloc, line)?;
         return Ok(Progress::Whole(Shape::Text(Text {
             x,
             y,
@@ -71,13 +76,18 @@ fn with_text_line(text: Text, content: Content, line: &str) -> Result<Progress, 
     Ok(Progress::Still(Pending::Text(text, content.with(line)?)))
 }
 
-fn with_path_line(path: PathLine, content: Content, line: &str) -> Result<Progress, LineFault>
+fn with_path_line(
+    alloc: Global,
+    path: PathLine,
+    content: Content,
+    line: &str,
+) -> Result<Progress, LineFault>
     requires { IsCutLine line.now }
     ensures added { Adds (add (pending_of (pendings.Path path content)) line.now) result }
     ensures range { IfOk result ProgressIsInRange }
 {
     if content.is_at_last() {
-        return Ok(Progress::Whole(path.shape(content.whole(line)?)));
+        return Ok(Progress::Whole(path.shape(content.whole(alloc, line)?)));
     }
     Ok(Progress::Still(Pending::Path(path, content.with(line)?)))
 }
@@ -133,8 +143,8 @@ impl Pending {
     {
         let line = text_of(line).ok_or(LineFault::Refused(ReadKind::NotUtf8))?;
         match self {
-            Pending::Text(text, content) => with_text_line(text, content, line),
-            Pending::Path(path, content) => with_path_line(path, content, line),
+            Pending::Text(text, content) => with_text_line(alloc, text, content, line),
+            Pending::Path(path, content) => with_path_line(alloc, path, content, line),
             Pending::PictureName(picture, embedded) => {
                 with_picture_name(alloc, picture, embedded, line)
             }
