@@ -1,6 +1,3 @@
-mod CutLines
-mod SpelledRows
-mod SpelledObjects
 mod MovedBodies
 mod WritableHistories
 mod OrderlyHistories

@@ -7,10 +7,12 @@ use Rattle.std.specs.Ordering.{eq_by_cmp, nat_cmp}
 use Rattle.std.proofs.lemmas.Bool.{cases_lt}
 use Rattle.std.proofs.lemmas.Cmp.{nat_cmp_total}
 use Rattle.std.proofs.lemmas.List.{take_all, take-append-le, length-append}
+use Rattle.std.proofs.lemmas.List.Elements.{recursion_from_All}
 use Rattle.std.proofs.lemmas.List.Sums.{fold-append}
 use Rattle.geda_grammar.specs.declared.kind.ReadKind.{ReadKind}
 use Rattle.geda_grammar.specs.Writable.{ObjectIsWritable}
 use Rattle.geda_model.specs.Sheets.{ObjectData, SheetData, SymbolData}
+use Rattle.geda_write.proofs.Spelled.{object_spelled, sheet_spelled}
 use Rattle.project_model.specs.Changes.{as_placed, put, put_one, value_at, values_in}
 use Rattle.project_model.specs.Items.{Item}
 use Rattle.project_model.specs.Projects.{ProjectData, empty_project}
@@ -33,7 +35,6 @@ use Rattle.edit_rules.specs.declared.verdict.Flaw.{Flaw}
 use Rattle.edit_rules.proofs.ValueLaws.{object_is_value, sheet_is_value}
 use Rattle.refdes_renum.specs.Renumbering.{items_of, new_refdes, refdeses, open_places, renumbered, renumbered_at, used_after}
 use Rattle.desk_entries.proofs.MovedBodies.{IfMade, moved_kept, turned_kept}
-use Rattle.desk_entries.proofs.SpelledObjects.{object_spelled, sheet_spelled}
 
 -- each object can be written, where its text is not too long
 abbrev pub AreWritable : ProjectData → Type 0
@@ -110,7 +111,7 @@ sheet_writable : (name : List ℕ) (id : ℕ) (text : List ℕ) → IsWritableCh
 sheet_writable name id text = by (sheet_value text) refl
   where
     by : (r : Result SheetData (ReadKind × ℕ)) → sheet_value text ≡ r → IsWritableChange (sheet_change name id r)
-    by (Ok s) e = (tt, each_from name id s.objects (sheet_spelled text s ((sheet_is_value.spelled text s).0 e)))
+    by (Ok s) e = (tt, each_from name id s.objects (recursion_from_All ObjectIsWritable s.objects (sheet_spelled text s ((sheet_is_value.spelled text s).0 e)).1))
     by (Err fault) e = tt
 
 symbol_writable : (name : List ℕ) (r : Result SymbolData (ReadKind × ℕ)) → IsWritableChange (symbol_change name r)

@@ -2,6 +2,6 @@ mod Outputs
 mod Contents
 mod Canonical
 mod Heads
-mod CutLines
-mod SpelledRows
-mod Spelled
+pub mod CutLines
+pub mod SpelledRows
+pub mod Spelled
