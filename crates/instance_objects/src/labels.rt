@@ -23,11 +23,16 @@ pub fn component_above(instance: &Instance) -> Option<u32>
     instance.route.as_slice().last().copied()
 }
 
-fn add_label(labels: &mut HashSet<String>, label: Option<Block>) -> Result<(), AllocError>
+fn add_label(
+    alloc: Global,
+    labels: &mut HashSet<String>,
+    label: Option<Block>,
+) -> Result<(), AllocError>
     ensures { OnOk result (AddsLabel label labels.old labels.new) }
 {
     if let Some(label) = label {
-        labels.insert(label.into_string())?;
+        let text = String::from_str(alloc, label.as_str())?;
+        labels.insert(text)?;
     }
     Ok(())
 }
@@ -37,7 +42,7 @@ fn labels_on(alloc: Global, pins: Vec<PlacedPin>) -> Result<HashSet<String>, All
 {
     let mut labels = HashSet::new(alloc);
     for pin in pins {
-        add_label(&mut labels, pin.label)?;
+        add_label(alloc, &mut labels, pin.label)?;
     }
     Ok(labels)
 }

@@ -14,6 +14,7 @@ use std::collections::HashMap;
 
 /// Pairs a place with the first place of the name, or makes it the first.
 fn tie_name(
+    alloc: Global,
     first: &mut HashMap<String, usize>,
     pairs: &mut Vec<(usize, usize)>,
     name: &Block,
@@ -27,8 +28,8 @@ fn tie_name(
     match first.get(name.as_str()) {
         Some(found) => pairs.push((*found, place))?,
         None => {
-            let key = name.clone()?;
-            first.insert(key.into_string(), place)?;
+            let key = String::from_str(alloc, name.as_str())?;
+            first.insert(key, place)?;
         }
     }
     Ok(())
@@ -36,6 +37,7 @@ fn tie_name(
 
 /// Ties names, each with the place of its conductor.
 fn tie_names(
+    alloc: Global,
     first: &mut HashMap<String, usize>,
     pairs: &mut Vec<(usize, usize)>,
     names: &[(Block, usize)],
@@ -45,7 +47,7 @@ fn tie_names(
         → TiesKeys (get_by_text first.new) pairs.new.items (keyed ++ names.now)) }
 {
     for row in names {
-        tie_name(first, pairs, &row.0, row.1)?;
+        tie_name(alloc, first, pairs, &row.0, row.1)?;
     }
     Ok(())
 }
@@ -58,7 +60,7 @@ pub(crate) fn name_pairs(alloc: Global, flat: &FlatRows) -> Result<Vec<(usize, u
 {
     let mut first = HashMap::new(alloc);
     let mut pairs = Vec::new(alloc);
-    tie_names(&mut first, &mut pairs, flat.global_names())?;
-    tie_names(&mut first, &mut pairs, flat.drawn_names())?;
+    tie_names(alloc, &mut first, &mut pairs, flat.global_names())?;
+    tie_names(alloc, &mut first, &mut pairs, flat.drawn_names())?;
     Ok(pairs)
 }
