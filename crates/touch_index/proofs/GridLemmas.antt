@@ -1,5 +1,5 @@
 -- What touches has spans in the grid that meet.
-use Rattle.std.proofs.Common.{arith, ◌≡◌, ◌⊎◌, inl, inr, refl, ℤ, pos, negsuc, min, max, ◌-ℤ◌, w32, SFits, ◌≤◌, List, Contains, OnOk, Ok, Err, Result, sym, ap, subst, ◌∙◌}
+use Rattle.std.proofs.Common.{arith, ◌≡◌, ◌⊎◌, inl, inr, refl, ℤ, pos, negsuc, min, max, ◌-ℤ◌, w32, SFits, ◌≤◌, List, OnOk, Ok, Err, Result, sym, ap, subst, ◌∙◌}
 use Rattle.std.specs.Prelude.{◌<ℤ◌, unsigned_abs}
 use Rattle.std.proofs.lemmas.Bool.{cases_eq}
 use Rattle.std.proofs.lemmas.Int.{ints}
@@ -11,8 +11,9 @@ use Rattle.geda_geom.specs.Touch.{Touch, IsBetween, IsEnd, SomeEnd, IsInside}
 use Rattle.touch_index.specs.declared.grid.Grid.{Grid}
 use Rattle.touch_index.specs.declared.grid.LinePoint.{LinePoint}
 use Rattle.touch_index.specs.declared.spans.Span.{Span}
-use Rattle.touch_index.specs.steps.Spans.{DoMeet, Holds, HasAllMeeting}
-use Rattle.touch_index.specs.steps.Grid.{IsThrough, lifted, row_point, column_point, between, Along, Through, ends_of, InGrid, Covers, Meets}
+use Rattle.touch_index.specs.declared.spans.SpanSet.{SpanSet}
+use Rattle.touch_index.specs.steps.Spans.{DoMeet, Holds}
+use Rattle.touch_index.specs.steps.Grid.{IsThrough, lifted, row_point, column_point, between, AddsMetAlong, AddsMetIn, Along, Through, SomeAlong, ends_of, InGrid, Covers}
 
 -- coordinates stay in order
 pub lifted_low : (x y : ℤ) → x <ℤ y → lifted x ≤ lifted y
@@ -148,12 +149,6 @@ module _ (R C S T : Span → Type 0) (Q : Type 0) (in_rows : (s t : Span) → R 
     ]
   ]
 
--- the key of what touches is in the list
-pub touching_is_near : (grid : Grid) (k : Key) (keys : List Key) (own c : Conductor) → Meets grid own keys → Covers grid c k → Touch own c → Contains keys k
-touching_is_near grid k keys own c meets covers touch =
-    touching_meets (HasAllMeeting grid.rows keys) (HasAllMeeting grid.columns keys) (λ s. Holds grid.rows s k) (λ s. Holds grid.columns s k) (Contains keys k)
-    (λ s t all holds meet. all t k holds meet) (λ s t all holds meet. all t k holds meet) own c meets covers touch
-
 -- what is so of a success is so of what follows from it
 pub on_ok : {A E P Q R : Type 0} (r : Result A E) → (P → Q → R) → OnOk r P → OnOk r Q → OnOk r R
 on_ok (Ok x) f p q = f p q
@@ -193,3 +188,22 @@ in_grid_by R C c ends e rows columns = record {
   rows = subst (λ (p : Point × Point). Along R (row_point p.0) (row_point p.1)) e rows;
   columns = subst (λ (p : Point × Point). Along C (column_point p.0) (column_point p.1)) e columns;
 }
+
+-- keys that come along one line, or two
+pub met_at : (spans : SpanSet) (a b x y : LinePoint) (own : Key) (old new : List Key) → a ≡ x → b ≡ y → AddsMetAlong spans a b own old new → AddsMetAlong spans x y own old new
+met_at spans a b x y own old new e f h =
+    subst (λ (p : LinePoint). AddsMetAlong spans p y own old new) e (subst (λ (q : LinePoint). AddsMetAlong spans a q own old new) f h)
+
+pub met_in : (grid : Grid) (c : Conductor) (own : Key) (old mid new : List Key) (ends : Point × Point) → ends ≡ ends_of c
+    → AddsMetAlong grid.rows (row_point ends.0) (row_point ends.1) own old mid → AddsMetAlong grid.columns (column_point ends.0) (column_point ends.1) own mid new → AddsMetIn grid c own old new
+met_in grid c own old mid new ends e rows columns k h = elim (subst (λ (p : Point × Point). AddsMetAlong grid.columns (column_point p.0) (column_point p.1) own mid new) e columns k h) [
+  | inl m ↦ elim (subst (λ (p : Point × Point). AddsMetAlong grid.rows (row_point p.0) (row_point p.1) own old mid) e rows k m) [ inl o ↦ inl o | inr is ↦ inr (inl is) ]
+  | inr is ↦ inr (inr is)
+]
+
+-- what is so of one of the spans, and of each of them by another claim
+pub some_both : (P H : Span → Type 0) (Q : Type 0) (a b : LinePoint) → ((s : Span) → P s → H s → Q) → SomeAlong P a b → Along H a b → Q
+some_both P H Q a b to some all = elim some [
+  | inl along ↦ to (between a b) along.1 (all.along along.0)
+  | inr points ↦ elim points.1 [ inl p ↦ to (between a a) p (all.first points.0) | inr p ↦ to (between b b) p (all.second points.0) ]
+]

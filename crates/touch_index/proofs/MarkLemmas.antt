@@ -1,5 +1,5 @@
 -- The order of marks, and the marks that lie between two.
-use Rattle.std.proofs.Common.{arith, ◌≡◌, ℕ, ◌≤◌, ◌<◌, ◌+◌, ◌-◌, Bool, true, false, List, length, slice_index_or, map, cond, ◌++◌, ◌≢◌, ◌⊎◌, inl, inr, ◌∙◌, sym, subst, Contains, IsTrue, ap, refl}
+use Rattle.std.proofs.Common.{arith, ◌≡◌, ℕ, ◌≤◌, ◌-◌, Bool, true, false, cond, ◌≢◌, ◌⊎◌, inl, inr, ◌∙◌, sym, IsTrue, ap, refl}
 use Rattle.std.proofs.lemmas.Grind.{common_steps}
 use Rattle.std.specs.BTreeSet.{BTreeSet, contains, Updates}
 use Rattle.std.specs.BTreeMap.{is_at}
@@ -9,18 +9,14 @@ use Rattle.std.specs.Cmp.{IsTotalOrder, eq_by_cmp_equiv}
 use Rattle.std.specs.Ordering.{nat_cmp, ordering_then}
 use Rattle.std.proofs.lemmas.Cmp.{nat_cmp_total, then_total, on_total}
 use Rattle.std.proofs.lemmas.Map.Lookups.{CmpEqualImpliesEq, exact_unsigned, exact_pairs}
-use Rattle.std.proofs.lemmas.Map.Views.{range_contains-from_IsInRange, btree_set_contains_iff, tells_apart}
+use Rattle.std.proofs.lemmas.Map.Views.{range_contains-from_IsInRange, tells_apart}
 use Rattle.geda_geom.specs.declared.conductor.Key.{Key}
 use Rattle.touch_index.specs.declared.spans.Mark.{Mark}
 use Rattle.touch_index.specs.declared.spans.Span.{Span}
 use Rattle.geda_geom.specs.Keys.{by_key}
 use Rattle.geda_geom.proofs.KeyLemmas.{by_key_total, exact_keys}
 use Rattle.touch_index.specs.steps.Marks.{by_mark}
-use Rattle.touch_index.specs.declared.spans.SpanSet.{SpanSet}
-use Rattle.touch_index.specs.steps.Spans.{HasMeeting, HasAllMeeting, HasFirstMeeting, IsKept, first_mark, after_mark, mark_at, mark_of, marks_near, span_of, width_of}
-use Rattle.touch_index.proofs.ListLemmas.{earlier_or_here, filter_has, map_has}
-use Rattle.std.proofs.lemmas.List.{get_or_default}
-use Rattle.std.proofs.lemmas.List.Elements.{Contains-append_right}
+use Rattle.touch_index.specs.steps.Spans.{after_mark, mark_at, mark_of, span_of}
 
 pub exact_marks : CmpEqualImpliesEq by_mark
 exact_marks a b h =
@@ -57,16 +53,6 @@ span_of-mark_of s k fits =
     ap (λ (to : ℕ). record { line = s.line; from = s.from; to = to }) e
 
 -- a mark that is near stands among those of the range
-pub near_is_met : (marks : BTreeSet Mark) (span : Span) (width : ℕ) (old new : List Key) → new ≡ old ++ map (λ m. m.key) (marks_near marks span width)
-    → HasMeeting marks span width new
-near_is_met marks span width old new e s k wide long meet marked =
-    let m = mark_of s k in
-    let stands = (btree_set_contains_iff by_mark_total exact_marks marks m).0 marked in
-    let low : span.from - width ≤ s.from = omega (arith, long, meet.before) in
-    let near = filter_has (range_contains by_mark (Included (first_mark span width)) (Excluded (after_mark span width))) marks.keys m stands
-    (is_near span width (span.from - width) m meet.together (sym wide) low meet.after) in
-    subst (λ (ks : List Key). Contains ks k) (sym e) (Contains-append_right old (map (λ (n : Mark). n.key) (marks_near marks span width)) k (map_has (λ (n : Mark). n.key) (marks_near marks span width) m near))
-
 -- a mark more leaves the others
 pub more_marked : (old new : BTreeSet Mark) (m q : Mark) → Updates by_mark old new m true → IsTrue (contains by_mark old q) → IsTrue (contains by_mark new q)
 more_marked old new m q updates h = updates.0 q ∙ either (is_at (by_mark m) q) (contains by_mark old q) h
@@ -104,18 +90,3 @@ gone_marked old new m q updates h = go (is_at (by_mark m) q) refl (sym (updates.
     go : (b : Bool) → is_at (by_mark m) q ≡ b → cond b false (contains by_mark old q) ≡ true → IsTrue (contains by_mark old q) × (q ≢ m)
     go true e p = absurd (cc)
     go false e p = (p, λ same. let t = sym (ties m q (sym same)) ∙ e in absurd (cc))
-
--- one width more
-pub next_width : (spans : SpanSet) (span : Span) (count : ℕ) (old new : List Key) (width : ℕ) → (d : ℕ) → slice_index_or spans.widths.items count d ≡ width → count < length spans.widths.items
-    → HasFirstMeeting spans span count old → IsKept old new → HasMeeting spans.marks span width new → HasFirstMeeting spans span (count + 1) new
-next_width spans span count old new width d at inside first kept found i w lt here = elim (earlier_or_here i count lt) [
-  | inl less ↦ λ s k wide long meet marked. kept k (first i w less here s k wide long meet marked)
-  | inr same ↦
-      let e : width ≡ w = sym at ∙ get_or_default spans.widths.items count d w inside ∙ ap (λ (j : ℕ). slice_index_or spans.widths.items j w) (sym same) ∙ here in
-      subst (λ (x : ℕ). HasMeeting spans.marks span x new) e found
-]
-
--- all widths
-pub all_widths : (spans : SpanSet) (span : Span) (count : ℕ) (keys : List Key) → length spans.widths.items ≤ count → HasFirstMeeting spans span count keys → HasAllMeeting spans keys span
-all_widths spans span count keys all first s k holds meet =
-    first holds.known.0 (width_of s) (let lt = holds.known.1 in omega (arith, lt, all)) holds.known.2 s k refl holds.long meet holds.marked

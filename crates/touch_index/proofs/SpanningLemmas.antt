@@ -1,8 +1,8 @@
 -- The spans that stand for all that meet one.
-use Rattle.std.proofs.Common.{arith, ◌≡◌, ◌≢◌, ℕ, ◌<◌, ◌≤◌, ◌+◌, ◌-◌, ◌⊎◌, inl, inr, Bool, List, [], ◌∷◌, ◌++◌, length, slice_index_or, Contains, refl, sym, ap, subst, ◌∙◌}
+use Rattle.std.proofs.Common.{arith, ◌≡◌, ◌≢◌, ℕ, ◌<◌, ◌≤◌, ◌+◌, ◌-◌, ◌⊎◌, inl, inr, Bool, true, false, List, [], ◌∷◌, ◌++◌, length, slice_index_or, Contains, refl, sym, ap, subst, ◌∙◌}
 use Rattle.std.proofs.lemmas.Grind.{common_steps}
 use Rattle.std.proofs.lemmas.List.{get_or_default}
-use Rattle.std.proofs.lemmas.List.Elements.{Contains-append_left, Contains-push}
+use Rattle.std.proofs.lemmas.List.Elements.{Contains-append_left, Contains-push, Contains-push_cases}
 use Rattle.std.proofs.lemmas.List.Kept.{IsStrictlySortedBy-filter}
 use Rattle.std.proofs.lemmas.Map.Keys.{sorted_tail}
 use Rattle.std.proofs.lemmas.Map.Views.{All-after_first, IsInRange-from_range_contains, btree_set_contains_iff}
@@ -17,7 +17,7 @@ use Rattle.touch_index.specs.declared.spans.Span.{Span}
 use Rattle.touch_index.specs.declared.spans.SpanSet.{SpanSet}
 use Rattle.touch_index.specs.steps.Marks.{by_mark}
 use Rattle.touch_index.specs.steps.Spans.{IsKept, after_mark, mark_at, span_of}
-use Rattle.touch_index.specs.steps.Spanning.{AreProper, HasAllSpanning, HasFirstSpanning, HasSpanning, HasSpanningTo, IsFirst, IsLooking, IsMeeting, IsNext, IsNoLater, IsSpanned, marks_from}
+use Rattle.touch_index.specs.steps.Spanning.{AddsMet, AreProper, HasAllFound, HasFirstFound, HasFound, HasSpanningTo, IsFirst, IsFound, IsLooking, IsMeeting, IsNext, IsNoLater, IsPushing, IsSpanned, IsWanted, marks_from}
 use Rattle.touch_index.proofs.ListLemmas.{earlier_or_here, filter_has, filter_kept, filter_passed, head_is_in, in_cases, none_is_in, tail_is_in}
 use Rattle.touch_index.proofs.MarkLemmas.{by_mark_total, exact_marks, is_near}
 
@@ -54,8 +54,29 @@ spanned_later marks span own old new kept m is = record {
   meets = is.meets;
 }
 
-pub all_spanned_later : (spans : SpanSet) (own : Key) (old new : List Key) → IsKept old new → (span : Span) → HasAllSpanning spans own old span → HasAllSpanning spans own new span
-all_spanned_later spans own old new kept span all m known is = spanned_later spans.marks span own old new kept m (all m known is)
+pub found_later : (all : Bool) (marks : BTreeSet Mark) (span : Span) (own : Key) (old new : List Key) → IsKept old new → (m : Mark) → IsFound all marks span own old m → IsFound all marks span own new m
+found_later true marks span own old new kept m is = kept m.key is
+found_later false marks span own old new kept m is = spanned_later marks span own old new kept m is
+
+pub all_found_later : (all : Bool) (spans : SpanSet) (own : Key) (old new : List Key) → IsKept old new → (span : Span) → HasAllFound all spans own old span → HasAllFound all spans own new span
+all_found_later all spans own old new kept span found m known is = found_later all spans.marks span own old new kept m (found m known is)
+
+-- what was added before and what is added later
+pub adds_met : (marks : BTreeSet Mark) (span : Span) (own : Key) (old mid new : List Key) → AddsMet marks span own old mid → AddsMet marks span own mid new → AddsMet marks span own old new
+adds_met marks span own old mid new first second k c = elim (second k c) [ inl b ↦ first k b | inr is ↦ inr is ]
+
+pub adds_one_met : (marks : BTreeSet Mark) (span : Span) (width from : ℕ) (own : Key) (old keys : List Key) (m : Mark) → IsNext marks span width from own m → span.from ≤ (span_of m).to
+    → AddsMet marks span own old keys → AddsMet marks span own old (keys ++ m.key ∷ [])
+adds_one_met marks span width from own old keys m next reaches adds k c = elim (Contains-push_cases keys m.key k c) [
+  | inl before ↦ adds k before
+  | inr e ↦ inr (record {
+    mark = m;
+    marked = next.marked;
+    is = e;
+    apart = next.apart;
+    near = record { together = sym next.line; before = reaches; after = next.soon };
+  })
+]
 
 module _ (marks : BTreeSet Mark) (span : Span) (width from : ℕ) (own : Key) where
   pub looking_begins : (left : List Mark) → IsStrictlySortedBy by_mark marks.keys → left ≡ marks_from marks span width from → IsLooking marks span width from own left
@@ -108,6 +129,42 @@ module _ (marks : BTreeSet Mark) (span : Span) (width from : ℕ) (own : Key) wh
   pub looking_ends : IsLooking marks span width from own [] → (m : Mark) → IsNext marks span width from own m → ⊥
   looking_ends looking m next = none_is_in m (looking.all m next)
 
+-- all keys of one width
+module _ (marks : BTreeSet Mark) (span : Span) (width : ℕ) (own : Key) (old : List Key) where
+  pub pushing_begins : (left : List Mark) → IsLooking marks span width (span.from - width) own left → IsPushing marks span width own old old left
+  pushing_begins left looking = record {
+    kept = λ k c. c;
+    only = λ k c. inl c;
+    inside = looking.inside;
+    all = λ m next wanted. inr (looking.all m next);
+  }
+
+  module _ (keys : List Key) (m : Mark) (rest : List Mark) (pushing : IsPushing marks span width own old keys (m ∷ rest)) where
+    pub pushing_more : IsWanted span own m → IsPushing marks span width own old (keys ++ m.key ∷ []) rest
+    pushing_more wanted = record {
+      kept = λ k c. Contains-append_left keys (m.key ∷ []) k (pushing.kept k c);
+      only = adds_one_met marks span width (span.from - width) own old keys m (pushing.inside m (head_is_in m rest) wanted.apart) wanted.late pushing.only;
+      inside = λ n has. pushing.inside n (tail_is_in m rest n has);
+      all = λ n next late. elim (pushing.all n next late) [
+        | inl c ↦ inl (Contains-append_left keys (m.key ∷ []) n.key c)
+        | inr h ↦ elim (in_cases m rest n h) [
+          | inl e ↦ inl (subst (λ (x : Mark). Contains (keys ++ m.key ∷ []) x.key) e (Contains-push keys m.key))
+          | inr r ↦ inr r
+        ]
+      ];
+    }
+
+    pub pushing_past : (IsWanted span own m → ⊥) → IsPushing marks span width own old keys rest
+    pushing_past none = record {
+      kept = pushing.kept;
+      only = pushing.only;
+      inside = λ n has. pushing.inside n (tail_is_in m rest n has);
+      all = λ n next late. elim (pushing.all n next late) [
+        | inl c ↦ inl c
+        | inr h ↦ elim (in_cases m rest n h) [ inl e ↦ absurd (none (subst (IsWanted span own) (sym e) late)) | inr r ↦ inr r ]
+      ];
+    }
+
 module _ (marks : BTreeSet Mark) (span : Span) (width : ℕ) (own : Key) where
   to_next : (from : ℕ) (m : Mark) → IsMeeting marks span own m → m.width ≡ width → from ≤ m.from → IsNext marks span width from own m
   to_next from m is wide late = record {
@@ -119,11 +176,20 @@ module _ (marks : BTreeSet Mark) (span : Span) (width : ℕ) (own : Key) where
     apart = is.apart;
   }
 
+  pub pushing_ends : (old keys : List Key) → IsPushing marks span width own old keys [] → HasFound true marks span width own keys
+  pushing_ends old keys pushing m is wide =
+      let long = is.long in
+      let meets = is.meets.before in
+      elim (pushing.all m (to_next (span.from - width) m is wide (omega (arith, long, meets, wide))) (record { apart = is.apart; late = is.meets.before })) [
+        | inl c ↦ c
+        | inr h ↦ none_is_in m h
+      ]
+
   -- what begins more than the width before the span does not meet it
   pub spanning_begins : (keys : List Key) → HasSpanningTo marks span width own keys (span.from - width)
   spanning_begins keys m is wide before = absurd (let long = is.long in let meets = is.meets.before in omega (arith, long, meets, wide, before))
 
-  pub spanning_ends : (keys : List Key) (from : ℕ) → ((m : Mark) → IsNext marks span width from own m → ⊥) → HasSpanningTo marks span width own keys from → HasSpanning marks span width own keys
+  pub spanning_ends : (keys : List Key) (from : ℕ) → ((m : Mark) → IsNext marks span width from own m → ⊥) → HasSpanningTo marks span width own keys from → HasFound false marks span width own keys
   spanning_ends keys from none all m is wide = elim (before_or_from m.from from) [
     | inl before ↦ all m is wide before
     | inr late ↦ absurd (none m (to_next from m is wide late))
@@ -170,16 +236,16 @@ module _ (marks : BTreeSet Mark) (span : Span) (width : ℕ) (own : Key) where
         more = spanned_later marks span own keys (keys ++ first.key ∷ []) (λ k c. Contains-append_left keys (first.key ∷ []) k c) m
 
 -- all widths
-pub all_spanning : (spans : SpanSet) (span : Span) (own : Key) (count : ℕ) (keys : List Key) → length spans.widths.items ≤ count → HasFirstSpanning spans span own count keys → HasAllSpanning spans own keys span
-all_spanning spans span own count keys all first m known is =
-    first known.0 m.width (let lt = known.1 in omega (arith, lt, all)) known.2 m is refl
+pub all_found : (all : Bool) (spans : SpanSet) (span : Span) (own : Key) (count : ℕ) (keys : List Key) → length spans.widths.items ≤ count → HasFirstFound all spans span own count keys → HasAllFound all spans own keys span
+all_found all spans span own count keys last first m known is =
+    first known.0 m.width (let lt = known.1 in omega (arith, lt, last)) known.2 m is refl
 
 -- one width more
-pub next_spanning : (spans : SpanSet) (span : Span) (own : Key) (count : ℕ) (old new : List Key) (width : ℕ) (d : ℕ) → slice_index_or spans.widths.items count d ≡ width → count < length spans.widths.items
-    → HasFirstSpanning spans span own count old → IsKept old new → HasSpanning spans.marks span width own new → HasFirstSpanning spans span own (count + 1) new
-next_spanning spans span own count old new width d at inside first kept found i w lt here = elim (earlier_or_here i count lt) [
-  | inl less ↦ λ m is wide. spanned_later spans.marks span own old new kept m (first i w less here m is wide)
+pub next_found : (all : Bool) (spans : SpanSet) (span : Span) (own : Key) (count : ℕ) (old new : List Key) (width : ℕ) (d : ℕ) → slice_index_or spans.widths.items count d ≡ width → count < length spans.widths.items
+    → HasFirstFound all spans span own count old → IsKept old new → HasFound all spans.marks span width own new → HasFirstFound all spans span own (count + 1) new
+next_found all spans span own count old new width d at inside first kept found i w lt here = elim (earlier_or_here i count lt) [
+  | inl less ↦ λ m is wide. found_later all spans.marks span own old new kept m (first i w less here m is wide)
   | inr same ↦
       let e : width ≡ w = sym at ∙ get_or_default spans.widths.items count d w inside ∙ ap (λ (j : ℕ). slice_index_or spans.widths.items j w) (sym same) ∙ here in
-      subst (λ (x : ℕ). HasSpanning spans.marks span x own new) e found
+      subst (λ (x : ℕ). HasFound all spans.marks span x own new) e found
 ]

@@ -1,15 +1,14 @@
 // A grid of rows and columns, in which each conductor is entered where it runs along a line, and
 // else at its ends.
-ghost use Rattle.std.specs.Prelude.{◌≡◌, Contains, OnOk, IfOk};
+ghost use Rattle.std.specs.Prelude.{◌≡◌, [], OnOk, IfOk};
 ghost use Rattle.geda_geom.specs.declared.conductor.Key.{Key};
 ghost use Rattle.geda_geom.specs.declared.conductor.Conductor.{Conductor};
-ghost use Rattle.geda_geom.specs.Touch.{Touch};
-ghost use Rattle.touch_index.specs.steps.Spans.{Holds, HasAllMeeting, IsKept, KeepsSpans, KeepsOthers};
-ghost use Rattle.touch_index.specs.steps.Spanning.{AreProper, HasAllSpanning};
-ghost use Rattle.touch_index.specs.steps.Grid.{lifted, row_point, column_point, between, ends_of, Along, Covers, Meets, Spans};
+ghost use Rattle.touch_index.specs.steps.Spans.{Holds, IsKept, KeepsSpans, KeepsOthers};
+ghost use Rattle.touch_index.specs.steps.Spanning.{AreProper, HasAllFound};
+ghost use Rattle.touch_index.specs.steps.Grid.{lifted, row_point, column_point, between, ends_of, AddsMetAlong, AddsMetIn, Along, Covers, Finds};
 ghost use Rattle.touch_index.specs.steps.Drawn.{AddsAlong, AddsMarks, HasNoMarks, IsHeld, IsPlace, LosesAlong, LosesMarks};
 
-use crate::spans::{Span, SpanSet};
+use crate::spans::{Span, SpanSet, Wanted};
 use geda_geom::{Conductor, Key, Point};
 use std::alloc::{AllocError, Global};
 
@@ -94,34 +93,21 @@ fn push_along(
     spans: &SpanSet,
     a: LinePoint,
     b: LinePoint,
-    keys: &mut Vec<Key>,
-) -> Result<(), AllocError>
-    ensures kept { OnOk result (IsKept keys.old.items keys.new.items) }
-    ensures found { OnOk result (Along (HasAllMeeting spans.now keys.new.items) a b) }
-{
-    if a.line == b.line {
-        return spans.push_meeting(between(a, b), keys);
-    }
-    spans.push_meeting(between(a, a), keys)?;
-    spans.push_meeting(between(b, b), keys)
-}
-
-fn push_along_spanning(
-    spans: &SpanSet,
-    a: LinePoint,
-    b: LinePoint,
-    own: Key,
+    wanted: Wanted,
     keys: &mut Vec<Key>,
 ) -> Result<(), AllocError>
     requires proper { AreProper spans.now.marks }
     ensures kept { OnOk result (IsKept keys.old.items keys.new.items) }
-    ensures found { OnOk result (Along (HasAllSpanning spans.now own keys.new.items) a b) }
+    ensures found { OnOk result
+        (Along (HasAllFound wanted.all spans.now wanted.own keys.new.items) a b) }
+    ensures only { OnOk result
+        (AddsMetAlong spans.now a b wanted.own keys.old.items keys.new.items) }
 {
     if a.line == b.line {
-        return spans.push_spanning(between(a, b), own, keys);
+        return spans.push_meeting(between(a, b), wanted, keys);
     }
-    spans.push_spanning(between(a, a), own, keys)?;
-    spans.push_spanning(between(b, b), own, keys)
+    spans.push_meeting(between(a, a), wanted, keys)?;
+    spans.push_meeting(between(b, b), wanted, keys)
 }
 
 /// The two ends of a segment; the end of a pin twice.
@@ -175,55 +161,48 @@ impl Grid {
         leave_along(&mut self.columns, column_point(a), column_point(b), key);
     }
 
-    fn push_near(&self, conductor: &Conductor, keys: &mut Vec<Key>) -> Result<(), AllocError>
-        ensures { OnOk result (Meets self.now conductor.now keys.new.items) }
-    {
-        let (a, b) = ends_of(conductor);
-        push_along(&self.rows, row_point(a), row_point(b), keys)?;
-        push_along(&self.columns, column_point(a), column_point(b), keys)
-    }
-
-    /// The keys of the conductors that touch a conductor, and of some that lie near it. A key may
-    /// come more than once.
-    pub fn near(&self, alloc: Global, conductor: &Conductor) -> Result<Vec<Key>, AllocError>
-        ensures { IfOk result (λ keys. (c : Conductor) (k : Key)
-            → Covers self.now c k → Touch conductor.now c → Contains keys.items k) }
-    {
-        let mut keys = Vec::new(alloc);
-        self.push_near(conductor, &mut keys)?;
-        Ok(keys)
-    }
-
-    fn push_spanning(
+    fn push_near(
         &self,
         conductor: &Conductor,
-        own: Key,
+        wanted: Wanted,
         keys: &mut Vec<Key>,
     ) -> Result<(), AllocError>
         requires rows { AreProper self.now.rows.marks }
         requires columns { AreProper self.now.columns.marks }
-        ensures { OnOk result (Spans self.now conductor.now own keys.new.items) }
+        ensures found { OnOk result
+            (Finds wanted.all self.now conductor.now wanted.own keys.new.items) }
+        ensures only { OnOk result
+            (AddsMetIn self.now conductor.now wanted.own keys.old.items keys.new.items) }
     {
         let (a, b) = ends_of(conductor);
-        push_along_spanning(&self.rows, row_point(a), row_point(b), own, keys)?;
-        push_along_spanning(&self.columns, column_point(a), column_point(b), own, keys)
+        push_along(&self.rows, row_point(a), row_point(b), wanted, keys)?;
+        push_along(
+            &self.columns,
+            column_point(a),
+            column_point(b),
+            wanted,
+            keys,
+        )
     }
 
-    /// The keys of some conductors near one that stands in the grid under its own key: what
-    /// touches it is among them, or touches one of them that touches it. A key may come more than
-    /// once.
-    pub fn spanning(
+    /// The wanted keys of the conductors that touch one which stands in the grid under its own key:
+    /// what touches it is among them, or touches one of them where not all are wanted. A key may
+    /// come more than once.
+    pub fn near(
         &self,
         alloc: Global,
         conductor: &Conductor,
-        own: Key,
+        wanted: Wanted,
     ) -> Result<Vec<Key>, AllocError>
         requires rows { AreProper self.now.rows.marks }
         requires columns { AreProper self.now.columns.marks }
-        ensures { IfOk result (λ keys. Spans self.now conductor.now own keys.items) }
+        ensures found { IfOk result
+            (λ keys. Finds wanted.all self.now conductor.now wanted.own keys.items) }
+        ensures only { IfOk result
+            (λ keys. AddsMetIn self.now conductor.now wanted.own [] keys.items) }
     {
         let mut keys = Vec::new(alloc);
-        self.push_spanning(conductor, own, &mut keys)?;
+        self.push_near(conductor, wanted, &mut keys)?;
         Ok(keys)
     }
 }

@@ -2,8 +2,8 @@
 //! at all others.
 //!
 //! It is for conductors that come and go. Ends and straight wires are spans on rows and columns;
-//! two that touch have spans that meet, and what meets is sifted by `touches`. It counts how often
-//! it was asked, takes each conductor as an opaque one, and gives none back.
+//! two conductors touch exactly where spans of theirs meet. It counts how often it was asked, takes
+//! each conductor as an opaque one, and gives none back.
 //!
 //! Coordinates are in mils (1/1000 inch). Rule: docs/RULES.md, "Touching". Definitions:
 //! specs/Index.antt.

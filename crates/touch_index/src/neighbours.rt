@@ -1,50 +1,72 @@
 // The keys whose conductors touch a given one, and some of them that stand for all.
-ghost use Rattle.std.specs.Prelude.{◌≡◌, ◌↔◌, Contains, IsTrue, IfOk};
+ghost use Rattle.std.specs.Prelude.{◌↔◌, Contains, IsTrue, IfOk};
 ghost use Rattle.std.specs.List.Sorted.{IsStrictlySortedBy};
 ghost use Rattle.geda_geom.specs.declared.conductor.Key.{Key};
 ghost use Rattle.geda_geom.specs.Keys.{by_key};
-ghost use Rattle.touch_index.specs.Index.{IsNeighbour, IsSpanning};
+ghost use Rattle.touch_index.specs.Index.{DoTouch, IsNeighbour, IsSpanning};
 ghost use Rattle.touch_index.specs.steps.Drawn.{AreDrawn};
-ghost use Rattle.touch_index.specs.steps.Sifting.{IsOther, IsIndexed, conductor_at};
+ghost use Rattle.touch_index.specs.steps.Sifting.{IsBesideOne, IsIndexed, StandForAll, conductor_at};
 
 use crate::grid::Grid;
+use crate::spans::Wanted;
 use geda_geom::{Conductor, Key, touches};
 use std::alloc::{AllocError, Global};
 use std::collections::HashMap;
 
-fn is_neighbour(conductors: &HashMap<Key, Conductor>, own: &Conductor, key: Key, other: Key) -> bool
-    ensures { IsTrue result ↔ IsOther conductors.now.entries own.now key other }
+/// Whether two keys are there and their conductors touch.
+fn do_touch(conductors: &HashMap<Key, Conductor>, first: Key, second: Key) -> bool
+    ensures { IsTrue result ↔ DoTouch (conductor_at conductors.now.entries first)
+        (conductor_at conductors.now.entries second) }
 {
-    if other == key {
+    let Some(one) = conductors.get(&first) else {
         return false;
-    }
-    match conductors.get(&other) {
-        Some(conductor) => touches(own, conductor),
+    };
+    match conductors.get(&second) {
+        Some(other) => touches(one, other),
         None => false,
     }
 }
 
-/// Those of the keys whose conductors touch the given one, without its own key.
-fn others_touching(
-    alloc: Global,
-    conductors: &HashMap<Key, Conductor>,
-    own: &Conductor,
-    key: Key,
-    near: &[Key],
-) -> Result<Vec<Key>, AllocError>
-    ensures sound { IfOk result (λ found. (q : Key)
-        → Contains found.items q → IsOther conductors.now.entries own.now key q) }
-    ensures full { IfOk result (λ found. (q : Key)
-        → Contains near.now q → IsOther conductors.now.entries own.now key q
-        → Contains found.items q) }
+/// Whether a key touches one of a few.
+fn touches_one(conductors: &HashMap<Key, Conductor>, few: &[Key], key: Key) -> bool
+    ensures { IsTrue result → IsBesideOne (conductor_at conductors.now.entries) few.now key }
 {
-    let mut found = Vec::new(alloc);
-    for other in near {
-        if is_neighbour(conductors, own, key, *other) {
-            found.push(*other)?;
+    for other in few {
+        if do_touch(conductors, *other, key) {
+            return true;
         }
     }
-    Ok(found)
+    false
+}
+
+/// No more than the first eight of some keys.
+fn first_few(keys: &[Key]) -> &[Key]
+    ensures { (q : Key) → Contains result.now q → Contains keys.now q }
+{
+    if keys.len() > 8 {
+        return &keys[..8];
+    }
+    keys
+}
+
+/// Those of the keys that touch none of the first few of those before them.
+///
+/// It looks at few alone, so that it takes time by the number of the keys.
+fn apart(
+    alloc: Global,
+    conductors: &HashMap<Key, Conductor>,
+    keys: &[Key],
+) -> Result<Vec<Key>, AllocError>
+    ensures { IfOk result (λ left.
+        StandForAll (conductor_at conductors.now.entries) left.items keys.now) }
+{
+    let mut left = Vec::new(alloc);
+    for key in keys {
+        if !touches_one(conductors, first_few(&left), *key) {
+            left.push(*key)?;
+        }
+    }
+    Ok(left)
 }
 
 /// The keys in order, each once. It takes no memory.
@@ -65,7 +87,8 @@ pub(crate) fn touching(
     grid: &Grid,
     key: Key,
 ) -> Result<Vec<Key>, AllocError>
-    requires { IsIndexed conductors.now.entries grid.now }
+    requires indexed { IsIndexed conductors.now.entries grid.now }
+    requires drawn { AreDrawn (conductor_at conductors.now.entries) grid.now }
     ensures rising { IfOk result (λ keys. IsStrictlySortedBy by_key keys.items) }
     ensures same { IfOk result (λ keys. (q : Key)
         → Contains keys.items q ↔ IsNeighbour (conductor_at conductors.now.entries) key q) }
@@ -73,9 +96,15 @@ pub(crate) fn touching(
     let Some(own) = conductors.get(&key) else {
         return Ok(Vec::new(alloc));
     };
-    let near = grid.near(alloc, own)?;
-    let found = others_touching(alloc, conductors, own, key, &near)?;
-    Ok(in_order(found))
+    let near = grid.near(
+        alloc,
+        own,
+        Wanted {
+            own: key,
+            all: true,
+        },
+    )?;
+    Ok(in_order(near))
 }
 
 /// A rising list of other keys whose conductors touch that of the key, from which chains without
@@ -95,7 +124,14 @@ pub(crate) fn spanning(
     let Some(own) = conductors.get(&key) else {
         return Ok(Vec::new(alloc));
     };
-    let near = grid.spanning(alloc, own, key)?;
-    let found = others_touching(alloc, conductors, own, key, &near)?;
-    Ok(in_order(found))
+    let near = grid.near(
+        alloc,
+        own,
+        Wanted {
+            own: key,
+            all: false,
+        },
+    )?;
+    let left = apart(alloc, conductors, &near)?;
+    Ok(in_order(left))
 }

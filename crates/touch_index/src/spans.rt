@@ -1,9 +1,9 @@
 // Spans on parallel lines, each under a key, and which of them meet a given one.
-ghost use Rattle.std.specs.Prelude.{◌≡◌, ◌≤◌, ◌+◌, ◌≢◌, ℕ, [], Contains, IsTrue, OnOk, MatchOption};
+ghost use Rattle.std.specs.Prelude.{◌≡◌, ◌≤◌, ◌+◌, ◌↔◌, ◌≢◌, ℕ, [], true, false, Contains, IsTrue, OnOk, MatchOption};
 ghost use Rattle.geda_geom.specs.declared.conductor.Key.{Key};
 ghost use Rattle.touch_index.specs.declared.spans.Mark.{Mark};
-ghost use Rattle.touch_index.specs.steps.Spans.{AddsMark, Holds, KeepsSpans, KeepsOthers, HasMeeting, HasAllMeeting, IsKept, LosesMark, mark_of, width_from, width_of};
-ghost use Rattle.touch_index.specs.steps.Spanning.{AreProper, HasAllSpanning, HasSpanning, IsFirst, IsNext};
+ghost use Rattle.touch_index.specs.steps.Spans.{AddsMark, Holds, KeepsSpans, KeepsOthers, IsKept, LosesMark, mark_of, width_from, width_of};
+ghost use Rattle.touch_index.specs.steps.Spanning.{AddsMet, AreProper, HasAllFound, HasFound, IsFirst, IsNext, IsWanted};
 
 use geda_geom::Key;
 use std::alloc::{AllocError, Global};
@@ -91,16 +91,37 @@ fn mark_of(span: Span, key: Key) -> Mark
     }
 }
 
-/// Adds the keys of the spans of one width that may meet the span.
-fn push_keys(
+/// Which keys are wanted of the spans that meet one.
+#[derive(Clone, Copy, Debug)]
+pub(crate) struct Wanted {
+    /// The key that is not.
+    pub own: Key,
+    /// Whether all others are, or some that stand for them.
+    pub all: bool,
+}
+
+/// Whether a mark is of another key, and ends no earlier than the span begins.
+fn is_wanted(mark: Mark, span: Span, own: Key) -> bool
+    ensures { IsTrue result ↔ IsWanted span own mark }
+{
+    if mark.key == own {
+        return false;
+    }
+    u32::MAX - mark.beyond >= span.from
+}
+
+/// Adds the keys of the spans of one width that meet the span, but for one key.
+fn push_all(
     marks: &BTreeSet<Mark>,
     span: Span,
     width: u32,
+    own: Key,
     keys: &mut Vec<Key>,
 ) -> Result<(), AllocError>
     requires { span.from ≤ span.to }
     ensures kept { OnOk result (IsKept keys.old.items keys.new.items) }
-    ensures found { OnOk result (HasMeeting marks.now span width keys.new.items) }
+    ensures found { OnOk result (HasFound true marks.now span width own keys.new.items) }
+    ensures only { OnOk result (AddsMet marks.now span own keys.old.items keys.new.items) }
 {
     let none = Key { id: 0, place: 0 };
     let from = u64::from(span.from.saturating_sub(width));
@@ -119,7 +140,9 @@ fn push_keys(
         key: none,
     };
     for mark in marks.range(first..after) {
-        keys.push(mark.key)?;
+        if is_wanted(*mark, span, own) {
+            keys.push(mark.key)?;
+        }
     }
     Ok(())
 }
@@ -170,7 +193,8 @@ fn push_spanning(
 ) -> Result<(), AllocError>
     requires proper { AreProper marks.now }
     ensures kept { OnOk result (IsKept keys.old.items keys.new.items) }
-    ensures found { OnOk result (HasSpanning marks.now span width own keys.new.items) }
+    ensures found { OnOk result (HasFound false marks.now span width own keys.new.items) }
+    ensures only { OnOk result (AddsMet marks.now span own keys.old.items keys.new.items) }
 {
     let mut from = u64::from(span.from.saturating_sub(width));
     while let Some(mark) = first_other(marks, span, width, from, own) {
@@ -183,6 +207,28 @@ fn push_spanning(
         }
     }
     Ok(())
+}
+
+/// Adds the wanted keys of the spans of one width that meet the span.
+fn push_wanted(
+    marks: &BTreeSet<Mark>,
+    span: Span,
+    width: u32,
+    wanted: Wanted,
+    keys: &mut Vec<Key>,
+) -> Result<(), AllocError>
+    requires from { span.from ≤ span.to }
+    requires proper { AreProper marks.now }
+    ensures kept { OnOk result (IsKept keys.old.items keys.new.items) }
+    ensures found { OnOk result
+        (HasFound wanted.all marks.now span width wanted.own keys.new.items) }
+    ensures only { OnOk result
+        (AddsMet marks.now span wanted.own keys.old.items keys.new.items) }
+{
+    if wanted.all {
+        return push_all(marks, span, width, wanted.own, keys);
+    }
+    push_spanning(marks, span, width, wanted.own, keys)
 }
 
 impl SpanSet {
@@ -216,27 +262,24 @@ impl SpanSet {
         self.marks.remove(&mark);
     }
 
-    /// Adds the keys of the spans that meet the span, and of some that lie near.
-    pub fn push_meeting(&self, span: Span, keys: &mut Vec<Key>) -> Result<(), AllocError>
-        requires { span.from ≤ span.to }
-        ensures kept { OnOk result (IsKept keys.old.items keys.new.items) }
-        ensures found { OnOk result (HasAllMeeting self.now keys.new.items span) }
-    {
-        for width in &self.widths {
-            push_keys(&self.marks, span, *width, keys)?;
-        }
-        Ok(())
-    }
-
-    /// Adds keys of spans of others that meet the span, and of some that lie near: each span of
-    /// another key that meets the span meets one of those, or is one.
-    pub fn push_spanning(&self, span: Span, own: Key, keys: &mut Vec<Key>) -> Result<(), AllocError>
+    /// Adds the wanted keys of the spans that meet the span: each span of another key that meets it
+    /// is one of those, or meets one where not all are wanted.
+    pub fn push_meeting(
+        &self,
+        span: Span,
+        wanted: Wanted,
+        keys: &mut Vec<Key>,
+    ) -> Result<(), AllocError>
+        requires from { span.from ≤ span.to }
         requires proper { AreProper self.now.marks }
         ensures kept { OnOk result (IsKept keys.old.items keys.new.items) }
-        ensures found { OnOk result (HasAllSpanning self.now own keys.new.items span) }
+        ensures found { OnOk result
+            (HasAllFound wanted.all self.now wanted.own keys.new.items span) }
+        ensures only { OnOk result
+            (AddsMet self.now.marks span wanted.own keys.old.items keys.new.items) }
     {
         for width in &self.widths {
-            push_spanning(&self.marks, span, *width, own, keys)?;
+            push_wanted(&self.marks, span, *width, wanted, keys)?;
         }
         Ok(())
     }

@@ -1,6 +1,6 @@
 -- Steps of the code; no public clause cites them.
 -- A grid of rows and columns, and the spans that a conductor has in it (own).
-use Rattle.std.specs.Prelude.{◌≡◌, ◌≢◌, ◌⊎◌, ◌≤◌, ℕ, suc, ◌+◌, ◌-◌, ℤ, pos, negsuc, List, min, max}
+use Rattle.std.specs.Prelude.{◌≡◌, ◌≢◌, ◌⊎◌, ◌≤◌, ℕ, suc, ◌+◌, ◌-◌, ℤ, pos, negsuc, Bool, List, Contains, min, max}
 use Rattle.geda_geom.specs.declared.conductor.Key.{Key}
 use Rattle.geda_geom.specs.declared.conductor.Point.{Point}
 use Rattle.geda_geom.specs.declared.conductor.Conductor.{Conductor}
@@ -8,8 +8,9 @@ use Rattle.geda_geom.specs.declared.conductor.Conductor.TheVariants.{Segment, En
 use Rattle.touch_index.specs.declared.grid.Grid.{Grid}
 use Rattle.touch_index.specs.declared.grid.LinePoint.{LinePoint}
 use Rattle.touch_index.specs.declared.spans.Span.{Span}
-use Rattle.touch_index.specs.steps.Spans.{Holds, HasAllMeeting}
-use Rattle.touch_index.specs.steps.Spanning.{HasAllSpanning}
+use Rattle.touch_index.specs.declared.spans.SpanSet.{SpanSet}
+use Rattle.touch_index.specs.steps.Spans.{Holds}
+use Rattle.touch_index.specs.steps.Spanning.{HasAllFound, IsMet}
 
 -- a coordinate, counted from the least one
 abbrev pub lifted : ℤ → ℕ
@@ -62,11 +63,26 @@ pub record InGrid (R C : Span → Type 0) (c : Conductor) : Type 0 where
 abbrev pub Covers : Grid → Conductor → Key → Type 0
 Covers grid c k = InGrid (λ s. Holds grid.rows s k) (λ s. Holds grid.columns s k) c
 
--- the list has the keys of the spans that meet those of the conductor
-abbrev pub Meets : Grid → Conductor → List Key → Type 0
-Meets grid c keys = InGrid (HasAllMeeting grid.rows keys) (HasAllMeeting grid.columns keys) c
+-- the list has the keys, or some that stand for them, of the spans that meet those of the conductor
+abbrev pub Finds : Bool → Grid → Conductor → Key → List Key → Type 0
+Finds all grid c own keys =
+    InGrid (HasAllFound all grid.rows own keys) (HasAllFound all grid.columns own keys) c
 
--- the list has keys that stand for the spans of other keys that meet those of the conductor
-abbrev pub Spans : Grid → Conductor → Key → List Key → Type 0
-Spans grid c own keys =
-    InGrid (HasAllSpanning grid.rows own keys) (HasAllSpanning grid.columns own keys) c
+-- another key has a span that meets one between two points
+abbrev pub IsMetAlong : SpanSet → LinePoint → LinePoint → Key → Key → Type 0
+IsMetAlong spans a b own key = SomeAlong (λ s. IsMet spans.marks s own key) a b
+
+-- no other keys come into a list
+abbrev pub AddsMetAlong : SpanSet → LinePoint → LinePoint → Key → List Key → List Key → Type 0
+AddsMetAlong spans a b own old new =
+    (k : Key) → Contains new k → Contains old k ⊎ IsMetAlong spans a b own k
+
+-- another key has a span that meets one of the conductor
+abbrev pub IsMetIn : Grid → Conductor → Key → Key → Type 0
+IsMetIn grid c own key =
+    IsMetAlong grid.rows (row_point (ends_of c).0) (row_point (ends_of c).1) own key
+    ⊎ IsMetAlong grid.columns (column_point (ends_of c).0) (column_point (ends_of c).1) own key
+
+-- no other keys come into a list
+abbrev pub AddsMetIn : Grid → Conductor → Key → List Key → List Key → Type 0
+AddsMetIn grid c own old new = (k : Key) → Contains new k → Contains old k ⊎ IsMetIn grid c own k

@@ -1,6 +1,6 @@
 -- Steps of the code; no public clause cites them.
--- Each conductor of the map stands in the grid, and those near are sifted (own).
-use Rattle.std.specs.Prelude.{◌≡◌, ◌≢◌, ◌<◌, ◌==◌, ◌&&◌, cond, ℕ, Bool, List, slice_index_or, Contains, Option, Some}
+-- Each conductor of the map stands in the grid, and a few of those near stand for all (own).
+use Rattle.std.specs.Prelude.{◌≡◌, ◌⊎◌, ◌==◌, ◌&&◌, cond, Bool, List, Contains, Option, Some}
 use Rattle.std.specs.Map.{lookup}
 use Rattle.geda_geom.specs.declared.conductor.Key.{Key}
 use Rattle.geda_geom.specs.declared.conductor.Conductor.{Conductor}
@@ -28,14 +28,11 @@ DifferAt key value es fs = (q : Key)
 abbrev pub IsIndexed : Entries → Grid → Type 0
 IsIndexed es grid = (k : Key) (c : Conductor) → conductor_at es k ≡ Some c → Covers grid c k
 
--- another key than the first, whose conductor touches the given one
-pub record IsOther (es : Entries) (own : Conductor) (key other : Key) : Type 0 where
-  pub apart : other ≢ key
-  pub touch : DoTouch (Some own) (conductor_at es other)
+-- one of a few keys has a conductor that touches that of the key
+abbrev pub IsBesideOne : (Key → Option Conductor) → List Key → Key → Type 0
+IsBesideOne at few q = (k : Key) × Contains few k × DoTouch (at k) (at q)
 
--- the list has those of the first few keys that are others, and no more
-pub record IsSifted (es : Entries) (own : Conductor) (key : Key) (near : List Key) (count : ℕ)
-    (found : List Key) : Type 0 where
-  pub sound : (q : Key) → Contains found q → IsOther es own key q
-  pub full : (i : ℕ) (q : Key) → i < count → slice_index_or near i q ≡ q
-      → IsOther es own key q → Contains found q
+-- some of the keys are left; each other one touches one that is
+pub record StandForAll (at : Key → Option Conductor) (left keys : List Key) : Type 0 where
+  pub some : (q : Key) → Contains left q → Contains keys q
+  pub all : (q : Key) → Contains keys q → Contains left q ⊎ IsBesideOne at left q

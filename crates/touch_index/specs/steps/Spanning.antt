@@ -1,6 +1,6 @@
 -- Steps of the code; no public clause cites them.
 -- The spans that stand for all that meet one (own).
-use Rattle.std.specs.Prelude.{◌≡◌, ℕ, ◌<◌, ◌≤◌, ◌+◌, List, slice_index_or, ◌≢◌, Contains}
+use Rattle.std.specs.Prelude.{◌≡◌, ℕ, ◌<◌, ◌≤◌, ◌+◌, ◌-◌, ◌⊎◌, Bool, true, false, List, slice_index_or, ◌≢◌, Contains}
 use Rattle.std.specs.BTreeSet.{BTreeSet, keys_between}
 use Rattle.std.specs.List.Sorted.{IsStrictlySortedBy}
 use Rattle.std.specs.declared.ops.Bound.TheVariants.{Included, Excluded}
@@ -9,7 +9,7 @@ use Rattle.touch_index.specs.declared.spans.SpanSet.{SpanSet}
 use Rattle.touch_index.specs.declared.spans.Mark.{Mark}
 use Rattle.touch_index.specs.declared.spans.Span.{Span}
 use Rattle.touch_index.specs.steps.Marks.{by_mark}
-use Rattle.touch_index.specs.steps.Spans.{DoMeet, IsMarked, after_mark, mark_at, span_of}
+use Rattle.touch_index.specs.steps.Spans.{DoMeet, IsKept, IsMarked, after_mark, mark_at, span_of}
 
 -- no span of a mark ends before it begins
 abbrev pub AreProper : BTreeSet Mark → Type 0
@@ -72,17 +72,52 @@ abbrev pub HasSpanningTo : BTreeSet Mark → Span → ℕ → Key → List Key �
 HasSpanningTo marks span width own keys from = (m : Mark) → IsMeeting marks span own m
     → m.width ≡ width → m.from < from → IsSpanned marks span own keys m
 
-abbrev pub HasSpanning : BTreeSet Mark → Span → ℕ → Key → List Key → Type 0
-HasSpanning marks span width own keys = (m : Mark) → IsMeeting marks span own m
-    → m.width ≡ width → IsSpanned marks span own keys m
+-- a mark of another key, that ends no earlier than a span begins
+pub record IsWanted (span : Span) (own : Key) (m : Mark) : Type 0 where
+  pub apart : m.key ≢ own
+  pub late : span.from ≤ (span_of m).to
+
+-- the key of a mark is listed where all are wanted; else some listed keys stand for it
+abbrev pub IsFound : Bool → BTreeSet Mark → Span → Key → List Key → Mark → Type 0
+IsFound true marks span own keys m = Contains keys m.key
+IsFound false marks span own keys m = IsSpanned marks span own keys m
+
+-- so for the marks of one width that meet the span
+abbrev pub HasFound : Bool → BTreeSet Mark → Span → ℕ → Key → List Key → Type 0
+HasFound all marks span width own keys = (m : Mark) → IsMeeting marks span own m
+    → m.width ≡ width → IsFound all marks span own keys m
 
 -- so for the first few widths
-abbrev pub HasFirstSpanning : SpanSet → Span → Key → ℕ → List Key → Type 0
-HasFirstSpanning spans span own count keys = (i width : ℕ)
+abbrev pub HasFirstFound : Bool → SpanSet → Span → Key → ℕ → List Key → Type 0
+HasFirstFound all spans span own count keys = (i width : ℕ)
     → i < count → slice_index_or spans.widths.items i width ≡ width
-    → HasSpanning spans.marks span width own keys
+    → HasFound all spans.marks span width own keys
 
 -- so for all widths
-abbrev pub HasAllSpanning : SpanSet → Key → List Key → Span → Type 0
-HasAllSpanning spans own keys span = (m : Mark) → Contains spans.widths.items m.width
-    → IsMeeting spans.marks span own m → IsSpanned spans.marks span own keys m
+abbrev pub HasAllFound : Bool → SpanSet → Key → List Key → Span → Type 0
+HasAllFound all spans own keys span = (m : Mark) → Contains spans.widths.items m.width
+    → IsMeeting spans.marks span own m → IsFound all spans.marks span own keys m
+
+-- another key has a mark that meets the span
+pub record IsMet (marks : BTreeSet Mark) (span : Span) (own key : Key) : Type 0 where
+  pub mark : Mark
+  pub marked : IsMarked marks mark
+  pub is : mark.key ≡ key
+  pub apart : mark.key ≢ own
+  pub near : DoMeet span (span_of mark)
+
+-- no other keys come into a list
+abbrev pub AddsMet : BTreeSet Mark → Span → Key → List Key → List Key → Type 0
+AddsMet marks span own old new =
+    (k : Key) → Contains new k → Contains old k ⊎ IsMet marks span own k
+
+-- the marks that are left, and the keys that were added, while those that do not meet the span are
+-- passed over
+pub record IsPushing (marks : BTreeSet Mark) (span : Span) (width : ℕ) (own : Key)
+    (old keys : List Key) (left : List Mark) : Type 0 where
+  pub kept : IsKept old keys
+  pub only : AddsMet marks span own old keys
+  pub inside : (m : Mark) → Contains left m → m.key ≢ own
+      → IsNext marks span width (span.from - width) own m
+  pub all : (m : Mark) → IsNext marks span width (span.from - width) own m → IsWanted span own m
+      → Contains keys m.key ⊎ Contains left m

@@ -1,8 +1,7 @@
 -- Steps of the code; no public clause cites them.
 -- Spans on parallel lines, each under a key (own).
-use Rattle.std.specs.Prelude.{◌≡◌, ℕ, ◌<◌, ◌≤◌, ◌+◌, ◌-◌, List, [], ◌∷◌, nat_le, if◌then◌else◌, slice_index_or, ◌≢◌, ◌⊎◌, Contains, IsTrue}
-use Rattle.std.specs.declared.ops.Bound.TheVariants.{Included, Excluded}
-use Rattle.std.specs.BTreeSet.{BTreeSet, contains, keys_between}
+use Rattle.std.specs.Prelude.{◌≡◌, ℕ, ◌≤◌, ◌+◌, ◌-◌, List, [], ◌∷◌, nat_le, if◌then◌else◌, ◌≢◌, ◌⊎◌, Contains, IsTrue}
+use Rattle.std.specs.BTreeSet.{BTreeSet, contains}
 use Rattle.geda_geom.specs.declared.conductor.Key.{Key}
 use Rattle.touch_index.specs.declared.spans.SpanSet.{SpanSet}
 use Rattle.touch_index.specs.declared.spans.Mark.{Mark}
@@ -40,11 +39,6 @@ span_of m = record { line = m.line; from = m.from; to = 4294967295 - m.beyond }
 abbrev pub IsMarked : BTreeSet Mark → Mark → Type 0
 IsMarked marks m = IsTrue (contains by_mark marks m)
 
--- the keys of the marked spans of one width that meet the span are in the list
-abbrev pub HasMeeting : BTreeSet Mark → Span → ℕ → List Key → Type 0
-HasMeeting marks span width keys = (s : Span) (k : Key) → width_of s ≡ width
-    → s.to ≤ s.from + width → DoMeet span s → IsMarked marks (mark_of s k) → Contains keys k
-
 -- nothing of a list is lost
 abbrev pub IsKept : List Key → List Key → Type 0
 IsKept old new = (k : Key) → Contains old k → Contains new k
@@ -64,27 +58,8 @@ abbrev pub mark_at : Span → ℕ → ℕ → Mark
 mark_at s width from =
     record { line = s.line; width = width; from = from; beyond = 0; key = no_key }
 
-abbrev pub first_mark : Span → ℕ → Mark
-first_mark s width = mark_at s width (s.from - width)
-
 abbrev pub after_mark : Span → ℕ → Mark
 after_mark s width = mark_at s width (s.to + 1)
-
--- the marks of the width on the line of the span that begin near enough to meet it
-abbrev pub marks_near : BTreeSet Mark → Span → ℕ → List Mark
-marks_near marks s width =
-    keys_between by_mark (Included (first_mark s width)) (Excluded (after_mark s width)) marks
-
--- the keys of the spans that meet the span are in the list
-abbrev pub HasAllMeeting : SpanSet → List Key → Span → Type 0
-HasAllMeeting spans keys span =
-    (s : Span) (k : Key) → Holds spans s k → DoMeet span s → Contains keys k
-
--- so are those of the first few widths
-abbrev pub HasFirstMeeting : SpanSet → Span → ℕ → List Key → Type 0
-HasFirstMeeting spans span count keys = (i width : ℕ)
-    → i < count → slice_index_or spans.widths.items i width ≡ width
-    → HasMeeting spans.marks span width keys
 
 -- nothing is lost
 abbrev pub KeepsSpans : SpanSet → SpanSet → Type 0

@@ -3,17 +3,16 @@ use Rattle.std.specs.Option.{option_copied}
 use Rattle.std.specs.List.Sorted.{IsStrictlySortedBy}
 use Rattle.geda_geom.specs.declared.conductor.Key.{Key}
 use Rattle.geda_geom.specs.Keys.{by_key}
-use Rattle.touch_index.specs.steps.Grid.{Spans}
-use Rattle.touch_index.specs.steps.Sifting.{conductor_at}
+use Rattle.touch_index.specs.steps.Sifting.{StandForAll, conductor_at}
 use Rattle.touch_index.proofs.BesideLemmas.{columns_proper, found_span, none_spans, rows_proper}
 use Rattle.touch_index.proofs.ListLemmas.{none_is_in}
 use Rattle.touch_index.proofs.neighbours.spanning.Goals as goal
 
-pub spanning-requires-clause-rows : goal.spanning-requires-clause-rows
-spanning-requires-clause-rows c = rows_proper (conductor_at c.args.conductors.now.entries) c.args.grid.now c.requires.drawn
+pub near-requires-clause-rows : goal.near-requires-clause-rows
+near-requires-clause-rows c = rows_proper (conductor_at c.args.conductors.now.entries) c.args.grid.now c.requires.drawn
 
-pub spanning-requires-clause-columns : goal.spanning-requires-clause-columns
-spanning-requires-clause-columns c = columns_proper (conductor_at c.args.conductors.now.entries) c.args.grid.now c.requires.drawn
+pub near-requires-clause-columns : goal.near-requires-clause-columns
+near-requires-clause-columns c = columns_proper (conductor_at c.args.conductors.now.entries) c.args.grid.now c.requires.drawn
 
 pub returns-in_default-clause-rising : goal.returns-in_default-clause-rising
 unfolding IsStrictlySortedBy
@@ -27,7 +26,6 @@ returns-in_default-clause-spanning c =
 pub returns-clause-spanning : goal.returns-clause-spanning
 returns-clause-spanning c =
     let there = sym c.get.ensures.value ∙ ap option_copied c.in-Some.is in
-    found_span c.args.conductors.now.entries c.args.grid.now c.in-Some.own.now c.args.key c.deref.result.now c.in_order.result.items c.in_ok-found.found.items
-    c.requires.indexed c.requires.drawn there
-    (subst (Spans c.args.grid.now c.in-Some.own.now c.args.key) (sym c.deref.ensures.value) c.in_ok-near.ensures)
-    c.in_ok-found.ensures.sound c.in_ok-found.ensures.full c.in_order.ensures.same
+    found_span c.args.conductors.now.entries c.args.grid.now c.in-Some.own.now c.args.key c.in_ok-near.near.items c.in_order.result.items c.requires.indexed c.requires.drawn there
+    c.in_ok-near.ensures.only c.in_ok-left.left.items c.in_ok-near.ensures.found
+    (subst (StandForAll (conductor_at c.args.conductors.now.entries) c.in_ok-left.left.items) c.deref.ensures.value c.in_ok-left.ensures) c.in_order.ensures.same
