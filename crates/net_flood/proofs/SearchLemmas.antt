@@ -13,10 +13,10 @@ use Rattle.net_flood.specs.Grouping.{Conductors, InGroup}
 use Rattle.net_flood.specs.declared.partition.Partition.{Partition}
 use Rattle.net_flood.specs.declared.search.Search.{Search}
 use Rattle.net_flood.specs.steps.Partition.{Has, Joins, KeepsKeys, Lacks, Members, Puts, Together, heads_of, members_of}
-use Rattle.net_flood.specs.steps.Search.{AreLinked, Asks, GoesOn, IsApart, IsAsking, IsPlaced, IsRacing, IsSearch, IsSearching, Races, Searches, Takes, is_passed, passing}
+use Rattle.net_flood.specs.steps.Search.{AreLinked, Asks, Finds, GoesOn, IsApart, IsAsking, IsPlaced, IsRacing, IsSearch, IsSearching, Races, Searches, Takes, is_passed, passing}
 use Rattle.net_flood.proofs.ConductorLemmas.{get_removed, group_itself, group_once, group_trans, near_alike, near_first, near_second, near_turn, removed_apart}
 use Rattle.net_flood.proofs.KeyLemmas.{same_apart, same_here, same_or_apart}
-use Rattle.net_flood.proofs.PartitionLemmas.{first_cases, none_in, together_trans}
+use Rattle.net_flood.proofs.PartitionLemmas.{first_cases, key_in, none_in, together_trans}
 use Rattle.net_flood.proofs.SetLemmas.{lacks_not, not_lacks, update_apart, update_here}
 
 -- who touches where one conductor is passed over
@@ -196,6 +196,118 @@ module _ (cs : Conductors) (left : BTreeSet Key) (a b : Key) (old new : Partitio
     heads = λ q h. joins.heads q (λ t. lacks_not left q h (placed.apart.apart q t));
   }
 
+-- a neighbour is found
+module _ (left after : BTreeSet Key) (key other : Key) (waiting : List Key)
+    (updates : (q : Key) → contains by_key after q ≡ cond (is_at (by_key other) q) false (contains by_key left q)) (old new : Partition) (apart : IsApart left old) (keeps : KeepsKeys old new) where
+  -- before
+  pub finds_none : Lacks left other → Together (members_of old) other other → length after.keys + 0 ≡ length left.keys → Joins key other old new → Finds key other left after waiting waiting old new
+  finds_none lacks t fewer joins =
+      let takes = takes_none left after other waiting updates old lacks t fewer in
+      record {
+        goes = record {
+          kept = joins.kept;
+          fewer = takes.goes.fewer;
+          heads = λ q h. joins.heads q (λ u. lacks_not left q (takes.goes.fewer q h) (apart.apart q u));
+        };
+        placed = λ cs placed near. placed_joined cs after key other old new (takes.placed cs placed) near keeps joins;
+        joined = joins.joined;
+        parts = takes.parts;
+        first = takes.first;
+        later = takes.later;
+        count = takes.count;
+      }
+
+  -- now
+  module _ (head : Key) (has : Has left other) (own : members_of old head key) (puts : Puts head other old new) where
+    abbrev P : Members
+    P = members_of new
+
+    more : (k q : Key) → Together (members_of old) k q → Together P k q
+    more k q t = (t.0, (puts.adds t.0 k).1 (inl t.1), (puts.adds t.0 q).1 (inl t.2))
+
+    new_has : P head other
+    new_has = (puts.adds head other).1 (inr (refl, refl))
+
+    new_joined : Together P key other
+    new_joined = (head, (puts.adds head key).1 (inl own), new_has)
+
+    -- who stands together stood so, or is the new one, or stood with the key
+    new_cases : (k q : Key) → Together P k q → Together (members_of old) k q
+        ⊎ (((k ≡ other) × ((q ≡ other) ⊎ Together (members_of old) key q)) ⊎ ((q ≡ other) × Together (members_of old) k key))
+    new_cases k q t = elim ((puts.adds t.0 k).0 t.1) [
+      | inl first ↦ elim ((puts.adds t.0 q).0 t.2) [
+        | inl second ↦ inl (t.0, first, second)
+        | inr second ↦ inr (inr (second.1, (head, subst (λ (h : Key). members_of old h k) second.0 first, own)))
+      ]
+      | inr first ↦ elim ((puts.adds t.0 q).0 t.2) [
+        | inl second ↦ inr (inl (first.1, inr (head, own, subst (λ (h : Key). members_of old h q) first.0 second)))
+        | inr second ↦ inr (inl (first.1, inl second.1))
+      ]
+    ]
+
+    own_cases : (q : Key) → Together P q q → Together (members_of old) q q ⊎ (q ≡ other)
+    own_cases q t = elim (new_cases q q t) [ inl o ↦ inl o | inr two ↦ elim two [ inl a ↦ inr a.0 | inr b ↦ inr b.0 ] ]
+
+    sound_more : (cs : Conductors) → IsPlaced cs left old → IsNeighbour (get cs) key other → (k q : Key) → Together P k q → InGroup cs k q
+    sound_more cs placed near k q t = elim (new_cases k q t) [
+      | inl o ↦ placed.sound k q o
+      | inr two ↦ elim two [
+        | inl first ↦ subst (λ (x : Key). InGroup cs x q) (sym first.0) (elim first.1 [
+          | inl e ↦ subst (InGroup cs other) (sym e) (group_itself cs other (placed.there other has))
+          | inr u ↦ group_trans cs other key q (group_once cs other key (near_turn (get cs) key other near)) (placed.sound key q u)
+        ])
+        | inr second ↦ subst (InGroup cs k) (sym second.0) (group_trans cs k key other (placed.sound k key second.1) (group_once cs key other near))
+      ]
+    ]
+
+    pub finds_one : (now : List Key) → now ≡ waiting ++ other ∷ [] → length after.keys + 1 ≡ length left.keys → Finds key other left after waiting now old new
+    finds_one now are fewer = record {
+      goes = record {
+        kept = more;
+        fewer = less left after other waiting updates;
+        heads = λ q h. puts.heads q (λ e. lacks_not after q h (gone left after other waiting updates q e));
+      };
+      placed = λ cs placed near. record {
+        apart = record {
+          partition = puts.partition;
+          heads = λ q h. keeps q ∙ apart.heads q (less left after other waiting updates q h);
+          apart = λ q t. elim (own_cases q t) [
+            | inl o ↦ still_lacks left after other waiting updates q (apart.apart q o)
+            | inr e ↦ gone left after other waiting updates q e
+          ];
+        };
+        there = λ q h. placed.there q (less left after other waiting updates q h);
+        sound = sound_more cs placed near;
+        parts = λ q there. elim (placed.parts q there) [
+          | inl h ↦ elim (same_or_apart q other) [
+            | inl e ↦ inr (subst (λ x. Together P x x) (sym e) (head, new_has, new_has))
+            | inr differ ↦ inl (still left after other waiting updates q h differ)
+          ]
+          | inr t ↦ inr (more q q t)
+        ];
+      };
+      joined = new_joined;
+      parts = λ q h. elim (same_or_apart q other) [
+        | inl e ↦ inr (subst (λ ks. Contains ks q) (sym are) (subst (Contains (waiting ++ other ∷ [])) (sym e) (Contains-push waiting other)))
+        | inr differ ↦ inl (still left after other waiting updates q h differ)
+      ];
+      first = λ q c. subst (λ ks. Contains ks q) (sym are) (Contains-append_left waiting (other ∷ []) q c);
+      later = λ q c. elim (Contains-push_cases waiting other q (subst (λ ks. Contains ks q) are c)) [ inl b ↦ inl b | inr e ↦ inr (sym e) ];
+      count = let long : length now ≡ length waiting + 1 = ap length are ∙ length_push waiting other in omega arith;
+    }
+
+-- before a neighbour is put in
+module _ (left : BTreeSet Key) (key other head : Key) (old : Partition) (apart : IsApart left old) (has : Has left other) (is : heads_of old key ≡ Some head)
+    (found : Together (members_of old) key key) where
+  pub head_has : members_of old head key
+  head_has = key_in old apart.partition key found head is
+
+  pub head_own : members_of old head head
+  head_own = apart.partition.own head key head_has
+
+  pub is_free : (h : Key) → members_of old h other → h ≡ head
+  is_free h m = absurd (let own = apart.partition.own h other m in lacks_not left other has (apart.apart other (h, m, m)))
+
 -- a query
 module _ (passed : Option Key) (cs : Conductors) (key : Key) where
   pub asking_begins : (left : BTreeSet Key) (waiting : List Key) (p : Partition) → IsPlaced cs left p → IsAsking passed cs key [] left left waiting waiting p p
@@ -232,35 +344,26 @@ module _ (passed : Option Key) (cs : Conductors) (key : Key) where
       };
     }
 
-    -- the next neighbour is found, and joined
-    module _ (after : BTreeSet Key) (then : List Key) (p1 p2 : Partition) (link : IsNeighbour (get cs) key (get_or near i d)) (keep1 : KeepsKeys p p1)
-        (takes : Takes (get_or near i d) mid after now then p p1) (keep2 : KeepsKeys p1 p2) (joins : Joins key (get_or near i d) p1 p2) where
-      abbrev x : Key
-      x = get_or near i d
-
-      placed_mid : IsPlaced cs after p1
-      placed_mid = takes.placed cs asking.asks.placed
-
-      grown : GoesOn mid after p p2
-      grown = goes_on mid after after p p1 p2 takes.goes (goes_joined cs after key x p1 p2 placed_mid link keep2 joins)
-
-      pub asking_more : IsAsking passed cs key (take (i + 1) near) left after waiting then old p2
+    -- the next neighbour is found
+    module _ (after : BTreeSet Key) (then : List Key) (new : Partition) (link : IsNeighbour (get cs) key (get_or near i d)) (keeps : KeepsKeys p new)
+        (finds : Finds key (get_or near i d) mid after now then p new) where
+      pub asking_more : IsAsking passed cs key (take (i + 1) near) left after waiting then old new
       asking_more = record {
-        keys = λ k. keep2 k ∙ keep1 k ∙ asking.keys k;
+        keys = λ k. keeps k ∙ asking.keys k;
         asks = record {
-          goes = goes_on left mid after old p p2 asking.asks.goes grown;
-          placed = placed_joined cs after key x p1 p2 placed_mid link keep2 joins;
-          parts = λ q h. elim (asking.asks.parts q h) [ inl m ↦ takes.parts q m | inr c ↦ inr (takes.first q c) ];
-          first = λ q c. takes.first q (asking.asks.first q c);
-          later = λ q c. elim (takes.later q c) [
-            | inl b ↦ elim (asking.asks.later q b) [ inl w ↦ inl w | inr t ↦ inr (grown.kept key q t) ]
-            | inr e ↦ inr (subst (Together (members_of p2) key) (sym e) joins.joined)
+          goes = goes_on left mid after old p new asking.asks.goes finds.goes;
+          placed = finds.placed cs asking.asks.placed link;
+          parts = λ q h. elim (asking.asks.parts q h) [ inl m ↦ finds.parts q m | inr c ↦ inr (finds.first q c) ];
+          first = λ q c. finds.first q (asking.asks.first q c);
+          later = λ q c. elim (finds.later q c) [
+            | inl b ↦ elim (asking.asks.later q b) [ inl w ↦ inl w | inr t ↦ inr (finds.goes.kept key q t) ]
+            | inr e ↦ inr (subst (Together (members_of new) key) (sym e) finds.joined)
           ];
           links = λ q both. elim (first_cases near i d inside q both.0) [
-            | inl b ↦ grown.kept key q (asking.asks.links q (b, both.1))
-            | inr e ↦ subst (Together (members_of p2) key) (sym e) joins.joined
+            | inl b ↦ finds.goes.kept key q (asking.asks.links q (b, both.1))
+            | inr e ↦ subst (Together (members_of new) key) (sym e) finds.joined
           ];
-          count = let first = asking.asks.count in let second = takes.count in omega arith;
+          count = let first = asking.asks.count in let second = finds.count in omega arith;
         };
       }
 

@@ -4,7 +4,7 @@ ghost use Rattle.std.specs.FinMap.{get};
 ghost use Rattle.geda_geom.specs.declared.conductor.Key.{Key};
 ghost use Rattle.touch_index.specs.Index.{IsNeighbour};
 ghost use Rattle.net_flood.specs.steps.Partition.{Has, KeepsKeys, Together, members_of};
-ghost use Rattle.net_flood.specs.steps.Search.{AreLinked, Asks, IsApart, IsPlaced, IsSearch, Races, Searches, Takes, is_passed, passing};
+ghost use Rattle.net_flood.specs.steps.Search.{AreLinked, Asks, Finds, IsApart, IsPlaced, IsSearch, Races, Searches, Takes, is_passed, passing};
 
 use crate::partition::Partition;
 use geda_geom::Key;
@@ -53,6 +53,33 @@ fn take_in(
     Ok(())
 }
 
+/// Puts a neighbour of a key that was found into the key's group. One that was left waits then.
+fn find(
+    alloc: Global,
+    partition: &mut Partition,
+    left: &mut BTreeSet<Key>,
+    key: Key,
+    other: Key,
+    waiting: &mut VecDeque<Key>,
+) -> Result<(), AllocError>
+    requires apart { IsApart left.old partition.old }
+    requires found { Together (members_of partition.old) key key }
+    requires there { Has left.old other ⊎ Together (members_of partition.old) other other }
+    ensures keys { KeepsKeys partition.old partition.new }
+    ensures finds { OnOk result (Finds key other left.old left.new waiting.old.items
+        waiting.new.items partition.old partition.new) }
+    ensures fewer { length left.new.keys + length waiting.new.items
+        ≤ length left.old.keys + length waiting.old.items }
+{
+    if left.remove(&other) {
+        let head = partition.head(key).unwrap();
+        partition.put(alloc, head, other)?;
+        waiting.push_back(other)?;
+        return Ok(());
+    }
+    partition.join(alloc, key, other)
+}
+
 /// Asks for the neighbours of a key that was found. All but the one that is passed over are found,
 /// and in its group.
 fn ask(
@@ -78,8 +105,7 @@ fn ask(
     let near = index.neighbours(key)?;
     for other in &near {
         if !is_passed(passed, *other) {
-            take_in(alloc, partition, left, *other, waiting)?;
-            partition.join(alloc, key, *other)?;
+            find(alloc, partition, left, key, *other, waiting)?;
         }
     }
     Ok(())

@@ -56,6 +56,18 @@ pub record Takes (other : Key) (left after : BTreeSet Key) (waiting now : List K
   pub later : (q : Key) → Contains now q → Contains waiting q ⊎ (q ≡ other)
   pub count : length after.keys + length now ≡ length left.keys + length waiting
 
+-- a key is in one group with another one that touches it; one that was left waits
+pub record Finds (key other : Key) (left after : BTreeSet Key) (waiting now : List Key)
+    (old new : Partition) : Type 0 where
+  pub goes : GoesOn left after old new
+  pub placed : (cs : Conductors) → IsPlaced cs left old → IsNeighbour (get cs) key other
+      → IsPlaced cs after new
+  pub joined : Together (members_of new) key other
+  pub parts : (q : Key) → Has left q → Has after q ⊎ Contains now q
+  pub first : (q : Key) → Contains waiting q → Contains now q
+  pub later : (q : Key) → Contains now q → Contains waiting q ⊎ (q ≡ other)
+  pub count : length after.keys + length now ≡ length left.keys + length waiting
+
 -- some keys are in one group with a key; those that were left wait
 pub record Asks (cs : Conductors) (key : Key) (Near : Key → Type 0) (left after : BTreeSet Key)
     (waiting now : List Key) (old new : Partition) : Type 0 where
