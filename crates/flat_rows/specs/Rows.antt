@@ -38,6 +38,20 @@ conductor_of parts c = record {
   directive = c.directive;
 }
 
+-- a conductor without names and ports, by its row and the member that it is
+abbrev pub plain_conductor : FlatRow → Option RowMember → NewConductor
+plain_conductor row member = record {
+  instance = row.instance;
+  key = row.key;
+  shape = row.shape;
+  global_names = [];
+  drawn_names = [];
+  member = member;
+  leads_down = None;
+  leads_up = None;
+  directive = row.directive;
+}
+
 -- the part of a member, if there is one, is among the first few
 abbrev pub IsPartOf : ℕ → Option RowMember → Type 0
 IsPartOf count None = Unit {0}

@@ -1,10 +1,10 @@
 // What joins in a project, while its objects are taken in.
 ghost use Rattle.std.specs.Prelude.{◌≡◌, ◌++◌, ◌∷◌, [], IfOk, OnOk, length};
-ghost use Rattle.flat_rows.specs.Rows.{IsPartOf, conductor_of};
+ghost use Rattle.flat_rows.specs.Rows.{IsPartOf, conductor_of, plain_conductor};
 
 use crate::flat::FlatRows;
 use crate::lists::{Lists, push_all};
-use crate::rows::NewConductor;
+use crate::rows::{FlatRow, NewConductor, RowMember};
 use net_list::Package;
 use std::alloc::{AllocError, Global};
 use std::marker::Model;
@@ -36,14 +36,14 @@ impl Model for GrowingRows {
 }
 
 impl GrowingRows {
-    /// Nothing, with room for this many drawn conductors.
+    /// Nothing, with room for this many drawn conductors, and for as many parts.
     pub fn with_room(alloc: Global, count: usize) -> Result<GrowingRows, AllocError>
         ensures parts { IfOk result (λ g. g.parts ≡ []) }
         ensures drawn { IfOk result (λ g. g.drawn ≡ []) }
         ensures hidden { IfOk result (λ g. g.hidden ≡ []) }
     {
         Ok(GrowingRows {
-            parts: Vec::new(alloc),
+            parts: Vec::with_capacity(alloc, count)?,
             drawn: Lists::with_room(alloc, count)?,
             hidden: Vec::new(alloc),
         })
@@ -70,6 +70,22 @@ impl GrowingRows {
         ensures hidden { OnOk result (self.new.hidden ≡ self.old.hidden) }
     {
         if let Err(error) = self.drawn.push(conductor) {
+            self.drawn.clear();
+            return Err(error);
+        }
+        Ok(())
+    }
+
+    /// Puts a drawn conductor without names and ports behind the others. On want of memory all drawn
+    /// ones are gone.
+    pub fn push_plain(&mut self, row: FlatRow, member: Option<RowMember>) -> Result<(), AllocError>
+        requires { IsPartOf (length self.old.parts) member }
+        ensures parts { OnOk result (self.new.parts ≡ self.old.parts) }
+        ensures drawn { OnOk result (self.new.drawn
+            ≡ self.old.drawn ++ conductor_of self.old.parts (plain_conductor row member) ∷ []) }
+        ensures hidden { OnOk result (self.new.hidden ≡ self.old.hidden) }
+    {
+        if let Err(error) = self.drawn.push_plain(row, member) {
             self.drawn.clear();
             return Err(error);
         }

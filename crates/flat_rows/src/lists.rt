@@ -2,6 +2,7 @@
 ghost use Rattle.std.specs.Prelude.{◌≡◌, ◌++◌, ◌∷◌, [], List, ℕ, IfOk, OnOk, length};
 ghost use Rattle.std.specs.Option.{option_to_list};
 ghost use Rattle.flat_rows.specs.Keyed.{keyed_at};
+ghost use Rattle.flat_rows.specs.Rows.{plain_conductor};
 ghost use Rattle.flat_rows.specs.declared.rows.NewConductor.{NewConductor};
 ghost use Rattle.flat_rows.specs.steps.Lists.{AreListsOf};
 
@@ -97,6 +98,18 @@ impl Lists {
             shape,
             directive,
         })?;
+        Ok(())
+    }
+
+    /// Puts a conductor without names and ports behind the others. On want of memory only a part of
+    /// it may be there.
+    pub fn push_plain(&mut self, row: FlatRow, member: Option<RowMember>) -> Result<(), AllocError>
+        ensures { OnOk result ((cs : List NewConductor) → AreListsOf self.old cs
+            → AreListsOf self.new (cs ++ plain_conductor row member ∷ [])) }
+    {
+        let place = self.rows.len();
+        put(&mut self.members, member, place)?;
+        self.rows.push(row)?;
         Ok(())
     }
 

@@ -1,12 +1,12 @@
 -- Pins of parts at places, as the pins of components in their roles.
-use Rattle.std.proofs.Common.{◌≡◌, ℕ, List, [], ◌∷◌, ◌++◌, Option, None, Some, length, refl}
+use Rattle.std.proofs.Common.{◌≡◌, ◌∙◌, ℕ, Bool, false, List, [], ◌∷◌, ◌++◌, Option, None, Some, length, refl, sym, ap}
 use Rattle.std.specs.Option.{option_map}
 use Rattle.pin_place.specs.declared.pins.PlacedPin.{PlacedPin}
 use Rattle.net_list.specs.declared.package.Package.{Package}
-use Rattle.flat_rows.specs.Rows.{IsPartOf, conductor_of, member_of, refdes_at}
-use Rattle.flat_sheets.specs.Conductors.{member_under, pin_conductor}
+use Rattle.flat_rows.specs.Rows.{IsPartOf, conductor_of, member_of, plain_conductor, refdes_at}
+use Rattle.flat_sheets.specs.Conductors.{member_under, pin_conductor, pins_below}
 use Rattle.flat_sheets.specs.declared.conductors.PartRole.{PartRole}
-use Rattle.flat_sheets.specs.steps.PartRoles.{IsPlaceOf, new_pin, role_in, row_member}
+use Rattle.flat_sheets.specs.steps.PartRoles.{IsPlaceOf, IsPlainPin, new_pin, pin_row, role_in, row_member}
 
 -- the last part has its refdes
 pub refdes_last : (parts : List Package) (part : Package) → refdes_at (parts ++ part ∷ []) (length parts) ≡ part.refdes
@@ -36,5 +36,30 @@ new_pin_is parts place id role pin =
       member = member i;
       leads_down = made.leads_down;
       leads_up = made.leads_up;
+      directive = made.directive;
+    }
+
+no_pins_below : (place id : ℕ) (label : Option (List ℕ)) → pins_below place id false label ≡ None
+no_pins_below place id None = refl
+no_pins_below place id (Some label) = refl
+
+-- one without names and ports too
+pub plain_pin_is : (parts : List Package) (place id : ℕ) (role : PartRole) (pin : PlacedPin) → IsPlainPin role pin
+    → conductor_of parts (plain_conductor (pin_row place id role pin) (option_map (row_member pin) role.part)) ≡ pin_conductor place id (role_in parts role) pin
+plain_pin_is parts place id role pin plain =
+    let member = member_is parts pin role.part in
+    let nets : [] ≡ pin.nets = sym plain.nets in
+    let down : None ≡ pins_below place id role.leads_down pin.label = sym (ap (λ (b : Bool). pins_below place id b pin.label) plain.down ∙ no_pins_below place id pin.label) in
+    let up : None ≡ role.leads_up = sym plain.up in
+    let made = pin_conductor place id (role_in parts role) pin in
+    λ i. record {
+      instance = made.instance;
+      key = made.key;
+      shape = made.shape;
+      global_names = nets i;
+      drawn_names = made.drawn_names;
+      member = member i;
+      leads_down = down i;
+      leads_up = up i;
       directive = made.directive;
     }

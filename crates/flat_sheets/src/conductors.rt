@@ -1,16 +1,17 @@
 // What joins of each object in an instance of its sheet.
-ghost use Rattle.std.specs.Prelude.{◌≡◌, ◌++◌, ◌∷◌, [], IfOk, OnOk, length, option_copied};
+ghost use Rattle.std.specs.Prelude.{◌≡◌, ◌++◌, ◌∷◌, [], IfOk, IsTrue, OnOk, length, option_copied};
 ghost use Rattle.std.specs.Prelude.{option_map};
 ghost use Rattle.std.specs.List.{flat_map};
 ghost use Rattle.geda_model.specs.declared.object.Body.TheVariants as bodies;
 ghost use Rattle.geda_geom.specs.declared.conductor.Conductor.TheVariants.{End};
 ghost use Rattle.flat_sheets.specs.Conductors.{pin_conductor, pins_below};
 ghost use Rattle.flat_sheets.specs.steps.ObjectContents.{drawn_of_shape, drawn_pin, hidden_pin};
-ghost use Rattle.flat_sheets.specs.steps.PartRoles.{IsPlaceOf, new_pin, role_in, row_member};
+ghost use Rattle.flat_sheets.specs.steps.PartRoles.{IsPlaceOf, IsPlainPin, new_pin, pin_row};
+ghost use Rattle.flat_sheets.specs.steps.PartRoles.{role_in, row_member, segment_with};
 
 use crate::texts::names_under;
 use attr_rules::{PinKind, attrs_of};
-use flat_rows::{GrowingRows, NewConductor, PortPins, RowMember};
+use flat_rows::{FlatRow, GrowingRows, NewConductor, PortPins, RowMember};
 use geda_geom::{Conductor, Key, Point};
 use geda_model::{Block, Items, Shape, Word};
 use instance_objects::InstanceObject;
@@ -96,6 +97,53 @@ fn new_pin(
     })
 }
 
+/// Whether a pin of a component in this role has neither names nor ports, as most have none.
+fn is_plain_pin(role: &PartRole, pin: &PlacedPin) -> bool
+    ensures { IsTrue result → IsPlainPin role.now pin.now }
+{
+    if role.leads_down {
+        return false;
+    }
+    if role.leads_up.is_some() {
+        return false;
+    }
+    pin.nets.len() == 0
+}
+
+fn pin_row(place: usize, id: u32, role: &PartRole, pin: &PlacedPin) -> FlatRow
+    ensures { result ≡ pin_row place id role.now pin.now }
+{
+    FlatRow {
+        instance: place,
+        key: Key {
+            id,
+            place: pin.place,
+        },
+        shape: end_of(pin.end),
+        directive: role.directive,
+    }
+}
+
+fn push_plain_pin(
+    rows: &mut GrowingRows,
+    place: usize,
+    id: u32,
+    role: &PartRole,
+    pin: PlacedPin,
+) -> Result<(), AllocError>
+    requires part { IsPlaceOf (length rows.old.parts) role.now.part }
+    requires plain { IsPlainPin role.now pin }
+    ensures parts { OnOk result (rows.new.parts ≡ rows.old.parts) }
+    ensures drawn { OnOk result (rows.new.drawn ≡ rows.old.drawn
+        ++ pin_conductor place id (role_in rows.old.parts role.now) pin ∷ []) }
+    ensures hidden { OnOk result (rows.new.hidden ≡ rows.old.hidden) }
+{
+    let row = pin_row(place, id, role, &pin);
+    let member = row_member(role.part, pin.number, pin.kind);
+    rows.push_plain(row, member)?;
+    Ok(())
+}
+
 fn push_drawn_pin(
     rows: &mut GrowingRows,
     alloc: Global,
@@ -150,6 +198,10 @@ fn push_pin(
         ++ hidden_pin place id (role_in rows.old.parts role.now) pin) }
 {
     if pin.end.is_some() {
+        if is_plain_pin(role, &pin) {
+            push_plain_pin(rows, place, id, role, pin)?;
+            return Ok(());
+        }
         push_drawn_pin(rows, alloc, place, id, role, pin)?;
         return Ok(());
     }
@@ -182,6 +234,45 @@ pub fn push_pins(
     Ok(())
 }
 
+/// Takes in a segment with these names.
+fn push_segment(
+    rows: &mut GrowingRows,
+    alloc: Global,
+    place: usize,
+    id: u32,
+    segment: Conductor,
+    names: Vec<Block>,
+) -> Result<(), AllocError>
+    ensures parts { OnOk result (rows.new.parts ≡ rows.old.parts) }
+    ensures drawn { OnOk result
+        (rows.new.drawn ≡ rows.old.drawn ++ segment_with place id segment names.items ∷ []) }
+    ensures hidden { OnOk result (rows.new.hidden ≡ rows.old.hidden) }
+{
+    let key = Key { id, place: 0 };
+    if names.is_empty() {
+        let row = FlatRow {
+            instance: place,
+            key,
+            shape: Some(segment),
+            directive: false,
+        };
+        rows.push_plain(row, None)?;
+        return Ok(());
+    }
+    rows.push_drawn(NewConductor {
+        instance: place,
+        key,
+        shape: Some(segment),
+        global_names: Items::from_vec(Vec::new(alloc)),
+        drawn_names: Items::from_vec(names),
+        member: None,
+        leads_down: None,
+        leads_up: None,
+        directive: false,
+    })?;
+    Ok(())
+}
+
 /// Takes in an object that is this shape: a net segment joins, with its attached `netname`s as they
 /// print in its instance; no other shape does.
 pub fn push_shape(
@@ -202,20 +293,8 @@ pub fn push_shape(
             let printed = names_under(alloc, &found.instance().path, names.into_vec())?;
             let a = Point { x: *x1, y: *y1 };
             let b = Point { x: *x2, y: *y2 };
-            rows.push_drawn(NewConductor {
-                instance: found.place(),
-                key: Key {
-                    id: found.id(),
-                    place: 0,
-                },
-                shape: Some(Conductor::Segment { a, b }),
-                global_names: Items::from_vec(Vec::new(alloc)),
-                drawn_names: Items::from_vec(printed),
-                member: None,
-                leads_down: None,
-                leads_up: None,
-                directive: false,
-            })?;
+            let segment = Conductor::Segment { a, b };
+            push_segment(rows, alloc, found.place(), found.id(), segment, printed)?;
             Ok(())
         }
         _ => Ok(()),

@@ -16,7 +16,7 @@ use flat_rows::GrowingRows;
 use geda_model::{Body, Component};
 use instance_objects::{InstanceObject, InstanceObjects, Occurrence};
 use std::alloc::{AllocError, Global};
-use symbol_tables::SymbolTables;
+use symbol_tables::{SymbolTables, ValuedPins};
 
 fn take_component<'a>(
     rows: &mut GrowingRows,
@@ -35,9 +35,8 @@ fn take_component<'a>(
         ≡ rows.old.parts ++ option_to_list (part_of_component found.now.project found.now.flat)) }
     ensures kept { tables.new ≡ tables.old }
 {
-    let values = tables.values_of(alloc, found.object())?;
+    let ValuedPins { values, pins } = tables.valued_pins_of(alloc, found.object())?;
     let role = role_of(alloc, found, component, &values)?;
-    let pins = tables.pins_of(alloc, found.object())?;
     let listed = listed_role(rows, alloc, &values, role)?;
     push_pins(rows, alloc, found.place(), found.id(), &listed, pins)?;
     Ok(())

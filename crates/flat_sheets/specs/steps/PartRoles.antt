@@ -1,10 +1,13 @@
 -- Steps of the code; no public clause cites them.
 -- Roles of components by the places of their parts, and pins as they are put into rows.
-use Rattle.std.specs.Prelude.{ℕ, ◌<◌, List, [], Option, None, Some, option_map}
+use Rattle.std.specs.Prelude.{◌≡◌, ℕ, ◌<◌, false, List, [], Option, None, Some, option_map}
+use Rattle.geda_geom.specs.declared.conductor.Conductor.{Conductor}
 use Rattle.geda_geom.specs.declared.conductor.Conductor.TheVariants.{End}
 use Rattle.pin_place.specs.declared.pins.PlacedPin.{PlacedPin}
 use Rattle.net_list.specs.declared.package.Package.{Package}
+use Rattle.flat_rows.specs.Conductors.{FlatConductor}
 use Rattle.flat_rows.specs.Rows.{refdes_at}
+use Rattle.flat_rows.specs.declared.rows.FlatRow.{FlatRow}
 use Rattle.flat_rows.specs.declared.rows.NewConductor.{NewConductor}
 use Rattle.flat_rows.specs.declared.rows.RowMember.{RowMember}
 use Rattle.flat_sheets.specs.Conductors.{RoleData, pins_below}
@@ -40,4 +43,33 @@ new_pin place id role pin = record {
   leads_down = pins_below place id role.leads_down pin.label;
   leads_up = role.leads_up;
   directive = role.directive;
+}
+
+-- what a row keeps of it
+abbrev pub pin_row : ℕ → ℕ → PartRole → PlacedPin → FlatRow
+pin_row place id role pin = record {
+  instance = place;
+  key = record { id = id; place = pin.place };
+  shape = option_map End pin.end;
+  directive = role.directive;
+}
+
+-- it has neither names nor ports
+pub record IsPlainPin (role : PartRole) (pin : PlacedPin) : Type 0 where
+  pub down : role.leads_down ≡ false
+  pub up : role.leads_up ≡ None
+  pub nets : pin.nets ≡ []
+
+-- a segment with these names
+abbrev pub segment_with : ℕ → ℕ → Conductor → List (List ℕ) → FlatConductor
+segment_with place id segment names = record {
+  instance = place;
+  key = record { id = id; place = 0 };
+  shape = Some segment;
+  global_names = [];
+  drawn_names = names;
+  member = None;
+  leads_down = None;
+  leads_up = None;
+  directive = false;
 }

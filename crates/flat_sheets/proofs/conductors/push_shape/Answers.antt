@@ -5,12 +5,12 @@ use mir.Val.{SFits}
 use Rattle.flat_sheets.proofs.ObjectLemmas.{attrs-of_shape}
 use Rattle.flat_sheets.proofs.conductors.push_shape.Goals as goal
 
-pub returns-in_ok-push_drawn-in-Net-clause-drawn : goal.returns-in_ok-push_drawn-in-Net-clause-drawn
-returns-in_ok-push_drawn-in-Net-clause-drawn c =
+pub returns-in_ok-push_segment-in-Net-clause-drawn : goal.returns-in_ok-push_segment-in-Net-clause-drawn
+returns-in_ok-push_segment-in-Net-clause-drawn c =
     let x1 : SFits w32 c.in-Net.x1 = search rules in
     let y1 : SFits w32 c.in-Net.y1 = search rules in
     let x2 : SFits w32 c.in-Net.x2 = search rules in
     let y2 : SFits w32 c.in-Net.y2 = search rules in
-    let items = simp to_z-of_z at c.in_ok-push_drawn-in-Net.ensures.drawn in
+    let items = simp to_z-of_z at c.in_ok-push_segment-in-Net.ensures.drawn in
     let attached = attrs-of_shape (codes "netname") c.args.found.now.flat.object c.args.shape.now c.requires.body in
-    rw (items, c.place.ensures, c.id.ensures, c.from_vec.ensures, c.new.ensures.items, c.from_vec-in-Net.ensures, c.in_ok-printed-in-Net.ensures, c.into_vec.ensures, c.in_ok-names-in-Net.ensures, c.object.ensures, c.instance.ensures, attached, c.in-Net.is) refl
+    rw (items, c.place.ensures, c.id.ensures, c.in_ok-printed-in-Net.ensures, c.into_vec.ensures, c.in_ok-names-in-Net.ensures, c.object.ensures, c.instance.ensures, attached, c.in-Net.is) refl

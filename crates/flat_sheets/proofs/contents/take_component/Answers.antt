@@ -16,7 +16,7 @@ returns-clause-parts c =
     let p = c.args.found.now.project in
     let o = c.args.found.now.flat.object in
     let library = library_of p o in
-    let v = c.in_ok-values.values in
+    let v = c.in_ok-values.field-0.values in
     let is : v ≡ values_of o library = c.in_ok-values.ensures.values
     ∙ ap (λ (o : ObjectData). values_of o (library_of c.args.tables.now o)) c.object.ensures
     ∙ ap (λ (q : ProjectData). values_of o (library_of q o)) c.requires.same in
