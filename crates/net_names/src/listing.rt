@@ -42,6 +42,7 @@ pub fn nets_by(
         unconnected,
     } = nameless_classes(alloc, &classes)?;
     let mut nets = listed(alloc, named)?;
+    nets.reserve_exact(unnamed.len().saturating_add(unconnected.len()))?;
     let global = flat.global_names();
     let drawn = flat.drawn_names();
     // Each of these counts is below 2^63, so that all names can be counted.

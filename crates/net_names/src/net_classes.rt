@@ -3,7 +3,7 @@ ghost use Rattle.std.specs.Prelude.{◌≡◌, ◌<◌, ◌++◌, ℕ, List, All
 ghost use Rattle.std.specs.Prelude.{slice_get, slice_index};
 ghost use Rattle.std.specs.Ordering.{eq_by_cmp};
 ghost use Rattle.geda_defs.specs.Order.{by_bytes};
-ghost use Rattle.rank_order.specs.Chains.{IsWalk};
+ghost use Rattle.rank_order.specs.Chains.{IsWalk, Rises};
 ghost use Rattle.rank_order.specs.Keys.{AreRanks};
 ghost use Rattle.flat_rows.specs.Conductors.{FlatConductor};
 ghost use Rattle.net_names.specs.NetClasses.{by_member, labelled_from, net_class_of};
@@ -128,6 +128,19 @@ fn push_new(
     Ok(())
 }
 
+/// How many places a chain has.
+fn chain_len(nexts: &[usize], head: usize) -> usize
+    requires { Rises nexts.now }
+{
+    let mut count: usize = 0;
+    let mut at = head;
+    while at < nexts.len() {
+        count = count.saturating_add(1);
+        at = nexts[at];
+    }
+    count
+}
+
 /// The members of a chain of pins, in order; of several that print alike the first.
 fn members(
     alloc: Global,
@@ -141,7 +154,7 @@ fn members(
         → members ≡ map (λ p. p.member)
         (news (eq_by_cmp by_member) None (walk_pins pins.now places.now walk))) }
 {
-    let mut members = Vec::new(alloc);
+    let mut members = Vec::with_capacity(alloc, chain_len(nexts, head))?;
     let mut last = pins.len();
     let mut at = head;
     while at < nexts.len() {

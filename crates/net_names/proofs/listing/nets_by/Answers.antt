@@ -17,7 +17,7 @@ returns-clause-nets c =
     c.in_ok-unnamed.field-0.unnamed.items c.in_ok-unnamed.field-0.unconnected.items
     classes.len classes.met taken alone (c.in_ok-made.ensures conductors labels classes) (c.in_ok-nets.ensures ∙ c.in_ok-named.ensures)
     (c.in_ok-unnamed.ensures.unnamed conductors labels classes) (c.in_ok-unnamed.ensures.unconnected conductors labels classes)
-    c.in_ok-number_classes.ensures c.in_ok-number_classes-2.ensures
+    (rw c.in_ok-reserve_exact.ensures.items at c.in_ok-number_classes.ensures) c.in_ok-number_classes-2.ensures
 
 pub returns-clause-countable : goal.returns-clause-countable
 returns-clause-countable c =

@@ -5,7 +5,7 @@ use Rattle.net_names.proofs.PinLemmas.{news_done, news_more, news_start}
 use Rattle.net_names.proofs.net_classes.members.Goals as goal
 
 pub loop-at-init : goal.loop-at-init
-loop-at-init c = rw c.new-members.ensures.items (news_start (eq_by_cmp by_member) c.args.pins.now c.args.places.now c.args.nexts.now c.args.head)
+loop-at-init c = rw c.in_ok-members.ensures.items (news_start (eq_by_cmp by_member) c.args.pins.now c.args.places.now c.args.nexts.now c.args.head)
 
 pub loop-at-preserved : goal.loop-at-preserved
 loop-at-preserved c =
