@@ -1,4 +1,5 @@
 pub mod PairLemmas
 pub mod SetLemmas
+pub mod KeyLemmas
 pub mod AlikeLemmas
 pub mod PlainLemmas

@@ -11,19 +11,14 @@ use Rattle.std.proofs.lemmas.Map.Text.{is_eq-slice_cmp}
 use Rattle.std.proofs.lemmas.Bool.{and_parts}
 use Rattle.geda_defs.proofs.Bytes.{bytes_same}
 use Rattle.text_tallies.specs.PairSets.{PairData, by_pair, same_pair}
-use Rattle.text_tallies.specs.steps.SetSteps.{Adds, AddsIfSeen}
-use Rattle.text_tallies.proofs.PairLemmas.{and_false, any_same, or_false}
+use Rattle.text_tallies.specs.steps.SetSteps.{Adds}
+use Rattle.text_tallies.proofs.PairLemmas.{or_false}
 
 or_true : (b : Bool) → (b || true) ≡ true
 or_true true = refl
 or_true false = refl
 
 module _ {K : Type 0} {cmp : K → K → Ordering} (o : IsTotalOrder cmp) where
-  -- a set has both of two keys that compare as equal, or none
-  alike : (q k : K) → eq_by_cmp cmp q k ≡ true → (s : BTreeSet K) → contains cmp s q ≡ contains cmp s k
-  alike q k e s =
-      any_same (eq_by_cmp cmp q) (eq_by_cmp cmp k) (λ x. (eq_by_cmp_equiv o).congr q k x e) s.keys
-
   -- an insertion adds
   pub adds : (key : K) (old new : BTreeSet K) → Updates cmp old new key true → Adds cmp key old new
   adds key old new updates q = updates.0 q ∙ rw ((eq_by_cmp_equiv o).symm key q) (by (eq_by_cmp cmp q key))
@@ -31,16 +26,6 @@ module _ {K : Type 0} {cmp : K → K → Ordering} (o : IsTotalOrder cmp) where
       by : (b : Bool) → cond b true (contains cmp old q) ≡ (contains cmp old q || b)
       by true = sym (or_true (contains cmp old q))
       by false = sym (or_false (contains cmp old q))
-
-  -- a key that was seen is added
-  pub adds_seen : (key : K) (seen old new : BTreeSet K) → contains cmp seen key ≡ true
-      → Updates cmp old new key true → AddsIfSeen cmp key seen old new
-  adds_seen key seen old new met updates q = adds key old new updates q ∙ by (eq_by_cmp cmp q key) refl
-    where
-      by : (b : Bool) → eq_by_cmp cmp q key ≡ b
-          → (contains cmp old q || eq_by_cmp cmp q key) ≡ (contains cmp old q || (contains cmp seen q && eq_by_cmp cmp q key))
-      by true e = rw (alike q key e seen, met) refl
-      by false e = rw (e, and_false (contains cmp seen q)) refl
 
 eq_then : (a b : Ordering) → is_eq (ordering_then a b) ≡ (is_eq a && is_eq b)
 eq_then Less b = refl

@@ -2,5 +2,6 @@
 pub mod PairsFed
 pub mod Twice
 pub mod SetSteps
+pub mod KeySteps
 pub mod FirstNames
 pub mod PlainNames

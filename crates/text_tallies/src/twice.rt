@@ -1,16 +1,17 @@
 // Names and pairs that stand twice in a list.
-ghost use Rattle.std.specs.Prelude.{IfOk, OnOk};
+ghost use Rattle.std.specs.Prelude.{◌≡◌, IfOk, OnOk};
 ghost use Rattle.std.specs.List.{list_any};
 ghost use Rattle.std.specs.Str.{bytes_eq};
 ghost use Rattle.text_tallies.specs.NameSets.{HasNames};
 ghost use Rattle.text_tallies.specs.PairSets.{HasPairs, same_pair};
 ghost use Rattle.text_tallies.specs.TwoOfAList.{two_pass};
-ghost use Rattle.text_tallies.specs.steps.SetSteps.{Adds, AddsIfSeen, HasTwice};
+ghost use Rattle.text_tallies.specs.steps.KeySteps.{AddsName, AddsNameIfSeen, AddsPair};
+ghost use Rattle.text_tallies.specs.steps.KeySteps.{AddsPairIfSeen, name_key};
 
 use crate::pair::PairKey;
 use geda_model::Line;
 use std::alloc::{AllocError, Global};
-use std::collections::BTreeSet;
+use std::collections::{BTreeSet, HashSet};
 
 /// The names of a list, each once.
 pub fn names_once(alloc: Global, names: Vec<Line>) -> Result<BTreeSet<Line>, AllocError>
@@ -20,29 +21,57 @@ pub fn names_once(alloc: Global, names: Vec<Line>) -> Result<BTreeSet<Line>, All
     Ok(set)
 }
 
-fn take_key<K: Ord + Drop>(
-    seen: &mut BTreeSet<K>,
-    twice: &mut BTreeSet<K>,
-    key: K,
-) -> Result<(), AllocError>
-    ensures seen { OnOk result (Adds K.cmp key seen.old seen.new) }
-    ensures twice { OnOk result (AddsIfSeen K.cmp key seen.old twice.old twice.new) }
+/// A name as a pair, with nothing behind it.
+#[tactic(auto, unfolding(crate::specs::steps::KeySteps::name_key))]
+fn name_key(name: &Line) -> PairKey<'_>
+    ensures { result ≡ name_key name.now }
 {
+    PairKey {
+        first: name.as_str(),
+        second: "",
+    }
+}
+
+fn take_name<'a>(
+    seen: &mut HashSet<PairKey<'a>>,
+    twice: &mut BTreeSet<Line>,
+    name: &'a Line,
+) -> Result<(), AllocError>
+    ensures seen { OnOk result (AddsName name.now seen.old seen.new) }
+    ensures twice { OnOk result (AddsNameIfSeen name.now seen.old twice.old twice.new) }
+{
+    let key = name_key(name);
     if seen.contains(&key) {
-        twice.insert(key)?;
+        twice.insert(name.clone()?)?;
         return Ok(());
     }
     seen.insert(key)?;
     Ok(())
 }
 
-fn keys_twice<K: Ord + Drop>(alloc: Global, keys: Vec<K>) -> Result<BTreeSet<K>, AllocError>
-    ensures { IfOk result (HasTwice K.cmp keys.items) }
+fn take_pair<'a>(
+    seen: &mut HashSet<PairKey<'a>>,
+    twice: &mut BTreeSet<PairKey<'a>>,
+    pair: PairKey<'a>,
+) -> Result<(), AllocError>
+    ensures seen { OnOk result (AddsPair pair.entry seen.old seen.new) }
+    ensures twice { OnOk result (AddsPairIfSeen pair.entry seen.old twice.old twice.new) }
 {
-    let mut seen = BTreeSet::new(alloc);
+    if seen.contains(&pair) {
+        twice.insert(pair)?;
+        return Ok(());
+    }
+    seen.insert(pair)?;
+    Ok(())
+}
+
+fn names_twice_in(alloc: Global, names: &[Line]) -> Result<BTreeSet<Line>, AllocError>
+    ensures { IfOk result (HasNames (λ q. two_pass (bytes_eq q) names.now)) }
+{
+    let mut seen = HashSet::with_capacity(alloc, names.len())?;
     let mut twice = BTreeSet::new(alloc);
-    for key in keys {
-        take_key(&mut seen, &mut twice, key)?;
+    for name in names {
+        take_name(&mut seen, &mut twice, name)?;
     }
     Ok(twice)
 }
@@ -51,7 +80,30 @@ fn keys_twice<K: Ord + Drop>(alloc: Global, keys: Vec<K>) -> Result<BTreeSet<K>,
 pub fn names_twice(alloc: Global, names: Vec<Line>) -> Result<BTreeSet<Line>, AllocError>
     ensures { IfOk result (HasNames (λ q. two_pass (bytes_eq q) names.items)) }
 {
-    let twice = keys_twice(alloc, names)?;
+    names_twice_in(alloc, names.as_slice())
+}
+
+/// The same pair, lent once more.
+fn copy_of<'a>(pair: &PairKey<'a>) -> PairKey<'a>
+    ensures { result ≡ pair.now }
+{
+    PairKey {
+        first: pair.first,
+        second: pair.second,
+    }
+}
+
+fn pairs_twice_in<'a>(
+    alloc: Global,
+    pairs: &[PairKey<'a>],
+) -> Result<BTreeSet<PairKey<'a>>, AllocError>
+    ensures { IfOk result (HasPairs (λ q. two_pass (same_pair q) pairs.now)) }
+{
+    let mut seen = HashSet::with_capacity(alloc, pairs.len())?;
+    let mut twice = BTreeSet::new(alloc);
+    for pair in pairs {
+        take_pair(&mut seen, &mut twice, copy_of(pair))?;
+    }
     Ok(twice)
 }
 
@@ -62,6 +114,5 @@ pub fn pairs_twice<'a>(
 ) -> Result<BTreeSet<PairKey<'a>>, AllocError>
     ensures { IfOk result (HasPairs (λ q. two_pass (same_pair q) pairs.entry.items)) }
 {
-    let twice = keys_twice(alloc, pairs)?;
-    Ok(twice)
+    pairs_twice_in(alloc, pairs.as_slice())
 }
