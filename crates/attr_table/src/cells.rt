@@ -1,20 +1,26 @@
 // Cells: which count, which can't be set, and what they set.
-ghost use Rattle.std.specs.Prelude.{◌≡◌, ◌+◌, ◌≤◌, ◌&&◌, if◌then◌else◌, None, false, true, IfOk};
+ghost use Rattle.std.specs.Prelude.{◌≡◌, ◌+◌, ◌≤◌, ◌&&◌, None, false, true, IfOk, OnOk};
 ghost use Rattle.std.specs.Prelude.{is_some, length, not, zip};
-ghost use Rattle.std.specs.List.{list_any};
+ghost use Rattle.std.specs.List.{filter, fold, list_all, list_any};
 ghost use Rattle.std.specs.String.{string_bytes};
+ghost use Rattle.geda_geom.specs.Placing.{IsOnSheet};
 ghost use Rattle.attr_rules.specs.Attributes.{value_if};
 ghost use Rattle.attr_rules.specs.Splits.{split_of};
-ghost use Rattle.edit_attr.specs.Attributes.{attr_line};
+ghost use Rattle.edit_attr.specs.Attributes.{attr_line, place_of};
+ghost use Rattle.edit_attr.specs.FirstPoints.{first_point};
 ghost use Rattle.attr_table.specs.Cells.{can_be_attr, can_be_set, counts, is_bad_cell, is_cr};
-ghost use Rattle.attr_table.specs.Cells.{set_cell, set_cells};
+ghost use Rattle.attr_table.specs.Cells.{set_cell};
 ghost use Rattle.attr_table.specs.TableFaults.{first_column, second_column};
 ghost use Rattle.attr_table.specs.steps.LentTexts.{texts};
+ghost use Rattle.attr_table.specs.steps.Places.{ArePlaces, text_set, texts_set};
 
-use attr_rules::{first_value, split_attr};
-use edit_attr::set_attr;
-use geda_model::{MOST_LINES, Object, line_feeds};
+use crate::places::value_of;
+use attr_rules::split_attr;
+use edit_attr::{first_point, put_attr};
+use geda_geom::Point;
+use geda_model::{MOST_LINES, Object, Text, Texts, line_feeds};
 use std::alloc::{AllocError, Global};
+use std::collections::BTreeMap;
 use std::marker::Model;
 
 /// A field of a record, and the name of its column.
@@ -56,20 +62,34 @@ pub fn cells_of<'a>(
 
 /// Whether a cell counts: it is not empty, and differs from the present value of its name. It takes
 /// no memory.
-fn counts(object: &Object, cell: &Cell<'_>) -> bool
+fn counts(object: &Object, firsts: &BTreeMap<&str, usize>, cell: &Cell<'_>) -> bool
+    requires { ArePlaces object.now.attrs firsts.now }
     ensures { result ≡ counts object.now cell.now }
 {
     if cell.value.is_empty() {
         return false;
     }
-    first_value(object.attrs.as_slice(), cell.name) != Some(cell.value)
+    value_of(object.attrs.as_slice(), firsts, cell.name) != Some(cell.value)
 }
 
-/// Whether one of the cells counts. It takes no memory.
-pub fn has_counting(object: &Object, cells: &[Cell<'_>]) -> bool
-    ensures { result ≡ list_any (counts object.now) cells.now }
+/// The cells that count, where the places of the object's names are known.
+pub fn counting<'a>(
+    alloc: Global,
+    object: &Object,
+    firsts: &BTreeMap<&str, usize>,
+    cells: &[Cell<'a>],
+) -> Result<Vec<Cell<'a>>, AllocError>
+    requires { ArePlaces object.now.attrs firsts.now }
+    ensures { IfOk result (λ counting. counting.items ≡ filter (counts object.now) cells.now) }
 {
-    cells.iter().any(|cell| counts(object, cell))
+    let mut counting = Vec::new(alloc);
+    for cell in cells {
+        if counts(object, firsts, cell) {
+            let Cell { name, value } = *cell;
+            counting.push(Cell { name, value })?;
+        }
+    }
+    Ok(counting)
 }
 
 fn attr_line(alloc: Global, name: &str, value: &str) -> Result<String, AllocError>
@@ -106,10 +126,16 @@ fn can_be_set(alloc: Global, cell: &Cell<'_>) -> Result<bool, AllocError>
     Ok(can_be_attr(cell.name, line.as_str()))
 }
 
-fn is_bad_cell(alloc: Global, object: &Object, cell: &Cell<'_>) -> Result<bool, AllocError>
+fn is_bad_cell(
+    alloc: Global,
+    object: &Object,
+    firsts: &BTreeMap<&str, usize>,
+    cell: &Cell<'_>,
+) -> Result<bool, AllocError>
+    requires { ArePlaces object.now.attrs firsts.now }
     ensures { IfOk result (λ b. b ≡ is_bad_cell object.now cell.now) }
 {
-    if !counts(object, cell) {
+    if !counts(object, firsts, cell) {
         return Ok(false);
     }
     Ok(!can_be_set(alloc, cell)?)
@@ -119,8 +145,10 @@ fn is_bad_cell(alloc: Global, object: &Object, cell: &Cell<'_>) -> Result<bool, 
 pub fn bad_value_column(
     alloc: Global,
     object: &Object,
+    firsts: &BTreeMap<&str, usize>,
     cells: &[Cell<'_>],
 ) -> Result<Option<u32>, AllocError>
+    requires places { ArePlaces object.now.attrs firsts.now }
     requires few { length cells.now + 1 ≤ 4294967295 }
     ensures { IfOk result
         (λ column. column ≡ first_column (is_bad_cell object.now) second_column cells.now) }
@@ -128,46 +156,113 @@ pub fn bad_value_column(
     let mut column = 1;
     for cell in cells {
         column += 1;
-        if is_bad_cell(alloc, object, cell)? {
+        if is_bad_cell(alloc, object, firsts, cell)? {
             return Ok(Some(column));
         }
     }
     Ok(None)
 }
 
-fn set_value(alloc: Global, object: &Object, name: &str, value: &str) -> Result<Object, AllocError>
-    requires { can_be_set (name.now, value.now) ≡ true }
-    ensures { IfOk result (λ made. made ≡ set_cell object.now (name.now, value.now)) }
-{
-    set_attr(alloc, object, name, value)
-}
-
-/// An object after a cell is set, if it counts for another object.
-#[tactic(auto, using(crate::proofs::CellLemmas::can_set))]
-fn set_if_counts(
+/// Puts a value that can be set into the text at the place of its name, or behind the others.
+fn put_value(
     alloc: Global,
-    made: Object,
-    object: &Object,
-    cell: &Cell<'_>,
-) -> Result<Object, AllocError>
-    requires { is_bad_cell object.now cell.now ≡ false }
-    ensures { IfOk result (λ after. after
-        ≡ if counts object.now cell.now then set_cell made cell.now else made) }
+    texts: &mut Vec<Text>,
+    place: Option<usize>,
+    name: &str,
+    value: &str,
+    at: Point,
+) -> Result<(), AllocError>
+    requires good { can_be_set (name.now, value.now) ≡ true }
+    requires at { IsOnSheet at }
+    requires place { place ≡ place_of name.now texts.old.items }
+    ensures { OnOk result
+        (texts.new.items ≡ text_set at texts.old.items (name.now, value.now)) }
 {
-    if counts(object, cell) {
-        return set_value(alloc, &made, cell.name, cell.value);
-    }
-    Ok(made)
+    put_attr(alloc, texts, place, name, value, at)
 }
 
-/// The object after its cells are set that count, from left to right.
-pub fn set_cells(alloc: Global, object: &Object, cells: &[Cell<'_>]) -> Result<Object, AllocError>
-    requires { first_column (is_bad_cell object.now) second_column cells.now ≡ None }
-    ensures { IfOk result (λ made. made ≡ set_cells object.now cells.now) }
+/// Sets a cell among the texts of an object with this first point.
+fn set_cell<'a>(
+    alloc: Global,
+    texts: &mut Vec<Text>,
+    firsts: &mut BTreeMap<&'a str, usize>,
+    cell: &Cell<'a>,
+    at: Point,
+) -> Result<(), AllocError>
+    requires good { can_be_set cell.now ≡ true }
+    requires at { IsOnSheet at }
+    requires places { ArePlaces texts.old.items firsts.old }
+    ensures texts { OnOk result (texts.new.items ≡ text_set at texts.old.items cell.now) }
+    ensures places { OnOk result (ArePlaces texts.new.items firsts.new) }
 {
-    let mut made = object.copy(alloc)?;
-    for cell in cells {
-        made = set_if_counts(alloc, made, object, cell)?;
+    match firsts.get(cell.name).copied() {
+        Some(place) => {
+            put_value(alloc, texts, Some(place), cell.name, cell.value, at)?;
+            Ok(())
+        }
+        None => {
+            firsts.insert(cell.name, texts.len())?;
+            put_value(alloc, texts, None, cell.name, cell.value, at)?;
+            Ok(())
+        }
     }
-    Ok(made)
+}
+
+fn copied(alloc: Global, texts: &[Text]) -> Result<Vec<Text>, AllocError>
+    ensures { IfOk result (λ v. v.items ≡ texts.now) }
+{
+    let mut copies = Vec::new(alloc);
+    for text in texts {
+        copies.push(text.clone()?)?;
+    }
+    Ok(copies)
+}
+
+fn attached(alloc: Global, texts: Vec<Text>) -> Result<Texts, AllocError>
+    ensures { IfOk result (λ v. v ≡ texts.items) }
+{
+    let mut attrs = Texts::new(alloc);
+    for text in texts {
+        attrs.push(text)?;
+    }
+    Ok(attrs)
+}
+
+/// The texts of an object after these cells are set, from left to right, where the places of its
+/// names are known.
+fn texts_set<'a>(
+    alloc: Global,
+    object: &Object,
+    firsts: BTreeMap<&'a str, usize>,
+    cells: &[Cell<'a>],
+) -> Result<Vec<Text>, AllocError>
+    requires places { ArePlaces object.now.attrs firsts }
+    requires good { list_all can_be_set cells.now ≡ true }
+    ensures { IfOk result
+        (λ texts. texts.items ≡ texts_set (first_point object.now.body) object.now.attrs cells.now) }
+{
+    let at = first_point(object);
+    let mut texts = copied(alloc, object.attrs.as_slice())?;
+    let mut firsts = firsts;
+    for cell in cells {
+        set_cell(alloc, &mut texts, &mut firsts, cell, at)?;
+    }
+    Ok(texts)
+}
+
+/// The object after these cells are set.
+pub fn set_cells<'a>(
+    alloc: Global,
+    object: &Object,
+    firsts: BTreeMap<&'a str, usize>,
+    cells: &[Cell<'a>],
+) -> Result<Object, AllocError>
+    requires places { ArePlaces object.now.attrs firsts }
+    requires good { list_all can_be_set cells.now ≡ true }
+    ensures { IfOk result (λ made. made ≡ fold set_cell object.now cells.now) }
+{
+    let texts = texts_set(alloc, object, firsts, cells)?;
+    let body = object.body.clone()?;
+    let attrs = attached(alloc, texts)?;
+    Ok(Object { body, attrs })
 }

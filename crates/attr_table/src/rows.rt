@@ -11,10 +11,11 @@ ghost use Rattle.attr_table.specs.steps.LentTexts.{texts};
 ghost use Rattle.attr_table.specs.steps.Rows.{bad_value_of, faults_after, field_faults_if, has_id};
 ghost use Rattle.attr_table.specs.steps.Rows.{is_refused_id, records_now, row_faults_if};
 
-use crate::cells::{Cell, bad_value_column, cells_of, has_counting, set_cells};
+use crate::cells::{Cell, bad_value_column, cells_of, counting, set_cells};
 use crate::fault::TableFault;
 use crate::fields::texts_of;
 use crate::ids::take_component;
+use crate::places::places_of;
 use csv::ByteRecord;
 use geda_model::{Name, Object};
 use project_model::Project;
@@ -23,24 +24,26 @@ use std::collections::BTreeSet;
 
 /// A component with its cells set, if one of them counts. `BadValue` exactly where one that counts
 /// can't be set.
-fn fill_component(
+fn fill_component<'a>(
     alloc: Global,
     id: u32,
-    object: &Object,
-    cells: &[Cell<'_>],
+    object: &'a Object,
+    cells: &[Cell<'a>],
     row: u32,
 ) -> Result<Option<(u32, Object)>, TableFault>
     requires few { length cells.now + 1 ≤ 4294967295 }
     ensures { Answers (λ o. o) result (bad_value_of row object.now cells.now)
         (if_counts cells.now id object.now) }
 {
-    if let Some(column) = bad_value_column(alloc, object, cells)? {
+    let firsts = places_of(alloc, object.attrs.as_slice())?;
+    if let Some(column) = bad_value_column(alloc, object, &firsts, cells)? {
         return Err(TableFault::BadValue { row, column });
     }
-    if !has_counting(object, cells) {
+    let counting = counting(alloc, object, &firsts, cells)?;
+    if counting.is_empty() {
         return Ok(None);
     }
-    let made = set_cells(alloc, object, cells)?;
+    let made = set_cells(alloc, object, firsts, counting.as_slice())?;
     Ok(Some((id, made)))
 }
 

@@ -1,5 +1,5 @@
 -- Setting and dropping attached attributes (own).
-use Rattle.std.specs.Prelude.{ℕ, pos, Bool, not, if◌then◌else◌, List, [], ◌∷◌, ◌++◌, filter, codes, is_some}
+use Rattle.std.specs.Prelude.{ℕ, suc, pos, Bool, not, if◌then◌else◌, List, [], ◌∷◌, ◌++◌, Option, None, Some, option_map, filter, codes, is_some}
 use Rattle.std.specs.List.{list_any}
 use Rattle.geda_geom.specs.declared.conductor.Point.{Point}
 use Rattle.geda_model.specs.Data.{TextData}
@@ -48,6 +48,11 @@ abbrev pub set_text : List ℕ → List ℕ → Point → List TextData → List
 set_text name content p [] = new_label content p ∷ []
 set_text name content p (t ∷ ts) =
     if is_named name t then with_content content t ∷ ts else t ∷ set_text name content p ts
+
+-- where the first text of the name stands, from 0
+abbrev pub place_of : List ℕ → List TextData → Option ℕ
+place_of name [] = None
+place_of name (t ∷ ts) = if is_named name t then Some 0 else option_map suc (place_of name ts)
 
 -- an object after it gets an attribute, or another value of it
 unfoldable pub with_attr : List ℕ → List ℕ → ObjectData → ObjectData

@@ -1,10 +1,13 @@
 // Setting and dropping attached attributes.
-ghost use Rattle.std.specs.Prelude.{◌≡◌, ◌++◌, IfOk, codes, filter, not};
+ghost use Rattle.std.specs.Prelude.{◌≡◌, ◌<◌, ◌++◌, ◌∷◌, [], IfOk, OnOk, codes, filter, length, not};
+ghost use Rattle.std.specs.Prelude.{get_or, slice_set};
 ghost use Rattle.std.specs.List.{list_any};
 ghost use Rattle.std.specs.String.{string_bytes};
 ghost use Rattle.geda_geom.specs.Placing.{IsOnSheet};
+ghost use Rattle.geda_model.specs.Data.{TextData};
 ghost use Rattle.geda_model.specs.Ranges.{IsContent};
-ghost use Rattle.edit_attr.specs.Attributes.{attr_line, has_attr, is_named, new_label, set_text, with_attr, with_content, without_attr};
+ghost use Rattle.edit_attr.specs.Attributes.{attr_line, has_attr, is_named, new_label, place_of};
+ghost use Rattle.edit_attr.specs.Attributes.{set_text, with_attr, with_content, without_attr};
 
 use crate::points::first_point;
 use attr_rules::split_attr;
@@ -115,6 +118,54 @@ pub fn set_attr(
     let attrs = set_text(alloc, object.attrs.as_slice(), name, line.as_str(), at)?;
     let body = object.body.clone()?;
     Ok(Object { body, attrs })
+}
+
+/// Puts another content into the text at a place.
+fn put_content(
+    alloc: Global,
+    texts: &mut Vec<Text>,
+    place: usize,
+    content: &str,
+) -> Result<(), AllocError>
+    requires content { IsContent content.now }
+    requires place { place < length texts.old.items }
+    ensures { OnOk result ((none : TextData) → texts.new.items ≡ slice_set texts.old.items place
+        (with_content content.now (get_or texts.old.items place none))) }
+{
+    let text = with_content(alloc, &texts[place], content)?;
+    texts[place] = text;
+    Ok(())
+}
+
+/// Sets an attribute among the texts that are attached to an object, as `set_attr` does, where its
+/// first point and the place of the first text of the name are known.
+///
+/// The line can be the content of a text.
+pub fn put_attr(
+    alloc: Global,
+    texts: &mut Vec<Text>,
+    place: Option<usize>,
+    name: &str,
+    value: &str,
+    at: Point,
+) -> Result<(), AllocError>
+    requires content { IsContent (attr_line name.now value.now) }
+    requires at { IsOnSheet at }
+    requires place { place ≡ place_of name.now texts.old.items }
+    ensures { OnOk result (texts.new.items
+        ≡ set_text name.now (attr_line name.now value.now) at texts.old.items) }
+{
+    let line = attr_line(alloc, name, value)?;
+    match place {
+        Some(place) => {
+            put_content(alloc, texts, place, line.as_str())?;
+            Ok(())
+        }
+        None => {
+            texts.push(new_label(alloc, line.as_str(), at)?)?;
+            Ok(())
+        }
+    }
 }
 
 /// The texts that are no attributes of a name.

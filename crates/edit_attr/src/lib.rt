@@ -6,5 +6,5 @@
 mod attributes;
 mod points;
 
-pub use attributes::{drop_attr, has_attr, set_attr};
+pub use attributes::{drop_attr, has_attr, put_attr, set_attr};
 pub use points::first_point;
