@@ -3,6 +3,7 @@ pub mod Reading
 mod AskingLemmas
 mod SheetLemmas
 pub mod TextLemmas
+mod BoundLemmas
 mod OpeningLemmas
 mod ProjectLemmas
 pub mod WriteLemmas

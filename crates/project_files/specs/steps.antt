@@ -5,3 +5,4 @@ pub mod Progress
 pub mod Asking
 pub mod Standing
 pub mod Counting
+pub mod Bounds

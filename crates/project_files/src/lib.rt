@@ -10,6 +10,7 @@
 #![tactic(auto)]
 
 mod asking;
+mod bounds;
 mod dir_folder;
 mod fault;
 mod file_reads;
