@@ -4,9 +4,6 @@ ghost use Rattle.std.specs.Prelude.{MatchBool, MatchOption, OnErr, OnOk};
 ghost use Rattle.geda_defs.specs.Causes.{HasCause, HasRisen};
 ghost use Rattle.outside.specs.FailingCalls.{NextFails, after_call, after_fault};
 
-#[cfg(test)]
-mod tests;
-
 use crate::gate::{Gate, GateFault};
 use outside::FailingCalls;
 use std::marker::Model;

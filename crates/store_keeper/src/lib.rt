@@ -5,8 +5,6 @@
 #![tactic(auto)]
 
 mod databases;
-#[cfg(test)]
-mod edges;
 mod keeper;
 
 pub use keeper::StoreKeeper;
