@@ -1,5 +1,5 @@
 #!/usr/bin/env python3
-"""Times a server: edits, replies and starts.
+"""Times a server: edits, replies, starts, and what one client makes all others pay.
 
 Usage:
   serving.py edits [SECONDS]    edits acknowledged a second, by one writer and by eight, each in a
@@ -21,6 +21,18 @@ Usage:
                                 start, the memory at rest, and at most while one and while eight ask
                                 for the check at once; and the addresses, which LimitAS= bounds.
                                 Status 1 where eight take over 1.3 times what one takes, and 64 MiB
+  serving.py crowds [WIRES...]  of a sheet on which so many wires, 4,000 and 16,000, lie on one
+                                another or slant from one point: what it costs that they come, that
+                                an edit elsewhere follows, that one goes, and a start. Status 1 over
+                                half a second of the processor for one of these
+  serving.py writers [PARTS...] an edit each 20 ms on a board of so many parts, 10,000, alone and
+                                beside six who ask for its net list without a pause, with and
+                                without a sync. Status 1 where the median is over 30 ms above that
+                                alone
+  serving.py large [PARTS...]   what a net list of so many parts, 1,000, 5,000 and 10,000, costs of
+                                the processor in a reply, and nginx with a file of the same bytes.
+                                Status 1 over 1.3 times. It is left out where nginx or wrk is not
+                                there
 
 GAFD names the program, else the one that is built; TMPDIR names the disk.
 """
@@ -47,6 +59,8 @@ from served import Served, free_port, new_database, new_store
 from writers import Writer
 
 WRITERS = 8
+# What is measured in costs_to_all.py, and of which counts.
+LIMITED = {"crowds": [4_000, 16_000], "writers": [10_000], "large": [1_000, 5_000, 10_000]}
 # What eight may take of memory beside one who asks alone: a share, and what the workers have of
 # their own, in MiB.
 MOST_OF_ONE, WORKERS_OWN = 1.3, 64
@@ -325,6 +339,10 @@ def main():
         starts(numbers or [10_000, 200_000])
     elif command == "memory":
         return 0 if memories(numbers or [1_000, 10_000]) else 1
+    elif command in LIMITED:
+        import costs_to_all
+
+        return 0 if getattr(costs_to_all, command)(numbers or LIMITED[command]) else 1
     else:
         sys.exit(__doc__)
     return 0
