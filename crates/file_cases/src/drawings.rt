@@ -96,33 +96,55 @@ fn touching(
     Ok(keys)
 }
 
-/// Whether a conductor is one of some, or touches one of them.
-fn is_spanned(drawing: &[Conductor; 25], some: &[Key], key: Key) -> bool {
-    let Some(own) = drawing.get(key.id as usize) else {
-        return false;
-    };
-    for other in some {
-        if *other == key {
+/// Whether a conductor touches one of those that are marked.
+fn touches_marked(drawing: &[Conductor; 25], marked: &[bool; 25], at: u32) -> bool
+    requires { at < 25 }
+{
+    for place in 0..25 {
+        if marked[place] && touches(&drawing[at as usize], &drawing[place]) {
             return true;
-        }
-        if let Some(conductor) = drawing.get(other.id as usize) {
-            if touches(own, conductor) {
-                return true;
-            }
         }
     }
     false
 }
 
-/// Whether all of some keys are wanted, and each that is wanted is one of them, or touches one.
-fn are_spanning(drawing: &[Conductor; 25], some: &[Key], wanted: &[Key]) -> bool {
+/// Marks those that touch a marked one, but for the one at a place and the one that is gone, and
+/// tells whether there were some.
+fn mark_next(drawing: &[Conductor; 25], marked: &mut [bool; 25], at: u32, gone: u32) -> bool {
+    let mut is_more = false;
+    for place in 0..25 {
+        let is_open = place != at && place != gone && !marked[place as usize];
+        if is_open && touches_marked(drawing, marked, place) {
+            marked[place as usize] = true;
+            is_more = true;
+        }
+    }
+    is_more
+}
+
+/// Whether all of some keys are wanted, and a chain of conductors that touch, none of them the one
+/// at a place, leads from one of them to each that is wanted.
+fn are_spanning(
+    drawing: &[Conductor; 25],
+    some: &[Key],
+    wanted: &[Key],
+    at: u32,
+    gone: u32,
+) -> bool {
+    let mut marked = [false; 25];
     for key in some {
-        if !wanted.contains(key) {
+        if !wanted.contains(key) || key.id >= 25 {
             return false;
+        }
+        marked[key.id as usize] = true;
+    }
+    for _ in 0..25 {
+        if !mark_next(drawing, &mut marked, at, gone) {
+            break;
         }
     }
     for key in wanted {
-        if !is_spanned(drawing, some, *key) {
+        if key.id >= 25 || !marked[key.id as usize] {
             return false;
         }
     }
@@ -144,7 +166,7 @@ fn first_wrong(
             let wanted = touching(alloc, drawing, gone, place)?;
             let found = index.neighbours(key(place))?;
             let some = index.spanning_neighbours(key(place))?;
-            if found != wanted || !are_spanning(drawing, &some, &wanted) {
+            if found != wanted || !are_spanning(drawing, &some, &wanted, place, gone) {
                 return Ok(Some(place));
             }
         }
