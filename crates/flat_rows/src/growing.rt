@@ -36,15 +36,15 @@ impl Model for GrowingRows {
 }
 
 impl GrowingRows {
-    /// Nothing, with room for this many drawn conductors, and for as many parts.
-    pub fn with_room(alloc: Global, count: usize) -> Result<GrowingRows, AllocError>
+    /// Nothing, with room for a listed part and three conductors of each of this many objects.
+    pub fn with_room(alloc: Global, objects: usize) -> Result<GrowingRows, AllocError>
         ensures parts { IfOk result (λ g. g.parts ≡ []) }
         ensures drawn { IfOk result (λ g. g.drawn ≡ []) }
         ensures hidden { IfOk result (λ g. g.hidden ≡ []) }
     {
         Ok(GrowingRows {
-            parts: Vec::with_capacity(alloc, count)?,
-            drawn: Lists::with_room(alloc, count)?,
+            parts: Vec::with_capacity(alloc, objects)?,
+            drawn: Lists::with_room(alloc, objects.saturating_mul(3))?,
             hidden: Vec::new(alloc),
         })
     }

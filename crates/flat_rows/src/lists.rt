@@ -56,7 +56,7 @@ fn put<T: Drop>(
 }
 
 impl Lists {
-    /// No conductors, with room for this many.
+    /// No conductors, with room for this many, each with a member.
     pub fn with_room(alloc: Global, count: usize) -> Result<Lists, AllocError>
         ensures { IfOk result (λ lists. AreListsOf lists []) }
     {
@@ -64,7 +64,7 @@ impl Lists {
             rows: Vec::with_capacity(alloc, count)?,
             global_names: Vec::new(alloc),
             drawn_names: Vec::new(alloc),
-            members: Vec::new(alloc),
+            members: Vec::with_capacity(alloc, count)?,
             downs: Vec::new(alloc),
             ups: Vec::new(alloc),
         })
