@@ -13,18 +13,21 @@ use net_list::{Net, NetSort};
 use std::alloc::{AllocError, Global};
 use std::collections::BTreeSet;
 
-// Room for the longer prefix and eight digits, so that most names take one block of memory.
-const NAME_ROOM: usize = 24;
-
-fn numbered_name(alloc: Global, prefix: &str, number: usize) -> Result<NetName, AllocError>
+/// A prefix and a number as a name, by way of a text that is used again for the next one.
+fn numbered_name(
+    alloc: Global,
+    text: &mut String,
+    prefix: &str,
+    number: usize,
+) -> Result<NetName, AllocError>
     ensures { IfOk result (λ name. name ≡ prefix.now ++ decimal number) }
 {
-    let mut text = String::with_capacity(alloc, NAME_ROOM)?;
     let mut digits = Buffer::new();
+    text.clear();
     text.push_str(prefix)?;
     text.push_str(digits.format(number))?;
     Ok(NetName {
-        text: Block::from_string(text),
+        text: Block::new(alloc, text)?,
     })
 }
 
@@ -32,6 +35,7 @@ fn numbered_name(alloc: Global, prefix: &str, number: usize) -> Result<NetName, 
 /// taken out, since no later number has their texts.
 fn free_name(
     alloc: Global,
+    text: &mut String,
     prefix: &str,
     from: usize,
     taken: &mut BTreeSet<NetName>,
@@ -42,10 +46,10 @@ fn free_name(
     ensures name { IfOk result (λ r. r.1 ≡ prefix.now ++ decimal r.0) }
 {
     let mut number = from;
-    let mut name = numbered_name(alloc, prefix, number)?;
+    let mut name = numbered_name(alloc, text, prefix, number)?;
     while taken.remove(&name) {
         number += 1;
-        name = numbered_name(alloc, prefix, number)?;
+        name = numbered_name(alloc, text, prefix, number)?;
     }
     Ok((number, name))
 }
@@ -67,9 +71,11 @@ pub fn number_classes(
     let _ = classes.len();
     let _ = taken.len();
     let mut taken = taken;
+    let mut text = String::new(alloc);
     let mut next = 1;
+    nets.reserve(classes.len())?;
     for class in classes {
-        let (number, name) = free_name(alloc, prefix, next, &mut taken)?;
+        let (number, name) = free_name(alloc, &mut text, prefix, next, &mut taken)?;
         nets.push(net_with(name.text, sort, class))?;
         next = number + 1;
     }
