@@ -66,13 +66,19 @@ fn put_count(alloc: Global, out: &mut Vec<u8>, what: &str, count: usize) -> Resu
     out.extend_from_slice(line.as_bytes())
 }
 
+/// How many bytes most lists with so many packages and nets have at most.
+fn text_room(packages: usize, nets: usize) -> usize {
+    let lines = packages.saturating_add(nets);
+    lines.saturating_mul(32)
+}
+
 /// The list text of a net list (docs/FORMATS.md, "List text").
 pub fn list_text(alloc: Global, nets: &Nets) -> Result<Vec<u8>, AllocError>
     ensures { IfOk result (λ text. text.items ≡ list_text nets.now) }
 {
     let packages = nets.packages.as_slice();
     let list = nets.nets.as_slice();
-    let mut out = Vec::new(alloc);
+    let mut out = Vec::with_capacity(alloc, text_room(packages.len(), list.len()))?;
     put_count(alloc, &mut out, "parts ", packages.len())?;
     put_packages(&mut out, packages)?;
     put_count(alloc, &mut out, "nets ", list.len())?;
