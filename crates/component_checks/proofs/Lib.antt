@@ -4,4 +4,6 @@ pub mod RepeatLemmas
 pub mod SlotLemmas
 pub mod ObjectLemmas
 pub mod ValueLemmas
+pub mod PlanLemmas
+pub mod UnknownLemmas
 pub mod Cases

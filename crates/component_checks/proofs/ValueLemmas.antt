@@ -1,5 +1,5 @@
 -- What a component is to the check, by its first values.
-use Rattle.std.proofs.Common.{◌≡◌, ◌∙◌, ℕ, false, List, [], ◌∷◌, ◌++◌, Option, None, Some, refl, ap}
+use Rattle.std.proofs.Common.{◌≡◌, ◌∙◌, ℕ, false, List, [], ◌∷◌, ◌++◌, Option, None, Some, refl, ap, sym}
 use Rattle.std.specs.Prelude.{All, codes}
 use Rattle.std.specs.List.{list_any, slice_get}
 use Rattle.geda_model.specs.declared.object.Body.TheVariants as bodies
@@ -13,10 +13,11 @@ use Rattle.attr_rules.specs.FirstValues.{ValuesData, says_annotation, values_of}
 use Rattle.attr_rules.proofs.ValueLaws.{annotation_is, refdes_is, sources_is}
 use Rattle.hierarchy.proofs.TextLemmas.{refdes_bytes}
 use Rattle.pin_place.specs.declared.pins.PlacedPin.{PlacedPin}
-use Rattle.pin_place.specs.Pins.{pins_of}
+use Rattle.pin_place.specs.Plans.{SayPlain}
 use Rattle.instance_objects.specs.Occurrences.{FlatObject}
 use Rattle.component_checks.specs.CheckedComponents.{checked_with, is_bad_net}
 use Rattle.component_checks.specs.steps.CheckedValues.{checked_by}
+use Rattle.component_checks.specs.steps.ToldPins.{drawn_of}
 
 -- no first value, attached or inherited, so none at all
 none_at_all : (own others : List (List ℕ)) → slice_get (or_else own others) 0 ≡ None → own ++ others ≡ []
@@ -42,9 +43,13 @@ module _ (o : ObjectData) (library : Option SymbolData) (v : ValuesData) (is : v
   pub annotation_by : (c : ComponentData) → o.body ≡ bodies.Component c → says_annotation v ≡ is_annotation o library
   annotation_by c body = ap says_annotation is ∙ annotation_is o library c body
 
+  -- none is plain
+  pub no_annotation : (c : ComponentData) → o.body ≡ bodies.Component c → (own : ValuesData) → SayPlain own v → is_annotation o library ≡ false
+  no_annotation c body own says = sym (annotation_by c body) ∙ rw (says.graphical, says.directive) refl
+
 -- a component, as the check sees it
 pub checked_by-is : (p : ProjectData) (f : FlatObject) (library : Option SymbolData) (c : ComponentData) → f.object.body ≡ bodies.Component c
-    → (v : ValuesData) → v ≡ values_of f.object library → (pins : List PlacedPin) → pins ≡ pins_of f.object library
+    → (v : ValuesData) → v ≡ values_of f.object library → (pins : List PlacedPin) → pins ≡ drawn_of f.object library
     → checked_by p f c library v pins ≡ checked_with p f.instance f.id f.object c library
 unfolding values_of
 checked_by-is p f library c body v is pins pins_are = rw (is, sources_is f.object library c body, refdes_is f.object library, pins_are) refl

@@ -3,4 +3,5 @@ pub mod Repeats
 pub mod FoundBy
 pub mod SlotRows
 pub mod CheckedObjects
+pub mod ToldPins
 pub mod CheckedValues

@@ -1,19 +1,17 @@
 // What the attributes and the pins of a component say to the check.
-ghost use Rattle.std.specs.Prelude.{List, ℕ, ◌≡◌, All, IfOk, Some, codes, filter, option_copied};
+ghost use Rattle.std.specs.Prelude.{List, ℕ, ◌≡◌, All, IfOk, Some, codes, option_copied};
 ghost use Rattle.std.specs.Prelude.{option_map};
 ghost use Rattle.std.specs.List.{list_any};
 ghost use Rattle.geda_model.specs.Names.{IsLineByte};
 ghost use Rattle.attr_rules.specs.Attributes.{all_attrs, attr};
 ghost use Rattle.attr_rules.specs.Slots.{slot_count};
-ghost use Rattle.pin_place.specs.Pins.{is_drawn};
 ghost use Rattle.instance_objects.specs.Texts.{under};
 ghost use Rattle.component_checks.specs.CheckedComponents.{is_bad_net, slot_fault};
 
 use attr_rules::{NetFault, SlotFault, all_attrs_of, net_entries, short_number, slot_pins_of};
-use geda_model::{Block, Items, Line, Object, Symbol};
+use geda_model::{Block, Line, Object, Symbol};
 use hierarchy::Instance;
 use instance_objects::line_under;
-use pin_place::PlacedPin;
 use std::alloc::{AllocError, Global};
 
 /// The printed refdes of a component that has this refdes, if it has one.
@@ -73,16 +71,6 @@ pub fn has_bad_net(
     }
 }
 
-/// A value that may be there, by itself.
-pub fn copy_of(alloc: Global, value: Option<&str>) -> Result<Option<Block>, AllocError>
-    ensures { IfOk result (λ copy. copy ≡ option_copied value.entry) }
-{
-    match value {
-        Some(value) => Ok(Some(Block::new(alloc, value)?)),
-        None => Ok(None),
-    }
-}
-
 /// Why this value of `slot` gives no pin numbers, if there is one that gives none.
 pub fn slot_fault(
     alloc: Global,
@@ -108,13 +96,4 @@ pub fn slot_count(numslots: Option<&str>) -> Option<u32>
     ensures { result ≡ slot_count (option_copied numslots.entry) }
 {
     short_number(numslots?)
-}
-
-/// The drawn ones of these pins, in their order.
-pub fn drawn_pins(pins: Items<PlacedPin>) -> Vec<PlacedPin>
-    ensures { result.items ≡ filter is_drawn pins }
-{
-    let mut pins = pins.into_vec();
-    pins.retain(|pin| pin.end.is_some());
-    pins
 }

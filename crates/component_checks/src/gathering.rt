@@ -1,5 +1,5 @@
 // A component as the check sees it.
-ghost use Rattle.std.specs.Prelude.{◌≡◌, IfOk, option_copied};
+ghost use Rattle.std.specs.Prelude.{◌≡◌, IfOk, IfSome, None, Some, option_copied};
 ghost use Rattle.geda_model.specs.declared.object.Body.TheVariants as bodies;
 ghost use Rattle.attr_rules.specs.FirstValues.{values_of};
 ghost use Rattle.attr_rules.specs.Libraries.{library_of};
@@ -7,12 +7,13 @@ ghost use Rattle.component_checks.specs.CheckedComponents.{checked_component, ch
 ghost use Rattle.component_checks.specs.CheckedComponents.{has_symbol, is_port_if};
 ghost use Rattle.component_checks.specs.steps.CheckedValues.{checked_by};
 
-use crate::attributes::{copy_of, drawn_pins, has_bad_net, printed_refdes, slot_count, slot_fault};
+use crate::attributes::{has_bad_net, printed_refdes, slot_count, slot_fault};
 use crate::checked::CheckedComponent;
+use crate::drawn_pins::DrawnPins;
 use attr_rules::FirstValues;
-use geda_model::{Body, Component, Items, Symbol};
+use geda_model::{Body, Component, Symbol};
 use instance_objects::InstanceObject;
-use pin_place::PlacedPin;
+use pin_place::{SymbolTable, is_plain};
 use std::alloc::{AllocError, Global};
 use symbol_tables::SymbolTables;
 
@@ -32,45 +33,98 @@ fn is_port_if(found: &InstanceObject<'_>, refdes: Option<&str>) -> bool
     }
 }
 
-/// A component with these first values and pins, as the check sees it.
-fn checked_by(
+/// A component with these first values and drawn pins, as the check sees it.
+fn checked_by<'a>(
     alloc: Global,
-    found: &InstanceObject<'_>,
-    component: &Component,
+    found: &InstanceObject<'a>,
+    component: &'a Component,
     library: Option<&Symbol>,
-    values: &FirstValues<'_>,
-    pins: Items<PlacedPin>,
-) -> Result<CheckedComponent, AllocError>
+    values: &FirstValues<'a>,
+    pins: DrawnPins<'a>,
+) -> Result<CheckedComponent<'a>, AllocError>
     requires { values.now ≡ values_of found.now.flat.object (option_copied library) }
     ensures { IfOk result (λ made. made ≡ checked_by found.now.project found.now.flat
-        component.now (option_copied library.entry) values.now pins) }
+        component.now (option_copied library.entry) values.now pins.entry) }
 {
     let object = found.object();
     let instance = found.instance();
     let refdes = values.refdes_line();
     Ok(CheckedComponent {
-        sheet: instance.sheet.clone()?,
+        sheet: &instance.sheet,
         id: found.id(),
-        basename: component.basename.clone()?,
+        basename: &component.basename,
         has_symbol: has_symbol(component, library),
         refdes: printed_refdes(alloc, instance, refdes)?,
         is_hierarchical: values.has_sources(),
         is_port: is_port_if(found, refdes),
         has_net: values.net.is_some(),
         has_bad_net: has_bad_net(alloc, object, library, values.net)?,
-        slot: copy_of(alloc, values.slot)?,
+        slot: values.slot,
         slot_fault: slot_fault(alloc, object, library, values.slot)?,
         slots: slot_count(values.numslots),
-        pins: drawn_pins(pins),
+        pins,
     })
 }
 
-fn checked_component<'a>(
+/// A component that is neither graphical nor a directive, by the table of its library symbol, where
+/// its pins are kept there.
+fn checked_by_table<'a>(
+    alloc: Global,
+    found: &InstanceObject<'a>,
+    component: &'a Component,
+    table: &SymbolTable<'a>,
+) -> Result<Option<CheckedComponent<'a>>, AllocError>
+    requires body { found.now.flat.object.body ≡ bodies.Component component.now }
+    requires alone { component.now.embedded ≡ None }
+    ensures { IfOk result (λ known. IfSome known (λ made. checked_component found.now.project
+        found.now.flat component.now table.now ≡ Some made)) }
+{
+    let object = found.object();
+    let own = FirstValues::of_texts(object.attrs.as_slice());
+    let values = own.over(table.values());
+    if !is_plain(&own, &values) {
+        return Ok(None);
+    }
+    match table.plan(values.slot) {
+        None => Ok(None),
+        Some(plan) => {
+            let library = table.library();
+            let pins = DrawnPins::by_plan(alloc, object, library, plan)?;
+            let made = checked_by(alloc, found, component, library, &values, pins)?;
+            Ok(Some(made))
+        }
+    }
+}
+
+/// The same by the tables of the library symbols, where one of them is its symbol's.
+fn checked_by_tables<'a>(
+    alloc: Global,
+    tables: &SymbolTables<'a>,
+    found: &InstanceObject<'a>,
+    component: &'a Component,
+) -> Result<Option<CheckedComponent<'a>>, AllocError>
+    requires body { found.now.flat.object.body ≡ bodies.Component component.now }
+    requires same { tables.now ≡ found.now.project }
+    ensures { IfOk result (λ known. IfSome known (λ made. checked_component found.now.project
+        found.now.flat component.now (library_of found.now.project found.now.flat.object)
+        ≡ Some made)) }
+{
+    if component.embedded.is_none() {
+        if let Some(table) = tables.get(component.basename.as_str()) {
+            return checked_by_table(alloc, found, component, table);
+        }
+    }
+    Ok(None)
+}
+
+/// A component as the check sees it, by all its pins; the tables keep them, where its library symbol
+/// gives them.
+fn checked_by_pins<'a>(
     alloc: Global,
     tables: &mut SymbolTables<'a>,
     found: &InstanceObject<'a>,
-    component: &Component,
-) -> Result<Option<CheckedComponent>, AllocError>
+    component: &'a Component,
+) -> Result<Option<CheckedComponent<'a>>, AllocError>
     requires body { found.now.flat.object.body ≡ bodies.Component component.now }
     requires same { tables.old ≡ found.now.project }
     ensures made { IfOk result (λ made. made ≡ checked_component found.now.project
@@ -83,9 +137,29 @@ fn checked_component<'a>(
         return Ok(None);
     }
     let library = tables.library_of(alloc, object)?;
-    let pins = tables.pins_of(alloc, object)?;
+    let all = tables.pins_of(alloc, object)?;
+    let pins = DrawnPins::of(alloc, object, library, all)?;
     let made = checked_by(alloc, found, component, library, &values, pins)?;
     Ok(Some(made))
+}
+
+fn checked_component<'a>(
+    alloc: Global,
+    tables: &mut SymbolTables<'a>,
+    found: &InstanceObject<'a>,
+    component: &'a Component,
+) -> Result<Option<CheckedComponent<'a>>, AllocError>
+    requires body { found.now.flat.object.body ≡ bodies.Component component.now }
+    requires same { tables.old ≡ found.now.project }
+    ensures made { IfOk result (λ made. made ≡ checked_component found.now.project
+        found.now.flat component.now (library_of found.now.project found.now.flat.object)) }
+    ensures kept { tables.new ≡ tables.old }
+{
+    let known = checked_by_tables(alloc, tables, found, component)?;
+    match known {
+        Some(made) => Ok(Some(made)),
+        None => checked_by_pins(alloc, tables, found, component),
+    }
 }
 
 /// An object as the check sees it, if it is a component that is neither graphical nor a directive.
@@ -93,7 +167,7 @@ pub fn checked_object<'a>(
     alloc: Global,
     tables: &mut SymbolTables<'a>,
     found: &InstanceObject<'a>,
-) -> Result<Option<CheckedComponent>, AllocError>
+) -> Result<Option<CheckedComponent<'a>>, AllocError>
     requires same { tables.old ≡ found.now.project }
     ensures made { IfOk result
         (λ made. made ≡ checked_object found.now.project found.now.flat) }

@@ -7,6 +7,7 @@
 
 mod attributes;
 mod checked;
+mod drawn_pins;
 mod gathering;
 mod lists;
 mod on_components;

@@ -15,7 +15,7 @@ fn add_found_on<'a>(
     alloc: Global,
     found: &mut Vec<Finding>,
     repeats: &Repeats<'a>,
-    component: &'a CheckedComponent,
+    component: &'a CheckedComponent<'_>,
 ) -> Result<(), AllocError>
     ensures { OnOk result
         (found.new.items ≡ found.old.items ++ found_by repeats.now component.now) }
@@ -28,7 +28,7 @@ fn add_found_on_each<'a>(
     alloc: Global,
     found: &mut Vec<Finding>,
     repeats: &Repeats<'a>,
-    components: &'a [CheckedComponent],
+    components: &'a [CheckedComponent<'_>],
 ) -> Result<(), AllocError>
     ensures { OnOk result
         (found.new.items ≡ found.old.items ++ flat_map (found_by repeats.now) components.now) }
@@ -44,7 +44,7 @@ fn add_found_on_each<'a>(
 pub fn add_on_components(
     alloc: Global,
     found: &mut Vec<Finding>,
-    components: &[CheckedComponent],
+    components: &[CheckedComponent<'_>],
 ) -> Result<(), AllocError>
     ensures { OnOk result
         (found.new.items ≡ found.old.items ++ found_on_components components.now) }

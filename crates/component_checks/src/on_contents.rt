@@ -1,16 +1,14 @@
 // What is found on the slot, the pins, the symbol and the nets of a component.
-ghost use Rattle.std.specs.Prelude.{◌≡◌, ◌++◌, OnOk};
-ghost use Rattle.std.specs.List.{flat_map};
+ghost use Rattle.std.specs.Prelude.{◌≡◌, ◌++◌, ◌∷◌, [], OnOk, map};
 ghost use Rattle.component_checks.specs.OnComponents.{bad_net, bad_slot, fault_word};
-ghost use Rattle.component_checks.specs.OnComponents.{missing_symbol, unknown_pin};
-ghost use Rattle.component_checks.specs.steps.FoundBy.{found_on_contents};
+ghost use Rattle.component_checks.specs.OnComponents.{missing_symbol, unknown_pins};
+ghost use Rattle.component_checks.specs.steps.FoundBy.{found_on_contents, unknown_at};
 
 use crate::checked::CheckedComponent;
 use crate::parts::{is_listed, refdes_of};
-use attr_rules::{PinKind, SlotFault};
+use attr_rules::SlotFault;
 use drc_findings::{Finding, Rule, add_error, add_warning};
-use pin_matrix::same_kind;
-use pin_place::PlacedPin;
+use geda_model::Word;
 use printed_texts::{numbered_words, pair_words, pin_words};
 use std::alloc::{AllocError, Global};
 
@@ -29,7 +27,7 @@ fn fault_word(fault: SlotFault) -> &'static str
 fn add_bad_slot(
     alloc: Global,
     found: &mut Vec<Finding>,
-    component: &CheckedComponent,
+    component: &CheckedComponent<'_>,
 ) -> Result<(), AllocError>
     ensures { OnOk result (found.new.items ≡ found.old.items ++ bad_slot component.now) }
 {
@@ -45,14 +43,27 @@ fn add_bad_slot(
 fn add_unknown_pin(
     alloc: Global,
     found: &mut Vec<Finding>,
-    component: &CheckedComponent,
-    pin: &PlacedPin,
+    component: &CheckedComponent<'_>,
+    number: &Word,
 ) -> Result<(), AllocError>
-    ensures { OnOk result (found.new.items ≡ found.old.items ++ unknown_pin component.now pin.now) }
+    ensures { OnOk result
+        (found.new.items ≡ found.old.items ++ unknown_at component.now number.now ∷ []) }
 {
-    if is_listed(component) && same_kind(pin.kind, PinKind::Unknown) {
-        let words = pin_words(alloc, refdes_of(component), pin.number.as_str())?;
-        add_warning(found, Rule::UnknownPintype, words)?;
+    let words = pin_words(alloc, refdes_of(component), number.as_str())?;
+    add_warning(found, Rule::UnknownPintype, words)
+}
+
+fn add_unknown_among(
+    alloc: Global,
+    found: &mut Vec<Finding>,
+    component: &CheckedComponent<'_>,
+    numbers: &[Word],
+) -> Result<(), AllocError>
+    ensures { OnOk result
+        (found.new.items ≡ found.old.items ++ map (unknown_at component.now) numbers.now) }
+{
+    for number in numbers {
+        add_unknown_pin(alloc, found, component, number)?;
     }
     Ok(())
 }
@@ -60,22 +71,20 @@ fn add_unknown_pin(
 fn add_unknown_pins(
     alloc: Global,
     found: &mut Vec<Finding>,
-    component: &CheckedComponent,
-    pins: &[PlacedPin],
+    component: &CheckedComponent<'_>,
 ) -> Result<(), AllocError>
-    ensures { OnOk result
-        (found.new.items ≡ found.old.items ++ flat_map (unknown_pin component.now) pins.now) }
+    ensures { OnOk result (found.new.items ≡ found.old.items ++ unknown_pins component.now) }
 {
-    for pin in pins {
-        add_unknown_pin(alloc, found, component, pin)?;
+    if !is_listed(component) {
+        return Ok(());
     }
-    Ok(())
+    add_unknown_among(alloc, found, component, component.pins.unknown())
 }
 
 fn add_missing_symbol(
     alloc: Global,
     found: &mut Vec<Finding>,
-    component: &CheckedComponent,
+    component: &CheckedComponent<'_>,
 ) -> Result<(), AllocError>
     ensures { OnOk result (found.new.items ≡ found.old.items ++ missing_symbol component.now) }
 {
@@ -93,7 +102,7 @@ fn add_missing_symbol(
 fn add_bad_net(
     alloc: Global,
     found: &mut Vec<Finding>,
-    component: &CheckedComponent,
+    component: &CheckedComponent<'_>,
 ) -> Result<(), AllocError>
     ensures { OnOk result (found.new.items ≡ found.old.items ++ bad_net component.now) }
 {
@@ -113,12 +122,12 @@ fn add_bad_net(
 pub fn add_on_contents(
     alloc: Global,
     found: &mut Vec<Finding>,
-    component: &CheckedComponent,
+    component: &CheckedComponent<'_>,
 ) -> Result<(), AllocError>
     ensures { OnOk result (found.new.items ≡ found.old.items ++ found_on_contents component.now) }
 {
     add_bad_slot(alloc, found, component)?;
-    add_unknown_pins(alloc, found, component, component.pins.as_slice())?;
+    add_unknown_pins(alloc, found, component)?;
     add_missing_symbol(alloc, found, component)?;
     add_bad_net(alloc, found, component)
 }

@@ -106,7 +106,7 @@ fn add_on_package(
 pub fn add_on_packages(
     alloc: Global,
     found: &mut Vec<Finding>,
-    components: &[CheckedComponent],
+    components: &[CheckedComponent<'_>],
     packages: &[Package],
 ) -> Result<(), AllocError>
     ensures { OnOk result

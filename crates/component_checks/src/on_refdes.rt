@@ -16,7 +16,7 @@ use std::alloc::{AllocError, Global};
 fn add_unnumbered(
     alloc: Global,
     found: &mut Vec<Finding>,
-    component: &CheckedComponent,
+    component: &CheckedComponent<'_>,
 ) -> Result<(), AllocError>
     ensures { OnOk result (found.new.items ≡ found.old.items ++ unnumbered component.now) }
 {
@@ -27,7 +27,7 @@ fn add_unnumbered(
     Ok(())
 }
 
-fn lacks_refdes(component: &CheckedComponent) -> bool
+fn lacks_refdes(component: &CheckedComponent<'_>) -> bool
     ensures { result ≡ lacks_refdes component.now }
 {
     if component.refdes.is_some() {
@@ -36,13 +36,13 @@ fn lacks_refdes(component: &CheckedComponent) -> bool
     if component.is_hierarchical {
         return true;
     }
-    component.pins.len() != 0 && !component.has_net
+    !component.pins.is_empty() && !component.has_net
 }
 
 fn add_without_refdes(
     alloc: Global,
     found: &mut Vec<Finding>,
-    component: &CheckedComponent,
+    component: &CheckedComponent<'_>,
 ) -> Result<(), AllocError>
     ensures { OnOk result (found.new.items ≡ found.old.items ++ without_refdes component.now) }
 {
@@ -69,7 +69,7 @@ fn clashes(repeats: &Repeats<'_>, refdes: &Line) -> bool
     repeats.whole.contains(refdes)
 }
 
-fn is_duplicate(repeats: &Repeats<'_>, component: &CheckedComponent) -> bool
+fn is_duplicate(repeats: &Repeats<'_>, component: &CheckedComponent<'_>) -> bool
     ensures { result ≡ is_duplicate_by repeats.now component.now }
 {
     if !is_numbered(component) {
@@ -85,7 +85,7 @@ fn add_duplicate(
     alloc: Global,
     found: &mut Vec<Finding>,
     repeats: &Repeats<'_>,
-    component: &CheckedComponent,
+    component: &CheckedComponent<'_>,
 ) -> Result<(), AllocError>
     ensures { OnOk result
         (found.new.items ≡ found.old.items ++ duplicate_by repeats.now component.now) }
@@ -100,7 +100,7 @@ fn add_duplicate(
     Ok(())
 }
 
-fn is_duplicate_slot<'a>(repeats: &Repeats<'a>, component: &'a CheckedComponent) -> bool
+fn is_duplicate_slot<'a>(repeats: &Repeats<'a>, component: &'a CheckedComponent<'_>) -> bool
     ensures { result ≡ is_duplicate_slot_by repeats.now component.now }
 {
     if ends_open(refdes_of(component).as_bytes()) {
@@ -116,7 +116,7 @@ fn add_duplicate_slot<'a>(
     alloc: Global,
     found: &mut Vec<Finding>,
     repeats: &Repeats<'a>,
-    component: &'a CheckedComponent,
+    component: &'a CheckedComponent<'_>,
 ) -> Result<(), AllocError>
     ensures { OnOk result
         (found.new.items ≡ found.old.items ++ duplicate_slot_by repeats.now component.now) }
@@ -134,7 +134,7 @@ pub fn add_on_refdes<'a>(
     alloc: Global,
     found: &mut Vec<Finding>,
     repeats: &Repeats<'a>,
-    component: &'a CheckedComponent,
+    component: &'a CheckedComponent<'_>,
 ) -> Result<(), AllocError>
     ensures { OnOk result
         (found.new.items ≡ found.old.items ++ found_on_refdes repeats.now component.now) }

@@ -6,7 +6,7 @@ ghost use Rattle.component_checks.specs.OnComponents.{refdes_of, slot_of};
 use crate::checked::CheckedComponent;
 
 /// Whether it is a listed part. It takes no memory.
-pub fn is_listed(component: &CheckedComponent) -> bool
+pub fn is_listed(component: &CheckedComponent<'_>) -> bool
     ensures { result ≡ is_listed component.now }
 {
     if component.refdes.is_none() {
@@ -16,7 +16,7 @@ pub fn is_listed(component: &CheckedComponent) -> bool
 }
 
 /// Whether it is a listed part, or has a refdes and sheets below. It takes no memory.
-pub fn is_numbered(component: &CheckedComponent) -> bool
+pub fn is_numbered(component: &CheckedComponent<'_>) -> bool
     ensures { result ≡ is_numbered component.now }
 {
     if component.refdes.is_none() {
@@ -26,14 +26,14 @@ pub fn is_numbered(component: &CheckedComponent) -> bool
 }
 
 /// Whether it has sheets below, or no `slot`. It takes no memory.
-pub fn is_whole(component: &CheckedComponent) -> bool
+pub fn is_whole(component: &CheckedComponent<'_>) -> bool
     ensures { result ≡ is_whole component.now }
 {
     component.is_hierarchical || component.slot.is_none()
 }
 
 /// The printed refdes; empty where there is none. It takes no memory.
-pub fn refdes_of(component: &CheckedComponent) -> &str
+pub fn refdes_of<'a>(component: &'a CheckedComponent<'_>) -> &'a str
     ensures { result.now ≡ refdes_of component.now }
 {
     match &component.refdes {
@@ -43,12 +43,12 @@ pub fn refdes_of(component: &CheckedComponent) -> &str
 }
 
 /// The `slot`; empty where there is none. It takes no memory.
-pub fn slot_of(component: &CheckedComponent) -> &str
+pub fn slot_of<'a>(component: &'a CheckedComponent<'_>) -> &'a str
     ensures { result.now ≡ slot_of component.now }
 {
-    match &component.slot {
+    match component.slot {
         None => "",
-        Some(slot) => slot.as_str(),
+        Some(slot) => slot,
     }
 }
 

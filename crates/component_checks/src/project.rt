@@ -18,7 +18,7 @@ fn checked_at<'a>(
     tables: &mut SymbolTables<'a>,
     objects: &'a InstanceObjects<'_>,
     occurrence: &Occurrence<'_>,
-) -> Result<Option<CheckedComponent>, AllocError>
+) -> Result<Option<CheckedComponent<'a>>, AllocError>
     requires same { tables.old ≡ objects.now }
     ensures made { IfOk result (λ made. made ≡ checked_at objects.now occurrence.now) }
     ensures kept { tables.new ≡ tables.old }
@@ -30,10 +30,10 @@ fn checked_at<'a>(
 }
 
 #[tactic(auto, using(crate::proofs::ListLemmas::push_more))]
-fn components_among(
+fn components_among<'a>(
     alloc: Global,
-    objects: &InstanceObjects<'_>,
-) -> Result<Vec<CheckedComponent>, AllocError>
+    objects: &'a InstanceObjects<'_>,
+) -> Result<Vec<CheckedComponent<'a>>, AllocError>
     ensures { IfOk result (λ components. components.items ≡
         filter_map (checked_at objects.now) (occurrences objects.now)) }
 {
@@ -49,10 +49,10 @@ fn components_among(
 
 /// All components in all instances that are neither graphical nor directives, by route and then by
 /// id.
-pub fn checked_components(
+pub fn checked_components<'a>(
     alloc: Global,
-    objects: &InstanceObjects<'_>,
-) -> Result<Vec<CheckedComponent>, AllocError>
+    objects: &'a InstanceObjects<'_>,
+) -> Result<Vec<CheckedComponent<'a>>, AllocError>
     ensures { IfOk result (λ components. components.items ≡ checked_components objects.now) }
 {
     components_among(alloc, objects)

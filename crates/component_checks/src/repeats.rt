@@ -8,7 +8,7 @@ ghost use Rattle.component_checks.specs.steps.Repeats.{whole_name};
 use crate::checked::CheckedComponent;
 use crate::lists::push_if;
 use crate::parts::{is_listed, is_numbered, is_whole};
-use geda_model::{Block, Line};
+use geda_model::Line;
 use std::alloc::{AllocError, Global};
 use std::collections::BTreeSet;
 use text_tallies::{PairKey, names_once, names_twice, pairs_twice};
@@ -24,7 +24,7 @@ pub struct Repeats<'a> {
     pub slotted: BTreeSet<PairKey<'a>>,
 }
 
-fn numbered_name(component: &CheckedComponent) -> Result<Option<Line>, AllocError>
+fn numbered_name(component: &CheckedComponent<'_>) -> Result<Option<Line>, AllocError>
     ensures { IfOk result (λ name. name ≡ numbered_name component.now) }
 {
     if !is_numbered(component) {
@@ -33,7 +33,7 @@ fn numbered_name(component: &CheckedComponent) -> Result<Option<Line>, AllocErro
     component.refdes.clone()
 }
 
-fn whole_name(component: &CheckedComponent) -> Result<Option<Line>, AllocError>
+fn whole_name(component: &CheckedComponent<'_>) -> Result<Option<Line>, AllocError>
     ensures { IfOk result (λ name. name ≡ whole_name component.now) }
 {
     if !is_whole(component) {
@@ -42,34 +42,37 @@ fn whole_name(component: &CheckedComponent) -> Result<Option<Line>, AllocError>
     numbered_name(component)
 }
 
-fn pair_of<'a>(refdes: &'a Option<Line>, slot: &'a Block) -> Option<PairKey<'a>>
+fn pair_of<'a>(refdes: &'a Option<Line>, slot: &'a str) -> Option<PairKey<'a>>
     ensures { result ≡ pair_of refdes.now slot.now }
 {
     match refdes {
         None => None,
         Some(refdes) => {
             let first = refdes.as_str();
-            let second = slot.as_str();
+            let second = slot;
             Some(PairKey { first, second })
         }
     }
 }
 
 /// The refdes and the slot of a listed part that has one. It takes no memory.
-pub fn slotted_pair(component: &CheckedComponent) -> Option<PairKey<'_>>
+pub fn slotted_pair<'a>(component: &'a CheckedComponent<'_>) -> Option<PairKey<'a>>
     ensures { result ≡ slotted_pair component.now }
 {
     if !is_listed(component) {
         return None;
     }
-    match &component.slot {
+    match component.slot {
         None => None,
         Some(slot) => pair_of(&component.refdes, slot),
     }
 }
 
 #[tactic(auto, using(crate::proofs::ListLemmas::push_more))]
-fn numbered_names(alloc: Global, components: &[CheckedComponent]) -> Result<Vec<Line>, AllocError>
+fn numbered_names(
+    alloc: Global,
+    components: &[CheckedComponent<'_>],
+) -> Result<Vec<Line>, AllocError>
     ensures { IfOk result (λ names. names.items ≡ filter_map numbered_name components.now) }
 {
     let mut names = Vec::new(alloc);
@@ -80,7 +83,7 @@ fn numbered_names(alloc: Global, components: &[CheckedComponent]) -> Result<Vec<
 }
 
 #[tactic(auto, using(crate::proofs::ListLemmas::push_more))]
-fn whole_names(alloc: Global, components: &[CheckedComponent]) -> Result<Vec<Line>, AllocError>
+fn whole_names(alloc: Global, components: &[CheckedComponent<'_>]) -> Result<Vec<Line>, AllocError>
     ensures { IfOk result (λ names. names.items ≡ filter_map whole_name components.now) }
 {
     let mut names = Vec::new(alloc);
@@ -93,7 +96,7 @@ fn whole_names(alloc: Global, components: &[CheckedComponent]) -> Result<Vec<Lin
 #[tactic(auto, using(crate::proofs::ListLemmas::push_more))]
 fn slotted_pairs<'a>(
     alloc: Global,
-    components: &'a [CheckedComponent],
+    components: &'a [CheckedComponent<'_>],
 ) -> Result<Vec<PairKey<'a>>, AllocError>
     ensures { IfOk result (λ pairs. pairs.items ≡ filter_map slotted_pair components.now) }
 {
@@ -107,7 +110,7 @@ fn slotted_pairs<'a>(
 /// What these components have in common.
 pub fn repeats_of<'a>(
     alloc: Global,
-    components: &'a [CheckedComponent],
+    components: &'a [CheckedComponent<'_>],
 ) -> Result<Repeats<'a>, AllocError>
     ensures { IfOk result (AreRepeats components.now) }
 {

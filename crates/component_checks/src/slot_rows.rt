@@ -33,12 +33,12 @@ fn no_slots(alloc: Global) -> PackageSlots
     }
 }
 
-fn slot_value(component: &CheckedComponent) -> Option<u32>
+fn slot_value(component: &CheckedComponent<'_>) -> Option<u32>
     ensures { result ≡ slot_value component.now.slot }
 {
-    match &component.slot {
+    match component.slot {
         None => None,
-        Some(slot) => short_number(slot.as_str()),
+        Some(slot) => short_number(slot),
     }
 }
 
@@ -52,7 +52,7 @@ fn add_number(numbers: &mut BTreeSet<u32>, number: Option<u32>) -> Result<(), Al
 }
 
 fn with_slots_of(
-    component: &CheckedComponent,
+    component: &CheckedComponent<'_>,
     known: PackageSlots,
 ) -> Result<PackageSlots, AllocError>
     ensures count { IfOk result
@@ -73,7 +73,7 @@ fn take_listed(
     alloc: Global,
     rows: &mut BTreeMap<Line, PackageSlots>,
     refdes: &Line,
-    component: &CheckedComponent,
+    component: &CheckedComponent<'_>,
 ) -> Result<(), AllocError>
     ensures { OnOk result (TakesIn refdes.now component.now rows.old rows.new) }
 {
@@ -83,7 +83,7 @@ fn take_listed(
     Ok(())
 }
 
-fn has_no_slots(component: &CheckedComponent) -> bool
+fn has_no_slots(component: &CheckedComponent<'_>) -> bool
     ensures { result ≡ has_no_slots component.now }
 {
     component.slots.is_none() && component.slot.is_none()
@@ -93,7 +93,7 @@ fn has_no_slots(component: &CheckedComponent) -> bool
 fn take_component(
     alloc: Global,
     rows: &mut BTreeMap<Line, PackageSlots>,
-    component: &CheckedComponent,
+    component: &CheckedComponent<'_>,
 ) -> Result<(), AllocError>
     ensures { OnOk result (TakesInIfListed component.now rows.old rows.new) }
 {
@@ -112,7 +112,7 @@ fn take_component(
 /// The slots of packages by refdes.
 pub fn slots_by_refdes(
     alloc: Global,
-    components: &[CheckedComponent],
+    components: &[CheckedComponent<'_>],
 ) -> Result<BTreeMap<Line, PackageSlots>, AllocError>
     ensures { IfOk result (AreSlotsOf components.now) }
 {

@@ -1,6 +1,6 @@
 -- Steps of the code; no public clause cites them.
--- What a component is to the check, by its first values and its pins.
-use Rattle.std.specs.Prelude.{List, Option, codes, filter, is_some, option_map}
+-- What a component is to the check, by its first values and its drawn pins.
+use Rattle.std.specs.Prelude.{List, Option, codes, is_some, option_map}
 use Rattle.std.specs.List.{list_any}
 use Rattle.geda_model.specs.Shapes.{ComponentData}
 use Rattle.geda_model.specs.Sheets.{SymbolData}
@@ -10,13 +10,12 @@ use Rattle.attr_rules.specs.Components.{if_line}
 use Rattle.attr_rules.specs.FirstValues.{ValuesData, says_sources}
 use Rattle.attr_rules.specs.Slots.{slot_count}
 use Rattle.pin_place.specs.declared.pins.PlacedPin.{PlacedPin}
-use Rattle.pin_place.specs.Pins.{is_drawn}
 use Rattle.instance_objects.specs.Occurrences.{FlatObject}
 use Rattle.instance_objects.specs.Texts.{under}
 use Rattle.component_checks.specs.CheckedComponents.{CheckedData, has_symbol, is_bad_net, is_port_if}
 use Rattle.component_checks.specs.CheckedComponents.{slot_fault}
 
--- a component with a library symbol, these first values and these pins, as the check sees it
+-- a component with a library symbol, these first values and these drawn pins, as the check sees it
 abbrev pub checked_by : ProjectData → FlatObject → ComponentData → Option SymbolData → ValuesData
     → List PlacedPin → CheckedData
 checked_by p f c library v pins = record {
@@ -32,5 +31,5 @@ checked_by p f c library v pins = record {
   slot = v.slot;
   slot_fault = slot_fault f.object library v.slot;
   slots = slot_count v.numslots;
-  pins = filter is_drawn pins;
+  pins = pins;
 }

@@ -1,12 +1,12 @@
 -- Steps of the code; no public clause cites them.
 -- What is found on a component by what several components have in common.
 use Rattle.std.specs.Prelude.{ℕ, not, ◌&&◌, Bool, List, ◌++◌, is_some}
-use Rattle.printed_texts.specs.PrintedTexts.{two_words, word}
+use Rattle.printed_texts.specs.PrintedTexts.{pin_words, two_words, word}
 use Rattle.text_tallies.specs.NameSets.{has_name}
 use Rattle.text_tallies.specs.PairSets.{has_pair}
 use Rattle.drc_findings.specs.declared.rule.Rule.TheVariants as drc
 use Rattle.drc_findings.specs.declared.finding.Finding.{Finding}
-use Rattle.drc_findings.specs.Findings.{an_error, found_if}
+use Rattle.drc_findings.specs.Findings.{a_warning, an_error, found_if}
 use Rattle.component_checks.specs.CheckedComponents.{CheckedData}
 use Rattle.component_checks.specs.OnComponents.{bad_net, bad_slot, ends_open, is_listed, is_numbered, missing_symbol, refdes_of, slot_of, unknown_pins, unnumbered, without_refdes}
 use Rattle.component_checks.specs.declared.repeats.Repeats.{Repeats}
@@ -35,6 +35,10 @@ is_duplicate_slot_by repeats c = (is_listed c && is_some c.slot)
 abbrev pub duplicate_slot_by : Repeats → CheckedData → List Finding
 duplicate_slot_by repeats c = found_if (is_duplicate_slot_by repeats c)
     (an_error drc.DuplicateSlot (two_words (word (refdes_of c)) (word (slot_of c))))
+
+-- what is found on a pin of kind unknown, by its number
+abbrev pub unknown_at : CheckedData → List ℕ → Finding
+unknown_at c number = a_warning drc.UnknownPintype (pin_words (refdes_of c) number)
 
 -- what is found on the refdes of a component
 abbrev pub found_on_refdes : Repeats → CheckedData → List Finding

@@ -1,44 +1,7 @@
-use Rattle.std.proofs.Common.{◌≡◌, ◌∙◌, true, false, Option, Some, ap, refl, sym, option_copied}
-use Rattle.geda_model.specs.Sheets.{ObjectData, SymbolData}
-use Rattle.project_model.specs.Projects.{ProjectData}
-use Rattle.attr_rules.specs.Components.{is_annotation}
-use Rattle.attr_rules.specs.FirstValues.{values_of}
-use Rattle.attr_rules.specs.Libraries.{library_of}
-use Rattle.pin_place.specs.Pins.{pins_of}
-use Rattle.component_checks.specs.steps.CheckedValues.{checked_by}
-use Rattle.component_checks.proofs.ValueLemmas.{annotation_by, checked_by-is}
+use Rattle.std.proofs.Common.{sym}
 use Rattle.component_checks.proofs.gathering.checked_component.Goals as goal
 
-pub returns-then-is_annotation-clause-made : goal.returns-then-is_annotation-clause-made
-returns-then-is_annotation-clause-made c =
-    let p = c.args.found.now.project in
-    let o = c.args.found.now.flat.object in
-    let v = c.in_ok-values.values in
-    let is : v ≡ values_of o (library_of p o) = c.in_ok-values.ensures.values
-    ∙ ap (λ (o : ObjectData). values_of o (library_of c.args.tables.now o)) c.object-object.ensures
-    ∙ ap (λ (q : ProjectData). values_of o (library_of q o)) c.requires.same in
-    let yes : is_annotation o (library_of p o) ≡ true = sym (annotation_by o (library_of p o) v is c.args.component.now c.requires.body) ∙ sym c.if-is_annotation.ensures in
-    rw yes refl
-
-pub returns-clause-made : goal.returns-clause-made
-returns-clause-made c =
-    let p = c.args.found.now.project in
-    let f = c.args.found.now.flat in
-    let o = f.object in
-    let v = c.in_ok-values.values in
-    let kept = c.in_ok-values.ensures.kept ∙ c.requires.same in
-    let is : v ≡ values_of o (library_of p o) = c.in_ok-values.ensures.values
-    ∙ ap (λ (o : ObjectData). values_of o (library_of c.args.tables.now o)) c.object-object.ensures
-    ∙ ap (λ (q : ProjectData). values_of o (library_of q o)) c.requires.same in
-    let none : is_annotation o (library_of p o) ≡ false = sym (annotation_by o (library_of p o) v is c.args.component.now c.requires.body) ∙ sym c.if-is_annotation.ensures in
-    let library : option_copied c.in_ok-library.library ≡ library_of p o = c.in_ok-library.ensures
-    ∙ ap (library_of c.values_of.new.self) c.object-object.ensures
-    ∙ ap (λ (q : ProjectData). library_of q o) kept in
-    let pins : c.in_ok-pins.pins ≡ pins_of o (library_of p o) = c.in_ok-pins.ensures.pins
-    ∙ ap (λ (o : ObjectData). pins_of o (library_of c.values_of.new.self o)) c.object-object.ensures
-    ∙ ap (λ (q : ProjectData). pins_of o (library_of q o)) kept in
-    rw none (ap Some (
-    c.in_ok-made.ensures
-    ∙ ap (λ (l : Option SymbolData). checked_by p f c.args.component.now l v c.in_ok-pins.pins) library
-    ∙ checked_by-is p f (library_of p o) c.args.component.now c.requires.body v is c.in_ok-pins.pins pins
-    ))
+pub returns-in-Some-clause-made : goal.returns-in-Some-clause-made
+returns-in-Some-clause-made c =
+    let made = rw c.in-Some.is at c.in_ok-known.ensures in
+    sym made

@@ -1,6 +1,6 @@
 use Rattle.std.proofs.Common.{rules, ◌∙◌, ap, filter}
 use Rattle.std.proofs.lemmas.List.Elements.{filter_from_retain}
-use Rattle.component_checks.proofs.attributes.drawn_pins.Goals as goal
+use Rattle.component_checks.proofs.drawn_pins.drawn_pins.Goals as goal
 use Rattle.pin_place.specs.Pins.{is_drawn}
 
 pub returns : goal.returns
