@@ -1,22 +1,26 @@
 -- Reading goes on: each file is asked for once, so what holds of the files that were read goes on to hold.
-use Rattle.std.proofs.Common.{◌≡◌, ◌≢◌, ℕ, Bool, true, false, true≢false, ◌&&◌, ◌||◌, not, is_some, List, [], ◌∷◌, ◌++◌, Option, Some, None, Result, Ok, Err, Vec, get_or, map, if◌then◌else◌, inl, inr, refl, sym, ap, subst, ◌∙◌}
+use Rattle.std.proofs.Common.{◌≡◌, ◌≢◌, ℕ, codes, length, slice_index, Bool, true, false, true≢false, ◌&&◌, ◌||◌, not, is_some, List, [], ◌∷◌, ◌++◌, Option, Some, None, Result, Ok, Err, Vec, get_or, map, if◌then◌else◌, inl, inr, refl, sym, ap, subst, ◌∙◌}
 use Rattle.std.specs.declared.option.Option.{Option}
 use Rattle.std.specs.Str.{bytes_eq}
-use Rattle.std.specs.List.{find, fold, list_any}
-use Rattle.std.specs.Map.{lookup}
+use Rattle.std.specs.List.{find, fold, list_any, slice_get}
+use Rattle.std.specs.Map.{lookup, lookup_key}
 use Rattle.std.specs.Prelude.{cond, option_and_then, ◌⊎◌}
 use Rattle.std.proofs.lemmas.List.{append_assoc}
 use Rattle.std.proofs.lemmas.List.Folds.{list_any-append}
 use Rattle.std.proofs.lemmas.List.Elements.{All-push}
 use Rattle.geda_defs.specs.Contents.{Files, KeepsFiles, ReadsFile, found_bytes}
 use Rattle.std.specs.declared.alloc.Global.{Global}
-use Rattle.std.proofs.lemmas.Bool.{or_cases, or_parts}
+use Rattle.std.proofs.lemmas.Bool.{le-leb, ne_eqb, or_cases, or_parts}
+use Rattle.std.proofs.lemmas.Map.Made.{lookup_key_passes}
 use Rattle.geda_defs.proofs.Bytes.{bytes_false, bytes_same, bytes_true}
-use Rattle.geda_model.specs.Names.{is_name}
+use Rattle.attr_rules.specs.Attributes.{attr, attrs}
+use Rattle.attr_rules.specs.Components.{is_annotation}
+use Rattle.geda_model.specs.Limits.{most_name_bytes}
+use Rattle.geda_model.specs.Names.{IsName, is_name}
 use Rattle.geda_model.specs.Shapes.{ComponentData}
 use Rattle.geda_model.specs.Sheets.{ObjectData, SymbolData}
 use Rattle.project_files.specs.declared.fault.FileFault.{FileFault}
-use Rattle.project_files.specs.Gathering.{AskedSymbol, Gathered, ProjectFiles, SymbolComesTo, SymbolFileComesTo, SymbolUnless, asked_symbol, has_name, library_read, named_sheets, sources_of, with_sources, with_symbol, with_value}
+use Rattle.project_files.specs.Gathering.{AskedSymbol, Gathered, ProjectFiles, SymbolComesTo, SymbolFileComesTo, SymbolUnless, asked_symbol, has_name, library_read, named_sheets, named_symbol, sources_of, with_sources, with_symbol, with_value}
 use Rattle.project_files.specs.FileReads.{Then}
 use Rattle.project_files.specs.ProjectFiles.{OfSome}
 use Rattle.project_files.specs.steps.Reading.{SymbolFrom, SymbolOf}
@@ -25,7 +29,7 @@ use Rattle.geda_model.specs.declared.object.Body.TheVariants as bodies
 use Rattle.geda_model.specs.declared.shape.Shape.{Shape}
 use Rattle.project_files.specs.ProjectFiles.{with_view}
 use Rattle.project_files.specs.steps.Progress.{AreTold, AskedData, Asks, Fits, Follows, IsAsked, IsFoundOf, IsWaiting, Leads, LeadsOut, Progress, SheetFileData, at, gathered, is_asked_symbol, is_in, with_files}
-use Rattle.project_files.specs.steps.Asking.{AsksComponent, AsksObject, AsksObjects, AsksSymbol, AsksValues, LeavesObjects, component_values, with_values, LeavesValues, symbol_of}
+use Rattle.project_files.specs.steps.Asking.{AsksComponent, AsksNothing, AsksObject, AsksObjects, AsksSymbol, AsksValues, IsKnown, LeavesObjects, LeavesValues, component_values, is_known, symbol_of, with_values}
 
 -- files that stay twice stay
 pub kept_on : (old between now : Option Files) → KeepsFiles old between → KeepsFiles between now → KeepsFiles old now
@@ -417,9 +421,30 @@ pub is_none : {X : Type 0} (o : Option X) → is_some o ≡ false → o ≡ None
 is_none None e = refl
 is_none (Some x) e = absurd (true≢false e)
 
+-- a name passes the test of one
+name_passes : (name : List ℕ) → IsName name → is_name name ≡ true
+name_passes name h =
+    let filled = le-leb 1 (length name) h.filled in
+    let short = le-leb (length name) most_name_bytes h.short in
+    let first = ne_eqb (slice_index name 0) 46 h.first in
+    rw (filled, short, first, h.name_bytes) refl
+
 -- a symbol that was asked for before
 pub symbol_known : (before : AskedData) (name : List ℕ) → is_asked_symbol name before.symbols ≡ true → (known : ProjectFiles) → AsksSymbol before (Some name) known (Ok before)
 symbol_known before name asked known sheets = subst (λ (b : Bool). SymbolUnless b known.symbols (gathered sheets before) name (Ok (gathered sheets before))) (sym asked) refl
+
+-- a symbol that is found under a text: the text is a name
+named_text : (text : List ℕ) → is_name text ≡ true → named_symbol text None ≡ Some text
+named_text text e = rw e refl
+
+pub found_known : (symbols : List AskedSymbol) (text name : List ℕ) (symbol : Option SymbolData) → lookup_key (bytes_eq text) symbols ≡ Some name → IsName name → lookup (bytes_eq text) symbols ≡ Some symbol → IsKnown symbols (named_symbol text None) symbol
+found_known symbols text name symbol key suits found =
+    let same : text ≡ name = bytes_same text name (lookup_key_passes (bytes_eq text) symbols name key) in
+    let named : is_name text ≡ true = name_passes text (subst IsName (sym same) suits) in
+    subst (λ (n : Option (List ℕ)). IsKnown symbols n symbol) (sym (named_text text named)) (record {
+      known = sym (lookup_asked text symbols) ∙ ap is_some found;
+      found = sym (ap (option_and_then (λ (s : Option SymbolData). s)) found) ∙ lookup_symbol text symbols;
+    })
 
 -- what was read of a file, of the files of a folder
 pub found_in : {E : Type 0} (files : Option Files) (name asked : List ℕ) (view : Vec ℕ Global → List ℕ) (found : Option (Vec ℕ Global)) (result : Result (Option (Vec ℕ Global)) E) → asked ≡ name → result ≡ Ok found → ReadsFile files asked view result → OfSome files (λ known. IsFoundOf (found_bytes view found) (known name))
@@ -476,6 +501,27 @@ component_then before mid object values known (Ok now) is first next = λ sheets
     let queue : now.queue ≡ fold (with_value known.sheets) mid.queue (sources_of object (symbol_of mid.symbols (asked_symbol object))) = next.0 ∙ ap (fold (with_value known.sheets) mid.queue) is in
     let symbols = next.1 in
     (Ok (gathered sheets mid), first sheets, λ i. Ok (record { queue = queue i; sheets = sheets; symbols = symbols i }))
+
+symbol_there : (before : AskedData) (name : Option (List ℕ)) → is_known before.symbols name ≡ true → (known : ProjectFiles) → AsksSymbol before name known (Ok before)
+symbol_there before None e known = λ sheets. refl
+symbol_there before (Some name) e known = symbol_known before name e known
+
+pub nothing_asked : (before : AskedData) (object : ObjectData) → AsksNothing before object → (known : ProjectFiles) → AsksComponent before object known (Ok before)
+nothing_asked before object h known =
+    component_then before before object [] known (Ok before) (sym h.sheets) (symbol_there before (asked_symbol object) h.symbol known) (refl, refl)
+
+no_values : (values : List (List ℕ)) → slice_get values 0 ≡ None → values ≡ []
+no_values [] e = refl
+no_values (v ∷ values) e = absurd cc
+
+-- no `source`, no sheets
+pub no_sources : (o : ObjectData) (library : Option SymbolData) → attr o library (codes "source") ≡ None → sources_of o library ≡ []
+unfolding attr
+no_sources o library none = go (is_annotation o library) (no_values (attrs o library (codes "source")) none)
+  where
+    go : (b : Bool) → attrs o library (codes "source") ≡ [] → (if b then [] else attrs o library (codes "source")) ≡ []
+    go true e = refl
+    go false e = e
 
 named_component : (o : ObjectData) (c : ComponentData) (library : Option SymbolData) → o.body ≡ bodies.Component c → named_sheets o library ≡ sources_of o library
 named_component o c library e = rw e refl

@@ -28,7 +28,7 @@ use Rattle.project_files.specs.Measures.{LeavesIds, symbols_text, text_bytes}
 use Rattle.project_files.specs.Opening.{all_objects, found_symbol, has_too_many_objects, is_over_full, library_of, most_project_objects, object_items, opened, opening, sheet_items, sheets_items, symbol_items}
 use Rattle.project_files.specs.steps.Counting.{asked_bytes}
 use Rattle.project_files.specs.steps.Standing.{IsWhole}
-use Rattle.project_files.proofs.OpeningLemmas.{opening_can_apply}
+use Rattle.project_files.proofs.OpeningLemmas.{opening_in_range}
 
 -- a row that is put in or taken out
 row_in_range : (m : FinMap nat_cmp Placed) (id : ℕ) (row : Option Placed) → ((q : ℕ) → IsSome (get m q) → q + 1 < 2 ^ 32) → id + 1 < 2 ^ 32
@@ -135,10 +135,10 @@ is_opened g p is = go (has_too_many_objects g) (is_over_full g) refl is
     go false true few h = absurd cc
     go false false few h = (cc, ltb-false most_project_objects (length (all_objects g)) few)
 
-pub opened_leaves_ids : (g : Gathered) (p : ProjectData) → IsWhole g → Ok p ≡ opened g → LeavesIds p
-opened_leaves_ids g p whole is =
+pub opened_leaves_ids : (g : Gathered) (p : ProjectData) → Ok p ≡ opened g → LeavesIds p
+opened_leaves_ids g p is =
     let made = is_opened g p is in
-    subst LeavesIds (sym made.0) (leaves_put empty_project (opening g) (λ id some. absurd (let none = subst IsSome (get-empty nat_cmp id) some in cc)) (opening_can_apply g whole made.1).in_range)
+    subst LeavesIds (sym made.0) (leaves_put empty_project (opening g) (λ id some. absurd (let none = subst IsSome (get-empty nat_cmp id) some in cc)) (opening_in_range g made.1))
 
 pub opened_symbols : (g : Gathered) (p : ProjectData) → IsWhole g → Ok p ≡ opened g → sum_by asked_bytes g.symbols ≡ symbols_text p
 opened_symbols g p whole is =

@@ -1,11 +1,11 @@
 -- Sums that stay at the end of their type, and limits of them.
-use Rattle.std.proofs.Common.{◌≡◌, ℕ, ◌+◌, ◌-◌, ◌^◌, ◌<◌, ◌≤◌, ◌||◌, Bool, true, false, List, [], ◌∷◌, Some, None, length, min, drop, get_or, refl, sym, ap, ap₂, ◌∙◌, nat_lt, arith}
+use Rattle.std.proofs.Common.{◌≡◌, ℕ, ◌+◌, ◌-◌, ◌^◌, ◌<◌, ◌≤◌, ◌||◌, Bool, true, false, List, [], ◌∷◌, Some, None, length, min, drop, refl, sym, ap, ap₂, ◌∙◌, nat_lt, arith}
 use Rattle.std.specs.List.{filter_map, flat_map, sum_by}
 use Rattle.std.proofs.Math.Nat.{min-eq_left}
 use Rattle.std.proofs.lemmas.Bool.{le-ltb, lt-ltb, ltb-false, ltb-true, ltb_from_iff}
 use Rattle.std.proofs.lemmas.List.{drop_all}
 use Rattle.std.proofs.lemmas.List.Concat.{length-flat_map}
-use Rattle.std.proofs.lemmas.List.Sums.{sum_by-append, sum_by-cons, sum_by-drop_more}
+use Rattle.std.proofs.lemmas.List.Sums.{sum_by-append, sum_by-cons}
 use Rattle.geda_model.specs.Limits.{most_sheets, most_symbols}
 use Rattle.geda_model.specs.Sheets.{SheetData}
 use Rattle.project_files.specs.Gathering.{AskedSymbol, Gathered}
@@ -73,24 +73,11 @@ few_parts g e =
     or_false true b e = absurd cc
     or_false false b e = (refl, e)
 
--- a text within the limit by its bound is not past it
-pub few_by_bound : (g : Gathered) (bound : ℕ) → length g.sheets ≤ 1024 → length (library_of g) ≤ 8192 → min (project_text g) (2 ^ 64 - 1) ≤ bound → bound ≤ 67108864 → false ≡ is_over_full g
-few_by_bound g bound sheets symbols is few =
-    sym (le-ltb 67108864 (min (project_text g) (2 ^ 64 - 1)) (omega (arith, is, few)))
-    ∙ full_by_text g (min (project_text g) (2 ^ 64 - 1)) sheets symbols refl
-
 -- where nothing is left, the bound is whole
 pub whole_bound : {X : Type 0} (f : X → ℕ) (xs : List X) (i bytes all : ℕ) → length xs ≤ i → bytes ≤ 2 ^ 64 - 1 → all ≤ min (bytes + sum_by f (drop i xs)) (2 ^ 64 - 1) → all ≤ bytes
 whole_bound f xs i bytes all end fits e =
     let whole = whole_sum f xs i bytes (min (bytes + sum_by f (drop i xs)) (2 ^ 64 - 1)) end fits refl in
     omega (arith, whole, e)
-
--- one more bound
-pub next_bound : {X : Type 0} (f : X → ℕ) (xs : List X) (i : ℕ) (d : X) (bytes one next all : ℕ) → i < length xs → bytes ≤ 2 ^ 64 - 1 → all ≤ min (bytes + sum_by f (drop i xs)) (2 ^ 64 - 1) → min (f (get_or xs i d)) (2 ^ 64 - 1) ≤ one → next ≡ min (bytes + one) (2 ^ 64 - 1)
-    → all ≤ min (next + sum_by f (drop (i + 1) xs)) (2 ^ 64 - 1)
-next_bound f xs i d bytes one next all within fits e is more =
-    let step = sum_by-drop_more f xs i d within in
-    omega (arith, step, fits, e, is, more)
 
 -- the text of what is gathered by the bounds of its parts
 pub bound_of_parts : (g : Gathered) (sheets : List SheetData) (symbols : List AskedSymbol) (one other kept : ℕ) → sheets ≡ g.sheets → symbols ≡ g.symbols → min (sum_by sheet_bytes sheets) (2 ^ 64 - 1) ≤ one → other ≡ min (sum_by asked_bytes symbols) (2 ^ 64 - 1) → kept ≡ min (one + other) (2 ^ 64 - 1) → min (project_text g) (2 ^ 64 - 1) ≤ kept

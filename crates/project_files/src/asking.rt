@@ -1,18 +1,21 @@
 // What is asked of a folder for the objects of sheets: symbols, and the sheets that they name.
-ghost use Rattle.std.specs.Prelude.{◌≡◌, ◌≤◌, ◌∷◌, [], IfOk, false, option_copied, true};
+ghost use Rattle.std.specs.Prelude.{◌≡◌, ◌≤◌, ◌∷◌, [], IfOk, IfSome, IsTrue, None, false};
+ghost use Rattle.std.specs.Prelude.{option_copied, true};
 ghost use Rattle.geda_defs.specs.Contents.{KeepsFiles};
 ghost use Rattle.geda_model.specs.Names.{is_name};
 ghost use Rattle.outside.specs.Counts.{counts};
-ghost use Rattle.project_files.specs.Gathering.{sources_of};
+ghost use Rattle.project_files.specs.Gathering.{asked_symbol, named_symbol, sources_of};
 ghost use Rattle.project_files.specs.ProjectFiles.{IsFolderAnswer, with_view};
 ghost use Rattle.project_files.specs.steps.Progress.{Asks, TakesNext, is_in};
-ghost use Rattle.project_files.specs.steps.Asking.{AsksComponent, AsksObject, AsksObjects};
-ghost use Rattle.project_files.specs.steps.Asking.{AsksSymbol, AsksValues, symbol_of};
+ghost use Rattle.project_files.specs.steps.Asking.{AsksComponent, AsksNothing, AsksObject};
+ghost use Rattle.project_files.specs.steps.Asking.{AsksObjects, AsksSymbol, AsksValues, IsKnown};
+ghost use Rattle.project_files.specs.steps.Asking.{symbol_of};
 
 use crate::fault::FileFault;
 use crate::file_reads::{asked_symbol, name_of, read_symbol_file};
 use crate::folder::Folder;
-use attr_rules::{attrs_of, is_annotation};
+use crate::symbol_text::SymbolText;
+use attr_rules::{attr_of, attrs_of, is_annotation};
 use geda_model::{Block, Body, Items, Name, Object, Symbol};
 use indexmap::{IndexMap, IndexSet};
 use std::alloc::{AllocError, Global};
@@ -97,6 +100,41 @@ impl Asked {
                 Some(symbol) => symbol.as_ref(),
             },
         }
+    }
+
+    /// The symbol of the name that a text is, where its file was asked for.
+    fn symbol_under(&self, text: &str) -> Option<Option<&Symbol>>
+        ensures { IfSome result (λ library.
+            IsKnown self.now.symbols (named_symbol text.now None) (option_copied library)) }
+    {
+        let (name, symbol) = self.symbols.get_key_value(SymbolText { text })?;
+        // Such a text is a name.
+        let _ = name.as_str();
+        Some(symbol.as_ref())
+    }
+
+    /// The library symbol of an object, where nothing is to be asked for it.
+    fn library_of(&self, object: &Object) -> Option<Option<&Symbol>>
+        ensures { IfSome result (λ library.
+            IsKnown self.now.symbols (asked_symbol object.now) (option_copied library)) }
+    {
+        match &object.body {
+            Body::Shape(_) => Some(None),
+            Body::Component(component) => match &component.embedded {
+                Some(_) => Some(None),
+                None => self.symbol_under(component.basename.as_str()),
+            },
+        }
+    }
+
+    /// Whether a component asks for nothing: its symbol was asked for, and it has no `source`.
+    fn asks_nothing(&self, object: &Object) -> bool
+        ensures { IsTrue result → AsksNothing self.now object.now }
+    {
+        let Some(library) = self.library_of(object) else {
+            return false;
+        };
+        attr_of(object, library, "source").is_none()
     }
 
     /// Reads the file of a symbol, unless it was asked for before.
@@ -227,6 +265,10 @@ impl Asked {
         ensures later { F.faults folder.old ≤ F.faults folder.new }
         ensures files { KeepsFiles (F.files folder.old) (F.files folder.new) }
     {
+        // Most components are asked about no further.
+        if self.asks_nothing(object) {
+            return Ok(());
+        }
         let name = asked_symbol(alloc, object)?;
         self.ask_symbol(alloc, &name, folder)?;
         let values = self.source_values(alloc, object, &name)?;

@@ -20,7 +20,6 @@ use std::alloc::{AllocError, Global};
 /// What was gathered, when no sheet waits.
 fn finish(alloc: Global, asked: Asked, sheets: Vec<Sheet>) -> Result<GatheredFiles, AllocError>
     ensures all { IfOk result (λ g. g ≡ gathered sheets.items asked) }
-    ensures apart { IfOk result (λ g. AllPairs ◌≢◌ g.queue) }
     ensures symbols_apart { IfOk result (λ g.
         AllPairs (λ (a b : AskedSymbol). a.0 ≢ b.0) g.symbols) }
 {

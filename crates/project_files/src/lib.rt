@@ -21,6 +21,7 @@ mod opening;
 mod project;
 mod project_text;
 mod replacing;
+mod symbol_text;
 
 pub use dir_folder::DirFolder;
 pub use fault::FileFault;

@@ -1,31 +1,38 @@
-// The change that opens a project, and the project that it opens.
-ghost use Rattle.std.specs.Prelude.{◌≡◌, ◌+◌, ◌++◌, ◌≤◌, IfOk, OnOk, length};
-ghost use Rattle.std.specs.List.{filter_map, flat_map};
-ghost use Rattle.project_model.specs.Changes.{CanApply, put};
+// The project of what is gathered, put in thing by thing.
+ghost use Rattle.std.specs.Prelude.{◌≡◌, ◌+◌, ◌<◌, ◌≤◌, IfOk, OnOk, length};
+ghost use Rattle.std.specs.List.{filter_map, sum_by};
+ghost use Rattle.geda_model.specs.Limits.{most_sheets, most_symbols};
+ghost use Rattle.project_model.specs.Changes.{put};
 ghost use Rattle.project_model.specs.Projects.{empty_project};
-ghost use Rattle.project_files.specs.Opening.{all_objects, found_symbol, most_project_objects, object_items, opened};
-ghost use Rattle.project_files.specs.Opening.{opening, sheet_items, sheets_items, symbol_items};
-ghost use Rattle.project_files.specs.steps.Standing.{IsWhole};
+ghost use Rattle.project_files.specs.Opening.{found_symbol, library_of, most_project_objects};
+ghost use Rattle.project_files.specs.Opening.{object_items, opened, opening, sheet_items};
+ghost use Rattle.project_files.specs.Opening.{sheets_items, symbol_items};
 ghost use Rattle.project_files.specs.ProjectFiles.{IsAnswer, with_view};
+ghost use Rattle.project_files.specs.steps.Counting.{object_count};
+ghost use Rattle.project_files.specs.steps.Standing.{IsWhole};
 
 use crate::fault::FileFault;
 use crate::gathered::GatheredFiles;
-use crate::project_text::{has_too_many_objects, is_over_full};
+use crate::project_text::{has_too_many_objects, is_over_full, object_count, symbol_count};
 use geda_model::{Name, Objects, Sheet, Symbol};
-use project_model::{Change, Placed, Project, Thing, Value};
+use project_model::{Placed, Project, Thing, Value};
 use std::alloc::{AllocError, Global};
 
 /// Puts in the objects of a sheet, the first under an id and the others behind it. The next id.
-fn push_objects(
-    change: &mut Change,
+fn put_objects(
+    project: &mut Project,
     sheet: &Name,
     id: u32,
     objects: Objects,
 ) -> Result<u32, AllocError>
-    requires { id + length objects ≤ 4294967295 }
-    ensures items { OnOk result
-        (change.new.items ≡ change.old.items ++ object_items sheet.now id objects) }
+    requires ids { id + length objects ≤ 4294967295 }
+    requires room { length objects ≤ project.old.spare.things }
+    ensures contents { OnOk result
+        (project.new.contents ≡ put project.old.contents (object_items sheet.now id objects)) }
     ensures next { IfOk result (λ next. next ≡ id + length objects) }
+    ensures things { OnOk result
+        (project.old.spare.things ≤ project.new.spare.things + length objects) }
+    ensures names { OnOk result (project.old.spare.names ≤ project.new.spare.names) }
 {
     let list = objects.into_vec();
     let mut next = id;
@@ -34,28 +41,40 @@ fn push_objects(
             sheet: sheet.clone()?,
             object,
         };
-        change.push(Thing::Object(next), Some(Value::Object(placed)))?;
+        project.put_one(&Thing::Object(next), Some(Value::Object(placed)));
         next += 1;
     }
     Ok(next)
 }
 
 /// Puts in a sheet and its objects. The next id.
-fn push_sheet(change: &mut Change, name: Name, id: u32, sheet: Sheet) -> Result<u32, AllocError>
-    requires { id + length sheet.objects ≤ 4294967295 }
-    ensures items { OnOk result
-        (change.new.items ≡ change.old.items ++ sheet_items name id sheet) }
+fn put_sheet(project: &mut Project, name: Name, id: u32, sheet: Sheet) -> Result<u32, AllocError>
+    requires ids { id + length sheet.objects ≤ 4294967295 }
+    requires room { length sheet.objects < project.old.spare.things }
+    requires room_for_name { 0 < project.old.spare.names }
+    ensures contents { OnOk result
+        (project.new.contents ≡ put project.old.contents (sheet_items name id sheet)) }
     ensures next { IfOk result (λ next. next ≡ id + length sheet.objects) }
+    ensures things { OnOk result
+        (project.old.spare.things ≤ project.new.spare.things + (length sheet.objects + 1)) }
+    ensures names { OnOk result (project.old.spare.names ≤ project.new.spare.names + 1) }
 {
     let Sheet { head, objects } = sheet;
-    change.push(Thing::SheetName(name.clone()?), Some(Value::Head(head)))?;
-    push_objects(change, &name, id, objects)
+    project.put_one(&Thing::SheetName(name.clone()?), Some(Value::Head(head)));
+    Ok(put_objects(project, &name, id, objects)?)
 }
 
-fn push_sheets(change: &mut Change, names: Vec<Name>, sheets: Vec<Sheet>) -> Result<(), AllocError>
-    requires { length (flat_map (λ sheet. sheet.objects) sheets.items) ≤ most_project_objects }
-    ensures { OnOk result
-        (change.new.items ≡ change.old.items ++ sheets_items 0 names.items sheets.items) }
+fn put_sheets(project: &mut Project, names: Vec<Name>, sheets: Vec<Sheet>) -> Result<(), AllocError>
+    requires few { sum_by object_count sheets.items ≤ most_project_objects }
+    requires room { length names.items + sum_by object_count sheets.items
+        ≤ project.old.spare.things }
+    requires room_for_names { length names.items ≤ project.old.spare.names }
+    ensures contents { OnOk result (project.new.contents
+        ≡ put project.old.contents (sheets_items 0 names.items sheets.items)) }
+    ensures things { OnOk result (project.old.spare.things ≤ project.new.spare.things
+        + (length names.items + sum_by object_count sheets.items)) }
+    ensures names { OnOk result
+        (project.old.spare.names ≤ project.new.spare.names + length names.items) }
 {
     let mut sheets = sheets.into_iter();
     let mut id: u32 = 0;
@@ -63,46 +82,42 @@ fn push_sheets(change: &mut Change, names: Vec<Name>, sheets: Vec<Sheet>) -> Res
         let Some(sheet) = sheets.next() else {
             return Ok(());
         };
-        id = push_sheet(change, name, id, sheet)?;
+        id = put_sheet(project, name, id, sheet)?;
     }
     Ok(())
 }
 
-fn push_symbols(change: &mut Change, symbols: Vec<(Name, Option<Symbol>)>) -> Result<(), AllocError>
-    ensures { OnOk result (change.new.items ≡ change.old.items
-        ++ symbol_items (filter_map found_symbol symbols.items)) }
+fn put_symbols(project: &mut Project, symbols: Vec<(Name, Option<Symbol>)>)
+    requires room { length (filter_map found_symbol symbols.items) ≤ project.old.spare.things }
+    requires room_for_names { length (filter_map found_symbol symbols.items)
+        ≤ project.old.spare.names }
+    ensures contents { project.new.contents ≡ put project.old.contents
+        (symbol_items (filter_map found_symbol symbols.items)) }
 {
     for (name, symbol) in symbols {
         if let Some(symbol) = symbol {
-            change.push(Thing::SymbolName(name), Some(Value::Symbol(symbol)))?;
+            project.put_one(&Thing::SymbolName(name), Some(Value::Symbol(symbol)));
         }
     }
-    Ok(())
 }
 
-fn opening(alloc: Global, gathered: GatheredFiles) -> Result<Change, AllocError>
-    requires { length (all_objects gathered) ≤ most_project_objects }
-    ensures { IfOk result (λ change. change.items ≡ opening gathered) }
+/// The project that what is gathered makes of the empty one.
+fn project_from(alloc: Global, gathered: GatheredFiles) -> Result<Project, AllocError>
+    requires objects { sum_by object_count gathered.sheets ≤ most_project_objects }
+    requires sheets { length gathered.queue ≤ most_sheets }
+    requires symbols { length (library_of gathered) ≤ most_symbols }
+    ensures { IfOk result (λ project. project.contents ≡ put empty_project (opening gathered)) }
 {
     let GatheredFiles {
         queue,
         sheets,
         symbols,
     } = gathered;
-    let mut change = Change::new(alloc);
-    push_sheets(&mut change, queue, sheets)?;
-    push_symbols(&mut change, symbols)?;
-    Ok(change)
-}
-
-/// The project that a change makes of the empty one.
-fn opened_by(alloc: Global, change: Change) -> Result<Project, AllocError>
-    requires { CanApply change.items }
-    ensures { IfOk result (λ project. project.contents ≡ put empty_project change.items) }
-{
+    let names = queue.len() + symbol_count(&symbols);
     let mut project = Project::new(alloc);
-    project.reserve(alloc, &change)?;
-    project.apply(change);
+    project.reserve_for(alloc, names + object_count(&sheets), names)?;
+    put_sheets(&mut project, queue, sheets)?;
+    put_symbols(&mut project, symbols);
     Ok(project)
 }
 
@@ -121,6 +136,5 @@ pub fn opened(alloc: Global, gathered: GatheredFiles) -> Result<Project, FileFau
     if is_over_full(&gathered) {
         return Err(FileFault::ProjectFull);
     }
-    let change = opening(alloc, gathered)?;
-    Ok(opened_by(alloc, change)?)
+    Ok(project_from(alloc, gathered)?)
 }

@@ -14,6 +14,7 @@ use geda_write::{object_size, symbol_size};
 // The objects of all sheets of a project.
 const MOST_PROJECT_OBJECTS: usize = 400000;
 
+/// The objects of all sheets.
 pub(crate) fn object_count(sheets: &[Sheet]) -> usize
     ensures { result ≡ min (sum_by object_count sheets.now) (2 ^ 64 - 1) }
 {
@@ -84,6 +85,7 @@ pub(crate) fn bytes_of_symbols(symbols: &[(Name, Option<Symbol>)]) -> u64
     bytes
 }
 
+/// The symbols that were found.
 pub(crate) fn symbol_count(symbols: &[(Name, Option<Symbol>)]) -> usize
     ensures { result ≡ length (filter_map found_symbol symbols.now) }
 {

@@ -1,6 +1,6 @@
 -- Steps of the code; no public clause cites them.
 -- What is asked of a folder: each file of a sheet once, and each file of a symbol once (own).
-use Rattle.std.specs.Prelude.{◌≡◌, ℕ, List, Result, Ok, Err, option_and_then}
+use Rattle.std.specs.Prelude.{◌≡◌, ℕ, Bool, true, List, [], Result, Ok, Err, Some, None, option_and_then}
 use Rattle.std.specs.declared.option.Option.{Option}
 use Rattle.std.specs.List.{find, fold}
 use Rattle.geda_defs.specs.Contents.{Files}
@@ -9,12 +9,28 @@ use Rattle.project_files.specs.declared.fault.FileFault.{FileFault}
 use Rattle.project_files.specs.Gathering.{ProjectFiles, AskedSymbol, Gathered, ObjectComesTo, ObjectsComeTo, SymbolComesTo, asked_symbol, has_name, library_read, sources_of, with_value}
 use Rattle.project_files.specs.FileReads.{Then}
 use Rattle.project_files.specs.ProjectFiles.{with_view}
-use Rattle.project_files.specs.steps.Progress.{AskedData, gathered}
+use Rattle.project_files.specs.steps.Progress.{AskedData, gathered, is_asked_symbol}
 
 -- the symbol of a name, if one was found
 abbrev pub symbol_of : List AskedSymbol → Option (List ℕ) → Option SymbolData
 symbol_of symbols name =
     option_and_then (λ n. option_and_then (λ asked. asked.1) (find (has_name n) symbols)) name
+
+-- nothing is to be asked for a symbol: none is needed, or its file was asked for
+abbrev pub is_known : List AskedSymbol → Option (List ℕ) → Bool
+is_known symbols None = true
+is_known symbols (Some name) = is_asked_symbol name symbols
+
+-- so it is, and this is what was found
+pub record IsKnown (symbols : List AskedSymbol) (name : Option (List ℕ))
+    (library : Option SymbolData) : Type 0 where
+  pub known : is_known symbols name ≡ true
+  pub found : library ≡ symbol_of symbols name
+
+-- nothing is to be asked for a component: its symbol is known, and it names no sheets
+pub record AsksNothing (asked : AskedData) (object : ObjectData) : Type 0 where
+  pub symbol : is_known asked.symbols (asked_symbol object) ≡ true
+  pub sheets : sources_of object (symbol_of asked.symbols (asked_symbol object)) ≡ []
 
 -- what the symbol comes to that is asked for, whatever sheets are read
 abbrev pub AsksSymbol :

@@ -10,10 +10,9 @@ use Rattle.std.specs.List.{AllPairs}
 use Rattle.project_files.specs.ProjectFiles.{OfFiles, SheetsComeTo}
 use Rattle.project_files.specs.steps.Progress.{AskedData, Fits, Follows, Progress, at, gathered, with_files}
 
--- all sheets are read; no sheet and no symbol stands twice
+-- all sheets are read; no symbol stands twice
 pub record IsWhole (g : Gathered) : Type 0 where
   pub sheets : length g.sheets ≡ length g.queue
-  pub apart : AllPairs ◌≢◌ g.queue
   pub symbols_apart : AllPairs (λ (a b : AskedSymbol). a.0 ≢ b.0) g.symbols
 
 -- what is read from a folder, from these sheets on

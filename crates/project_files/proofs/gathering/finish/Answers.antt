@@ -1,14 +1,7 @@
 use Rattle.std.proofs.Common.{rules, ◌≢◌, ◌≡◌, AllPairs, List, subst}
-use Rattle.std.proofs.lemmas.Map.Made.{AllPairs-from_IsDistinct}
-use Rattle.std.proofs.lemmas.Slice.Eq.{bytes_eq-Decides}
 use Rattle.project_files.specs.Gathering.{AskedSymbol}
 use Rattle.project_files.proofs.SheetLemmas.{symbols_apart}
 use Rattle.project_files.proofs.gathering.finish.Goals as goal
-
-pub returns-clause-apart : goal.returns-clause-apart
-returns-clause-apart c =
-    let all : c.asked.inside.queue.keys ≡ c.in_ok-queue.queue.items = search rules in
-    subst (AllPairs ◌≢◌) all (AllPairs-from_IsDistinct bytes_eq-Decides c.asked.inside.queue.keys c.into_iter.ensures.into_iter_gives.3)
 
 pub returns-clause-symbols_apart : goal.returns-clause-symbols_apart
 returns-clause-symbols_apart c =

@@ -56,6 +56,5 @@ returns-clause-read g c = done c.next_waiting.new.self c.loop-file.invariant.sta
 pub returns-clause-whole : goal.returns-clause-whole
 returns-clause-whole g c = record {
   sheets = all_read c.next_waiting.new.self c.loop-file.invariant.stands c.in_default.ensures c.in_ok-finish.ensures.all;
-  apart = c.in_ok-finish.ensures.apart;
   symbols_apart = c.in_ok-finish.ensures.symbols_apart;
 }

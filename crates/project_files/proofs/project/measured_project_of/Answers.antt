@@ -27,4 +27,4 @@ returns-in-Ok-clause-symbols g c =
     ∙ ap (λ (n : ℕ). min n (2 ^ 64 - 1)) (opened_symbols gathered c.in-Ok.project.contents c.in_ok-gathered.ensures.whole c.in-Ok.ensures)
 
 pub returns-in-Ok-clause-ids : goal.returns-in-Ok-clause-ids
-returns-in-Ok-clause-ids g c = opened_leaves_ids c.in_ok-gathered.gathered c.in-Ok.project.contents c.in_ok-gathered.ensures.whole c.in-Ok.ensures
+returns-in-Ok-clause-ids g c = opened_leaves_ids c.in_ok-gathered.gathered c.in-Ok.project.contents c.in-Ok.ensures

@@ -6,8 +6,14 @@ use Rattle.project_files.specs.ProjectFiles.{with_view}
 use Rattle.project_files.specs.steps.Progress.{AskedData, Asks, Leads}
 use Rattle.project_files.specs.steps.Asking.{AsksComponent, AsksSymbol, AsksValues, symbol_of}
 use Rattle.project_files.proofs.Passing.{answer_then, fault_later}
-use Rattle.project_files.proofs.AskingLemmas.{asks_then, component_fault, component_then, out_as}
+use Rattle.project_files.proofs.AskingLemmas.{asks_then, component_fault, component_then, leads_self, nothing_asked, out_as}
 use Rattle.project_files.proofs.asking.Asked.ask_component.Goals as goal
+
+pub returns-then-asks_nothing-clause-read : goal.returns-then-asks_nothing-clause-read
+returns-then-asks_nothing-clause-read g c =
+    let old : AskedData = c.args.self.now in
+    let object : ObjectData = c.args.object.now in
+    leads_self (g.F.Folder.files c.args.folder.now) old (λ known. AsksComponent old object known (Ok old)) (nothing_asked old object (c.asks_nothing.ensures c.if-asks_nothing.true))
 
 pub returns-in_err-ask_symbol-clause-read : goal.returns-in_err-ask_symbol-clause-read
 returns-in_err-ask_symbol-clause-read g c =
