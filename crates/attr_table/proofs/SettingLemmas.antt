@@ -1,5 +1,5 @@
 -- The cells that count, and an object after they are set.
-use Rattle.std.proofs.Common.{◌≡◌, ◌==◌, ◌&&◌, ◌∷◌, [], ℕ, suc, Bool, true, false, not, ◌||◌, cond, List, Option, None, Some, filter, length, refl, arith}
+use Rattle.std.proofs.Common.{◌≡◌, ◌==◌, ◌∷◌, [], ℕ, suc, Bool, true, false, not, ◌||◌, cond, List, None, Some, filter, length, refl, arith}
 use Rattle.std.specs.List.{fold, list_all, list_any}
 use Rattle.std.proofs.lemmas.Bool.Decides.{nat_tests}
 use Rattle.edit_attr.specs.Attributes.{with_attr}
@@ -7,7 +7,6 @@ use Rattle.edit_attr.specs.FirstPoints.{first_point}
 use Rattle.geda_model.specs.Sheets.{ObjectData}
 use Rattle.attr_table.specs.Cells.{Cell, can_be_set, counts, is_bad_cell, set_cell, set_cells}
 use Rattle.attr_table.specs.Filling.{if_counts}
-use Rattle.attr_table.specs.SheetTables.{Numbered}
 use Rattle.attr_table.specs.TableFaults.{first_column}
 use Rattle.attr_table.specs.steps.Places.{texts_set}
 use Rattle.attr_table.proofs.CellLemmas.{can_set, first_good, none_bad}

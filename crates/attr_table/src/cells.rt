@@ -46,7 +46,7 @@ pub fn cells_of<'a>(
 ) -> Result<Vec<Cell<'a>>, AllocError>
     ensures { IfOk result (λ cells. cells.items ≡ zip (texts names.now) (texts fields.now)) }
 {
-    let mut cells = Vec::new(alloc);
+    let mut cells = Vec::with_capacity(alloc, names.len())?;
     let mut names = names;
     let mut fields = fields;
     while let [name, later_names @ ..] = names {
@@ -211,7 +211,7 @@ fn set_cell<'a>(
 fn copied(alloc: Global, texts: &[Text]) -> Result<Vec<Text>, AllocError>
     ensures { IfOk result (λ v. v.items ≡ texts.now) }
 {
-    let mut copies = Vec::new(alloc);
+    let mut copies = Vec::with_capacity(alloc, texts.len())?;
     for text in texts {
         copies.push(text.clone()?)?;
     }

@@ -1,7 +1,8 @@
 // The entries of a table.
 ghost use Rattle.std.specs.Prelude.{◌≡◌, ◌+◌, ◌≤◌, IfOk, length, min};
 ghost use Rattle.geda_grammar.specs.Canonical.{object_text};
-ghost use Rattle.attr_table.specs.Filling.{Answers, entries_from, entry_of, table_entries};
+ghost use Rattle.attr_table.specs.Filling.{Answers, entries_from, entry_of, filled_components};
+ghost use Rattle.attr_table.specs.Filling.{table_entries};
 ghost use Rattle.attr_table.specs.Records.{records_of};
 ghost use Rattle.attr_table.specs.SheetTables.{components_in};
 ghost use Rattle.attr_table.specs.TableFaults.{table_fault};
@@ -47,7 +48,9 @@ fn entry_of(
     })
 }
 
-fn entries_from(
+/// The entries that put these components in the places of those of their ids: of this session and
+/// base, with numbers from `first` on.
+pub fn entries_from(
     alloc: Global,
     session: &Name,
     first: u32,
@@ -59,13 +62,37 @@ fn entries_from(
     ensures { IfOk result
         (λ entries. entries.items ≡ entries_from session.now first base components.now) }
 {
-    let mut entries = Vec::new(alloc);
+    let mut entries = Vec::with_capacity(alloc, components.len())?;
     let mut number = first;
     for (id, object) in components {
         entries.push(entry_of(alloc, session, number, base, *id, object)?)?;
         number += 1;
     }
     Ok(entries)
+}
+
+/// The components of which a table of CSV makes new ones, with their ids, in the order of the
+/// records (docs/RULES.md, "Attributes as a table"): those that `entries_of` puts into entries.
+///
+/// There are no more of them than components of the sheet, or bytes of the table. The fault of a
+/// table is that of its first record that has one.
+pub fn components_of(
+    alloc: Global,
+    project: &Project,
+    sheet: &Name,
+    table: &[u8],
+) -> Result<Vec<(u32, Object)>, TableFault>
+    requires short { length table.now ≤ 4294967295 }
+    ensures made { Answers (λ v. v.items) result
+        (table_fault project.now.contents sheet.now (records_of table.now))
+        (filled_components project.now.contents sheet.now (records_of table.now)) }
+    ensures few { IfOk result
+        (λ v. length v.items ≤ length (components_in project.now.contents sheet.now)) }
+    ensures rows { IfOk result (λ v. length v.items ≤ length table.now) }
+{
+    let records = records_in(alloc, table)?;
+    let components = fill(alloc, project, sheet, records.as_slice())?;
+    Ok(components)
 }
 
 /// The entries that fill a table of CSV into the components of a sheet (docs/RULES.md, "Attributes
@@ -95,7 +122,6 @@ pub fn entries_of(
         (table_entries project.now.contents sheet.now (records_of table.now)
         session.now first base) }
 {
-    let records = records_in(alloc, table)?;
-    let components = fill(alloc, project, sheet, records.as_slice())?;
+    let components = components_of(alloc, project, sheet, table)?;
     Ok(entries_from(alloc, session, first, base, components.as_slice())?)
 }

@@ -1,5 +1,4 @@
-use Rattle.std.proofs.Common.{◌≡◌, ◌∙◌, ◌++◌, ◌∷◌, [], ℕ, List, None, Some, true, false, is_some, length, rules, sym, ap, subst}
-use Rattle.geda_model.specs.Data.{TextData}
+use Rattle.std.proofs.Common.{◌≡◌, ◌∙◌, None, Some, true, is_some, length, rules, sym, ap, subst}
 use Rattle.edit_attr.specs.Attributes.{attr_line, new_label, place_of}
 use Rattle.edit_attr.proofs.PlaceLemmas.{set_last}
 use Rattle.attr_table.specs.Cells.{can_be_set}

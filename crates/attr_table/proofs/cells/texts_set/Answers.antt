@@ -1,9 +1,8 @@
-use Rattle.std.proofs.Common.{◌≡◌, ◌∙◌, ◌+◌, ◌&&◌, Bool, true, false, refl, sym, ap, drop, rules}
+use Rattle.std.proofs.Common.{◌+◌, drop}
 use Rattle.std.specs.List.{list_all}
 use Rattle.std.proofs.lemmas.Bool.{and_parts}
 use Rattle.std.proofs.lemmas.List.{drop_more}
 use Rattle.attr_table.specs.Cells.{can_be_set}
-use Rattle.attr_table.specs.steps.Places.{texts_set}
 use Rattle.attr_table.proofs.cells.texts_set.Goals as goal
 
 pub set_cell-requires-clause-good : goal.set_cell-requires-clause-good

@@ -1,5 +1,4 @@
-use Rattle.std.proofs.Common.{◌≡◌, ◌∙◌, ℕ, List, Option, None, Some, Bool, true, false, Bor, option_map, is_some, rules, sym, ap, subst}
-use Rattle.std.proofs.lemmas.Map.Text.{btree_map_updates_str}
+use Rattle.std.proofs.Common.{◌≡◌, ◌∙◌, ℕ, List, None, true, false, Bor, option_map, is_some, rules, sym, ap, subst}
 use Rattle.attr_rules.specs.Splits.{split_of}
 use Rattle.attr_table.specs.steps.Places.{firsts_at}
 use Rattle.attr_table.proofs.PlaceLemmas.{Puts, more_places, named_cut, plain_places, still_places}

@@ -1,5 +1,4 @@
 use Rattle.std.proofs.Common.{◌≡◌, ◌∙◌, None, Some, rules, sym}
-use Rattle.edit_attr.specs.Attributes.{place_of}
 use Rattle.attr_table.specs.steps.Places.{firsts_at}
 use Rattle.attr_table.proofs.PlaceLemmas.{no_value, value_there}
 use Rattle.attr_table.proofs.places.value_of.Goals as goal

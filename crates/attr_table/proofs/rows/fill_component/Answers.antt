@@ -1,4 +1,4 @@
-use Rattle.std.proofs.Common.{◌≡◌, ◌∙◌, ◌==◌, ℕ, List, Bool, true, false, Option, None, Some, option_map, filter, fold, length, rules, sym, ap}
+use Rattle.std.proofs.Common.{◌≡◌, ◌∙◌, ◌==◌, List, true, false, None, Some, option_map, filter, fold, length, rules, sym, ap}
 use Rattle.std.specs.List.{list_all}
 use Rattle.geda_model.specs.Sheets.{ObjectData}
 use Rattle.attr_table.specs.declared.fault.TableFault.TheVariants as faults
