@@ -1,7 +1,8 @@
 mod MovedBodies
 mod WritableHistories
-mod OrderlyHistories
+pub mod OrderlyHistories
 mod TakenEntries
 mod RepeatedEntries
-mod FilledComponents
-mod TableLaws
+mod AcceptedEntries
+pub mod FilledComponents
+pub mod TableLaws

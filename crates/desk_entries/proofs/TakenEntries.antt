@@ -9,34 +9,40 @@ use Rattle.std.proofs.lemmas.Bool.{cases_lt}
 use Rattle.std.proofs.lemmas.Bool.Decides.{nat_tests}
 use Rattle.std.proofs.lemmas.Cmp.{nat_cmp_total}
 use Rattle.std.proofs.lemmas.List.{length-append}
+use Rattle.std.proofs.lemmas.List.Sums.{sum_by-cons}
 use Rattle.geda_defs.proofs.Bytes.{bytes_true}
 use Rattle.geda_grammar.specs.Canonical.{object_text}
 use Rattle.geda_grammar.specs.Writable.{ObjectIsWritable}
 use Rattle.geda_grammar.specs.declared.kind.ReadKind.TheVariants.{TooLarge}
 use Rattle.geda_grammar.proofs.WritingLaws.{object_again}
-use Rattle.geda_model.specs.Limits.{most_file_bytes}
+use Rattle.geda_model.specs.Limits.{most_file_bytes, most_project_text, most_sheets, most_symbols}
 use Rattle.geda_model.specs.Sheets.{ObjectData, ObjectIsInRange}
 use Rattle.project_model.specs.Changes.{put}
 use Rattle.project_model.specs.Projects.{ProjectData}
 use Rattle.project_model.specs.declared.change.Placed.{Placed}
 use Rattle.project_model.specs.declared.change.Thing.TheVariants as things
 use Rattle.project_model.specs.declared.change.Value.TheVariants as values
+use Rattle.project_model.proofs.Rows.{ids}
 use Rattle.edit_entries.specs.Entries.{EntryData, entry_size}
 use Rattle.edit_entries.specs.declared.fault.EditFault.{EditFault}
 use Rattle.edit_entries.specs.declared.fault.EditFault.TheVariants as faults
 use Rattle.edit_rules.specs.EarlyLines.{bad_text, base_ahead, history_full, last_number, missing, most_entries, most_history_bytes, number_gap, number_reused, numbered, repeated_at, text_fault, when}
 use Rattle.edit_rules.specs.EditChanges.{Change, replaced}
 use Rattle.edit_rules.specs.Histories.{all_changes, changes, has_thing, last_place, project, touched}
-use Rattle.edit_rules.specs.LateLines.{is_over_full, project_full, stale, too_many_objects}
+use Rattle.edit_rules.specs.LateLines.{is_over_full, placed_bytes, project_full, project_text, stale, symbol_bytes, too_many_objects}
 use Rattle.edit_rules.specs.Naming.{is_numbered}
 use Rattle.edit_rules.specs.Values.{object_value}
 use Rattle.edit_rules.specs.Verdicts.{first_of, lines, verdict, verdict_by}
+use Rattle.edit_rules.specs.Weights.{weight}
 use Rattle.edit_rules.specs.declared.verdict.Verdict.{Verdict}
 use Rattle.edit_rules.specs.declared.verdict.Verdict.TheVariants as verdicts
+use Rattle.edit_rules.proofs.Accepting.{sum_push}
 use Rattle.edit_rules.proofs.LongerHistories.{changes_push, last_push, project_push}
 use Rattle.edit_rules.proofs.ValueLaws.{object_is_value}
+use Rattle.edit_rules.proofs.Weighing.{sum_insert}
 use Rattle.attr_table.specs.Filling.{component_item, entries_from, entry_of}
 use Rattle.attr_table.specs.SheetTables.{Numbered}
+use Rattle.desk_entries.specs.steps.RoomForEntries.{IsRoomForEntries, component_bytes, component_size}
 use Rattle.desk_entries.specs.TableEntries.{AreAccepted, AreAcceptedToLimit, IsAccepted, IsLimit, IsLimited}
 use Rattle.desk_entries.proofs.OrderlyHistories.{last_own, number_push}
 
@@ -91,6 +97,26 @@ turned m n e = grind (arith, nat_tests, e)
 and_none : (b : Bool) → (b && false) ≡ false
 and_none true = refl
 and_none false = refl
+
+or_two : (a b : Bool) → a ≡ false → b ≡ false → (a || b) ≡ false
+or_two true b p q = p
+or_two false b p q = q
+
+not_le : (m n : ℕ) → n < m → nat_le m n ≡ false
+not_le m n lt = grind (arith, nat_tests, lt)
+
+not_lt : (m n : ℕ) → n ≤ m → nat_lt m n ≡ false
+not_lt m n le = grind (arith, nat_tests, le)
+
+-- sums of which a part is put in
+part_of : (a b part rest most : ℕ) → a + b ≤ most → b ≡ part + rest → a + part ≤ most
+part_of a b part rest most le is = omega (arith, le, is)
+
+part_moved : (a more b part rest most : ℕ) → a + b ≤ most → b ≡ part + rest → more ≤ a + part → more + rest ≤ most
+part_moved a more b part rest most le is few = omega (arith, le, is, few)
+
+with_others : (a b others gone more : ℕ) → a + gone ≡ b + more → a + others ≤ (b + others) + more
+with_others a b others gone more is = omega (arith, is)
 
 -- lines of which three may hold
 three : (a b c : Option EditFault)
@@ -214,6 +240,49 @@ module _ (g : List EntryData) (sheet session : List ℕ) (number base : ℕ) (c 
           inr (refused_by faults.HistoryFull (changes g e.edit) tt (v ∙ (λ i. verdict_by None (first_of (a i ∷ bad_text e.edit ∷ over ∷ [])) (changes g e.edit)))))
           full_or
 
+  -- the texts of the project then
+  text_after : project_text (put (project g) (component_item sheet c ∷ [])) ≤ project_text (project g) + component_bytes c
+  text_after =
+      let placed : Placed = record { sheet = sheet; object = c.1 } in
+      let p = project g in
+      with_others (sum_by placed_bytes (finite.values (finite.insert p.objects c.0 placed))) (sum_by placed_bytes (finite.values p.objects))
+      (sum_by symbol_bytes (finite.values p.symbols)) (weight placed_bytes (finite.get p.objects c.0)) (component_bytes c)
+      (sum_insert ids placed_bytes p.objects c.0 placed)
+
+  module _ (room : IsRoomForEntries g session (c ∷ cs)) where
+    not_full : history_full g e ≡ None
+    not_full =
+        when_false _ faults.HistoryFull
+        (or_two (nat_le most_entries (length g)) (nat_lt most_history_bytes (sum_by entry_size g + entry_size e))
+        (not_le most_entries (length g) (let few = room.entries in omega (arith, few)))
+        (not_lt most_history_bytes (sum_by entry_size g + entry_size e)
+        (part_of (sum_by entry_size g) (sum_by (component_size session) (c ∷ cs)) (entry_size e) (sum_by (component_size session) cs) most_history_bytes room.bytes (sum_by-cons (component_size session) c cs))))
+
+    not_over : project_full (put (project g) (component_item sheet c ∷ [])) ≡ None
+    not_over =
+        let p = put (project g) (component_item sheet c ∷ []) in
+        let texts : project_text p + sum_by component_bytes cs ≤ most_project_text =
+        part_moved (project_text (project g)) (project_text p) (sum_by component_bytes (c ∷ cs)) (component_bytes c) (sum_by component_bytes cs) most_project_text room.text (sum_by-cons component_bytes c cs) text_after in
+        when_false _ faults.ProjectFull
+        (or_two (nat_lt most_sheets (finite.len p.sheets)) (nat_lt most_symbols (finite.len p.symbols) || nat_lt most_project_text (project_text p))
+        (not_lt most_sheets (finite.len p.sheets) room.sheets)
+        (or_two (nat_lt most_symbols (finite.len p.symbols)) (nat_lt most_project_text (project_text p))
+        (not_lt most_symbols (finite.len p.symbols) room.symbols)
+        (not_lt most_project_text (project_text p) (omega (arith, texts)))))
+
+    -- where there is room, the entry is taken
+    taken : IsTaken
+    taken =
+        let is : object_value (object_text c.1) ≡ Ok c.1 =
+        (object_is_value.spelled (object_text c.1) c.1).1 (object_again c.1 (record { in_range = own.readable.range; each = own.readable.writable; size = room.each.0 })) in
+        let change = taken_change is in
+        let text : bad_text e.edit ≡ None = ap text_fault is in
+        let over : project_full (put (project g) (changes g e.edit)) ≡ None = ap (λ (d : Change). project_full (put (project g) d)) change ∙ not_over in
+        record {
+          follows = judged (none_many change) ∙ (λ i. verdict_by None (first_of (not_full i ∷ text i ∷ over i ∷ [])) (changes g e.edit));
+          change = change;
+        }
+
   -- what the next entries may follow
   module _ (change : changes g e.edit ≡ component_item sheet c ∷ []) where
     longer : project (g ++ e ∷ []) ≡ put (project g) (component_item sheet c ∷ [])
@@ -261,6 +330,20 @@ module _ (g : List EntryData) (sheet session : List ℕ) (number base : ℕ) (c 
         other_number : (m : ℕ) → number + 1 ≤ m → is_numbered session m e ≡ false
         other_number m le = let off : (number == m) ≡ false = grind (arith, nat_tests, le) in ap (λ (b : Bool). bytes_eq session session && b) off ∙ and_none (bytes_eq session session)
 
+    room_next : IsRoomForEntries g session (c ∷ cs) → IsRoomForEntries (g ++ e ∷ []) session cs
+    room_next room = record {
+      entries = (let few = room.entries in omega (arith, few, length-append g (e ∷ [])));
+      bytes = (let more = sum_push g e in
+          part_moved (sum_by entry_size g) (sum_by entry_size (g ++ e ∷ [])) (sum_by (component_size session) (c ∷ cs)) (entry_size e) (sum_by (component_size session) cs) most_history_bytes
+          room.bytes (sum_by-cons (component_size session) c cs) (omega (arith, more)));
+      sheets = subst (λ (p : ProjectData). finite.len p.sheets ≤ most_sheets) (sym longer) room.sheets;
+      symbols = subst (λ (p : ProjectData). finite.len p.symbols ≤ most_symbols) (sym longer) room.symbols;
+      text = subst (λ (p : ProjectData). project_text p + sum_by component_bytes cs ≤ most_project_text) (sym longer)
+          (part_moved (project_text (project g)) (project_text (put (project g) (component_item sheet c ∷ []))) (sum_by component_bytes (c ∷ cs)) (component_bytes c) (sum_by component_bytes cs) most_project_text
+          room.text (sum_by-cons component_bytes c cs) text_after);
+      each = room.each.1;
+    }
+
 not_both : (v : Verdict) → IsAccepted v → IsLimited v → ⊥
 not_both (verdicts.Accept change) a b = b
 not_both (verdicts.Refused fault) a b = a
@@ -294,3 +377,14 @@ all_made g sheet session number base (c ∷ cs) r a =
     ∙ ap (λ (q : ProjectData). put q (map (component_item sheet) cs)) (longer g sheet session number base c cs r t.change))
     (λ (limited : IsLimited (verdict g (entry_of session number base c))). absurd (not_both _ a.0 limited))
     (taken_or_limited g sheet session number base c cs r)
+
+-- where there is room for all, all are accepted
+pub all_taken : (g : List EntryData) (sheet session : List ℕ) (number base : ℕ) (cs : List Numbered) → IsReady g sheet session number base cs
+    → IsRoomForEntries g session cs → AreAccepted g (entries_from session number base cs)
+all_taken g sheet session number base [] r room = tt
+all_taken g sheet session number base (c ∷ cs) r room =
+    let t = taken g sheet session number base c cs r room in (
+      subst IsAccepted (sym t.follows) tt,
+      all_taken (g ++ entry_of session number base c ∷ []) sheet session (number + 1) base cs (ready_next g sheet session number base c cs r t.change)
+          (room_next g sheet session number base c cs r t.change room),
+    )

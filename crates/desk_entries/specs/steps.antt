@@ -1,2 +1,3 @@
 -- Steps of the code; no public clause cites them.
 pub mod Ranges
+pub mod RoomForEntries
