@@ -1,5 +1,5 @@
 -- The file of a sheet as the history of the entry that adds it (own).
-use Rattle.std.specs.Prelude.{◌≡◌, ⊤, ℕ, List, [], ◌∷◌, Option, None, Some, Result, Ok, Err, codes}
+use Rattle.std.specs.Prelude.{◌≡◌, ⊤, ℕ, List, [], ◌∷◌, None, Some, Result, Ok, Err, codes}
 use Rattle.geda_grammar.specs.declared.kind.ReadKind.{ReadKind}
 use Rattle.geda_model.specs.Sheets.{SheetData}
 use Rattle.edit_entries.specs.Entries.{EntryData}

@@ -1,7 +1,8 @@
 // The file of a sheet, opened as a history.
-ghost use Rattle.std.specs.Prelude.{◌≡◌, [], IfOk, codes};
-ghost use Rattle.table_files.specs.OpenedFiles.{Gives, add_sheet, opened_file};
-ghost use Rattle.table_files.specs.OpenedFiles.{put_or_fault, put_sheet};
+ghost use Rattle.std.specs.Prelude.{◌≡◌, IfOk, codes};
+ghost use Rattle.edit_rules.specs.Values.{sheet_value};
+ghost use Rattle.table_files.specs.Faults.{IsFaultOf};
+ghost use Rattle.table_files.specs.OpenedFiles.{Gives, add_sheet, opened_file, put_sheet};
 
 use crate::fault::{TableFileFault, unread};
 use desk_entries::put_all;
@@ -54,29 +55,31 @@ fn put_sheet(
     Ok(fault)
 }
 
-/// The history of the one entry that adds a sheet.
+/// The fault of the bytes of a sheet's file, and this one where they have none.
+fn fault_of(alloc: Global, sheet: &Name, bytes: &[u8], other: TableFileFault) -> TableFileFault
+    ensures { IsFaultOf sheet.now other (sheet_value bytes.now) result }
+{
+    let Ok(file) = sheet.clone() else {
+        return TableFileFault::NoMemory;
+    };
+    match sheet_of(alloc, bytes) {
+        Ok(_) => other,
+        Err(fault) => unread(file, fault),
+    }
+}
+
+/// The history of the sheet that a text spells. The sheet is read once where its entry is accepted.
 fn opened_text(alloc: Global, sheet: &Name, text: &str) -> Result<Desk, TableFileFault>
-    ensures { Gives (λ desk. desk.history) result
-        (put_or_fault sheet.now (put_sheet [] sheet.now text.now)) }
+    ensures { Gives (λ desk. desk.history) result (opened_file sheet.now text.now) }
 {
     let mut desk = Desk::new(alloc);
     match put_sheet(alloc, &mut desk, sheet, text)? {
         None => Ok(desk),
         Some(fault) => {
             let file = sheet.clone()?;
-            Err(TableFileFault::EditRefused { file, fault })
+            let refused = TableFileFault::EditRefused { file, fault };
+            Err(fault_of(alloc, sheet, text.as_bytes(), refused))
         }
-    }
-}
-
-/// The same of bytes. A sheet that was read is UTF-8, so that other bytes are want of memory here.
-fn opened_bytes(alloc: Global, sheet: &Name, bytes: &[u8]) -> Result<Desk, TableFileFault>
-    ensures { Gives (λ desk. desk.history) result
-        (put_or_fault sheet.now (put_sheet [] sheet.now bytes.now)) }
-{
-    match text_of(bytes) {
-        Some(text) => opened_text(alloc, sheet, text),
-        None => Err(TableFileFault::NoMemory),
     }
 }
 
@@ -84,15 +87,14 @@ fn opened_bytes(alloc: Global, sheet: &Name, bytes: &[u8]) -> Result<Desk, Table
 /// it: session `fill`, number 1.
 ///
 /// `Refused` exactly where the bytes spell none, with the line and the kind of their fault
-/// (docs/RULES.md, "Faults"); `EditRefused` exactly where the entry is refused.
+/// (docs/RULES.md, "Faults"); `EditRefused` exactly where the entry is refused. Bytes that are not
+/// UTF-8 spell none, so that such bytes without a fault are want of memory.
+#[tactic(auto, using(crate::proofs::OpeningLemmas::no_text))]
 pub fn opened_file(alloc: Global, sheet: &Name, bytes: &[u8]) -> Result<Desk, TableFileFault>
     ensures { Gives (λ desk. desk.history) result (opened_file sheet.now bytes.now) }
 {
-    match sheet_of(alloc, bytes) {
-        Ok(_) => opened_bytes(alloc, sheet, bytes),
-        Err(fault) => {
-            let file = sheet.clone()?;
-            Err(unread(file, fault))
-        }
+    match text_of(bytes) {
+        Some(text) => opened_text(alloc, sheet, text),
+        None => Err(fault_of(alloc, sheet, bytes, TableFileFault::NoMemory)),
     }
 }
