@@ -6,4 +6,5 @@ mod Adding
 pub mod OneRequest
 mod BodyTexts
 mod ReplyBytes
+mod SharedBytes
 pub mod Held

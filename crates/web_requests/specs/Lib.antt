@@ -5,4 +5,6 @@ pub mod Requests
 pub mod Texts
 pub mod Bodies
 pub mod Answers
+pub mod SharedReplies
+pub mod ReportTexts
 pub mod steps

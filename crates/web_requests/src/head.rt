@@ -1,10 +1,11 @@
 // The lines of a reply before its body.
-ghost use Rattle.std.specs.Prelude.{◌≡◌, ◌++◌, OnOk, decimal};
+ghost use Rattle.std.specs.Prelude.{◌≡◌, ◌++◌, ℕ, List, OnOk, decimal};
+ghost use Rattle.web_requests.specs.Answers.{report_reply};
 ghost use Rattle.web_requests.specs.Texts as spec;
 ghost use Rattle.web_requests.specs.Texts.{allow_lines, close_lines, content_type, first_lines};
 ghost use Rattle.web_requests.specs.Texts.{front_lines, header, last_lines, reply_text, status_line};
 
-use crate::reply_text::ReplyText;
+use crate::reply_buffer::ReplyBuffer;
 use crate::request::Allowed;
 use http::StatusCode;
 use itoa::Buffer;
@@ -34,8 +35,21 @@ pub struct Head {
     pub closing: bool,
 }
 
+/// The head of the reply with the text of a report.
+pub fn report_head(front: u32, closing: bool) -> Head
+    ensures { (body : List ℕ) → reply_text result body ≡ report_reply front closing body }
+{
+    Head {
+        status: StatusCode::OK,
+        content: Content::Text,
+        front: Some(front),
+        allowed: None,
+        closing,
+    }
+}
+
 /// Adds a header.
-fn push_header(text: &mut ReplyText, name: &[u8], value: &[u8]) -> Result<(), AllocError>
+fn push_header(text: &mut ReplyBuffer, name: &[u8], value: &[u8]) -> Result<(), AllocError>
     ensures { OnOk result (text.new ≡ text.old ++ header name.now value.now) }
 {
     text.push(name)?;
@@ -45,7 +59,7 @@ fn push_header(text: &mut ReplyText, name: &[u8], value: &[u8]) -> Result<(), Al
 }
 
 /// Adds a header whose value is a number.
-fn push_number(text: &mut ReplyText, name: &[u8], number: u64) -> Result<(), AllocError>
+fn push_number(text: &mut ReplyBuffer, name: &[u8], number: u64) -> Result<(), AllocError>
     ensures { OnOk result (text.new ≡ text.old ++ header name.now (decimal number)) }
 {
     let mut digits = Buffer::new();
@@ -64,7 +78,7 @@ fn phrase(status: StatusCode) -> &'static str
 
 /// Adds the status line.
 #[tactic(auto, unfolding(crate::specs::Texts::status_line))]
-fn push_status(text: &mut ReplyText, status: StatusCode) -> Result<(), AllocError>
+fn push_status(text: &mut ReplyBuffer, status: StatusCode) -> Result<(), AllocError>
     ensures { OnOk result (text.new ≡ text.old ++ status_line status) }
 {
     text.push(b"HTTP/1.1 ")?;
@@ -83,7 +97,7 @@ fn content_name(content: Content) -> &'static [u8]
     }
 }
 
-fn push_front(text: &mut ReplyText, front: Option<u32>) -> Result<(), AllocError>
+fn push_front(text: &mut ReplyBuffer, front: Option<u32>) -> Result<(), AllocError>
     ensures { OnOk result (text.new ≡ text.old ++ front_lines front) }
 {
     match front {
@@ -92,7 +106,7 @@ fn push_front(text: &mut ReplyText, front: Option<u32>) -> Result<(), AllocError
     }
 }
 
-fn push_allowed(text: &mut ReplyText, allowed: Option<Allowed>) -> Result<(), AllocError>
+fn push_allowed(text: &mut ReplyBuffer, allowed: Option<Allowed>) -> Result<(), AllocError>
     ensures { OnOk result (text.new ≡ text.old ++ allow_lines allowed) }
 {
     match allowed {
@@ -101,7 +115,7 @@ fn push_allowed(text: &mut ReplyText, allowed: Option<Allowed>) -> Result<(), Al
     }
 }
 
-fn push_close(text: &mut ReplyText, closing: bool) -> Result<(), AllocError>
+fn push_close(text: &mut ReplyBuffer, closing: bool) -> Result<(), AllocError>
     ensures { OnOk result (text.new ≡ text.old ++ close_lines closing) }
 {
     if closing {
@@ -111,7 +125,7 @@ fn push_close(text: &mut ReplyText, closing: bool) -> Result<(), AllocError>
 }
 
 /// Adds the lines of the head as far as Front.
-fn push_first(text: &mut ReplyText, head: &Head) -> Result<(), AllocError>
+fn push_first(text: &mut ReplyBuffer, head: &Head) -> Result<(), AllocError>
     ensures { OnOk result (text.new ≡ text.old ++ first_lines head.now) }
 {
     push_status(text, head.status)?;
@@ -120,7 +134,7 @@ fn push_first(text: &mut ReplyText, head: &Head) -> Result<(), AllocError>
 }
 
 /// Adds the other lines of the head.
-fn push_last(text: &mut ReplyText, head: &Head, size: usize) -> Result<(), AllocError>
+fn push_last(text: &mut ReplyBuffer, head: &Head, size: usize) -> Result<(), AllocError>
     ensures { OnOk result (text.new ≡ text.old ++ last_lines head.now size) }
 {
     push_allowed(text, head.allowed)?;
@@ -131,7 +145,7 @@ fn push_last(text: &mut ReplyText, head: &Head, size: usize) -> Result<(), Alloc
 
 /// Writes a reply in place of what stood there.
 #[tactic(auto, unfolding(crate::specs::Texts::reply_text))]
-pub fn write_reply(text: &mut ReplyText, head: &Head, body: &[u8]) -> Result<(), AllocError>
+pub fn write_reply(text: &mut ReplyBuffer, head: &Head, body: &[u8]) -> Result<(), AllocError>
     ensures { OnOk result (text.new ≡ reply_text head.now body.now) }
 {
     text.clear();

@@ -1,26 +1,32 @@
-// The text of a reply, with memory for one reply that may not fail.
-ghost use Rattle.std.specs.Prelude.{◌≡◌, ◌≤◌, ◌+◌, ◌++◌, [], length, IfOk, OnOk};
+// The text of a reply that is sent.
+ghost use Rattle.std.specs.Prelude.{◌≡◌, [], IfOk, OnOk};
+ghost use Rattle.std.specs.Arc.{arc_value};
 ghost use Rattle.web_requests.specs.Answers.{lost_reply};
-ghost use Rattle.web_requests.specs.steps.Lost as spec;
+ghost use Rattle.web_requests.specs.SharedReplies.{open_reply};
+ghost use Rattle.web_requests.specs.Texts.{reply_text};
 
-use itoa::Buffer;
+use crate::head::{Head, write_reply};
+use crate::reply_buffer::ReplyBuffer;
+use crate::report_reply::ReportReply;
 use std::alloc::{AllocError, Global};
 use std::marker::Model;
+use std::sync::Arc;
 
 /// The text of a reply. There is always memory for the reply to an edit that could not be kept.
 #[derive(Drop)]
 pub struct ReplyText {
-    bytes: Vec<u8>,
+    written: ReplyBuffer,
+    // What is sent in place of what was written.
+    shared: Option<Arc<ReportReply>>,
 }
 
 impl Model for ReplyText {
-    ghost use Rattle.std.specs.Prelude.{ℕ, List, ◌≤◌, vec_capacity};
+    ghost use Rattle.std.specs.Prelude.{ℕ, List};
+    ghost use Rattle.web_requests.specs.SharedReplies.{reply_bytes};
 
     ghost Value = { List ℕ };
 
-    ghost view = { λ t. t.bytes.items };
-
-    ghost invariant = { λ t. 256 ≤ vec_capacity t.bytes };
+    ghost view = { λ t. reply_bytes t.shared t.written };
 }
 
 impl ReplyText {
@@ -29,7 +35,8 @@ impl ReplyText {
         ensures { IfOk result (λ text. text ≡ []) }
     {
         Ok(ReplyText {
-            bytes: Vec::with_capacity(alloc, 256)?,
+            written: ReplyBuffer::new(alloc)?,
+            shared: None,
         })
     }
 
@@ -37,29 +44,25 @@ impl ReplyText {
     pub fn as_slice(&self) -> &[u8]
         ensures { result.now ≡ self.now }
     {
-        self.bytes.as_slice()
+        match &self.shared {
+            Some(reply) => reply.as_slice(),
+            None => self.written.as_slice(),
+        }
     }
 
-    /// Takes all bytes away.
-    pub(crate) fn clear(&mut self)
-        ensures { self.new ≡ [] }
+    /// Writes a reply in place of what stood there.
+    pub(crate) fn write(&mut self, head: &Head, body: &[u8]) -> Result<(), AllocError>
+        ensures { OnOk result (self.new ≡ reply_text head.now body.now) }
     {
-        self.bytes.clear();
+        self.shared = None;
+        write_reply(&mut self.written, head, body)
     }
 
-    /// Adds a piece.
-    pub(crate) fn push(&mut self, piece: &[u8]) -> Result<(), AllocError>
-        ensures { OnOk result (self.new ≡ self.old ++ piece.now) }
+    /// Shares a reply in place of what stood there. It takes no memory.
+    pub(crate) fn share(&mut self, reply: Arc<ReportReply>)
+        ensures { self.new ≡ open_reply (arc_value reply) }
     {
-        self.bytes.extend_from_slice(piece)
-    }
-
-    /// Adds a piece for which there is memory.
-    fn push_within(&mut self, piece: &[u8])
-        requires { length self.old + length piece.now ≤ 256 }
-        ensures { self.new ≡ self.old ++ piece.now }
-    {
-        self.bytes.extend_from_slice(piece).unwrap();
+        self.shared = Some(reply);
     }
 
     /// Writes the reply to an accepted edit that could not be kept, in place of what stood there
@@ -67,30 +70,7 @@ impl ReplyText {
     pub fn write_lost(&mut self, front: u32, closing: bool)
         ensures { self.new ≡ lost_reply front closing }
     {
-        let mut digits = Buffer::new();
-        self.clear();
-        self.push_within(lost_start());
-        self.push_within(digits.format(front).as_bytes());
-        self.push_within(lost_end(closing));
-    }
-}
-
-/// What stands before the front.
-fn lost_start() -> &'static [u8]
-    ensures text { result.now ≡ spec.lost_start }
-    ensures short { length result.now ≤ 100 }
-{
-    b"HTTP/1.1 507 Insufficient Storage\r\nContent-Type: application/json\r\nFront: "
-}
-
-/// What stands behind the front.
-fn lost_end(closing: bool) -> &'static [u8]
-    ensures text { result.now ≡ spec.lost_end closing }
-    ensures short { length result.now ≤ 100 }
-{
-    if closing {
-        b"\r\nConnection: close\r\nContent-Length: 23\r\n\r\n{\"fault\":\"KeeperFault\"}"
-    } else {
-        b"\r\nContent-Length: 23\r\n\r\n{\"fault\":\"KeeperFault\"}"
+        self.shared = None;
+        self.written.write_lost(front, closing);
     }
 }

@@ -7,8 +7,9 @@ ghost use Rattle.web_requests.specs.Texts.{reply_text};
 ghost use Rattle.web_requests.specs.Answers.{fixed_reply, json_reply, method_reply, report_reply};
 
 use crate::body::{done_body, fault_body, named_body, numbered_body, pointed_body};
-use crate::head::{Content, Head, write_reply};
+use crate::head::{Content, Head, report_head};
 use crate::reply_text::ReplyText;
+use crate::report_bytes::Bytes;
 use crate::request::{Allowed, FixedRequest};
 use edit_entries::EditFault;
 use http::StatusCode;
@@ -37,26 +38,25 @@ fn write_json(
         allowed: None,
         closing,
     };
-    write_reply(text, &head, body.as_bytes())
+    text.write(&head, body.as_bytes())
 }
 
-/// The reply with the text of a report.
+/// The reply with the text of a report. It is shared where the text stands in it.
 pub fn write_report(
     text: &mut ReplyText,
     front: u32,
     closing: bool,
-    body: &[u8],
+    body: &Bytes,
 ) -> Result<(), AllocError>
     ensures { OnOk result (text.new ≡ report_reply front closing body.now) }
 {
-    let head = Head {
-        status: StatusCode::OK,
-        content: Content::Text,
-        front: Some(front),
-        allowed: None,
-        closing,
-    };
-    write_reply(text, &head, body)
+    match body.reply(front, closing) {
+        Some(reply) => {
+            text.share(reply);
+            Ok(())
+        }
+        None => text.write(&report_head(front, closing), body.as_slice()),
+    }
 }
 
 /// The reply to another method than the one of a route.
@@ -77,7 +77,7 @@ fn write_method(
         allowed: Some(allowed),
         closing,
     };
-    write_reply(text, &head, body.as_bytes())
+    text.write(&head, body.as_bytes())
 }
 
 /// The reply that tells a fault by its name alone.

@@ -1,7 +1,7 @@
 use Rattle.std.proofs.Common.{◌∙◌, ap, ◌++◌, decimal}
 use Rattle.web_requests.specs.steps.Lost.{lost_start}
 use Rattle.web_requests.proofs.ReplyBytes.{lost_bytes}
-use Rattle.web_requests.proofs.reply_text.ReplyText.write_lost.Goals as goal
+use Rattle.web_requests.proofs.reply_buffer.ReplyBuffer.write_lost.Goals as goal
 
 pub returns : goal.returns
 returns c = c.push_within-3.ensures
