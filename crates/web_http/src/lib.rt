@@ -19,5 +19,6 @@ pub use link_end::LinkEnd;
 pub use reply_kind::ReplyKind;
 pub use service::Service;
 pub use serving::serve;
-pub use shown::{Bytes, Shown};
+pub use shown::Shown;
 pub use web_heads::{Link, LinkFault, MemoryLink};
+pub use web_requests::Bytes;

@@ -117,9 +117,7 @@ fn write_shown(alloc: Global, text: &mut ReplyText, shown: &Shown, closing: bool
     ensures { IsShownPiece shown.now closing (piece_of result text.new) result }
 {
     match shown {
-        Shown::Text { front, body } => {
-            answered(write_report(text, *front, closing, body.as_slice()))
-        }
+        Shown::Text { front, body } => answered(write_report(text, *front, closing, body)),
         Shown::Behind { front } => answered(write_behind(alloc, text, *front, closing)),
         Shown::Fault { front, fault } => write_no_report(alloc, text, *fault, *front, closing),
         Shown::NoEntry => ReplyKind::NoEntry,
