@@ -2,7 +2,6 @@
 ghost use Rattle.std.specs.Prelude.{◌≡◌, IfSome};
 ghost use Rattle.edit_rules.specs.Histories.{project};
 ghost use Rattle.pin_matrix.specs.Matrices.{usual};
-ghost use Rattle.reports.specs.NetLists.{seen};
 ghost use Rattle.reports.specs.Reports.{Reports};
 ghost use Rattle.kept_reports.specs.steps.KeptTexts.{IsText, what_of};
 
@@ -14,6 +13,7 @@ use pin_matrix::Matrix;
 use reports::{Form, ReportFault, What, report};
 use std::alloc::Global;
 use std::sync::Wait;
+use web_requests::Bytes;
 
 /// The texts of reports that were made on a board. Who asks first makes one and keeps it; it is
 /// then read without a lock. Those who ask meanwhile wait for it, so that no two of a kind are made
@@ -54,21 +54,28 @@ impl<B: HallName> KeptReports<B> {
         }
     }
 
-    fn found(&self, kind: ReportKind, prefix: &Prefix<B>) -> Option<&[u8]>
-        ensures { IfSome result (λ text. IsText prefix.now kind text.now) }
+    fn found(&self, kind: ReportKind, prefix: &Prefix<B>) -> Option<Bytes>
+        ensures { IfSome result (λ text. IsText prefix.now kind text) }
     {
         self.place(kind).kept.get()?.text_of(kind, prefix)
     }
 
-    // Keeps a copy, where there is memory for it and none was kept.
-    fn keep(&self, alloc: Global, kind: ReportKind, prefix: &Prefix<B>, text: &[u8])
+    // The text in its reply, which is kept where none was. None where there is no memory for it.
+    fn keep(
+        &self,
+        alloc: Global,
+        kind: ReportKind,
+        prefix: &Prefix<B>,
+        text: &[u8],
+    ) -> Option<Bytes>
         requires { IsText prefix.now kind text.now }
+        ensures { IfSome result (λ kept. kept ≡ text.now) }
     {
-        let Ok(text) = text.to_vec(alloc) else {
-            return;
-        };
+        let text = Bytes::in_reply(alloc, prefix.len() as u32, text).ok()?;
+        let again = text.again()?;
         let kept = KeptText::new(prefix.again(), kind, text);
         let _set = self.place(kind).kept.try_set(kept);
+        Some(again)
     }
 
     // The report of a kind on the board of these entries: a text that is kept, or one that is made.
@@ -79,17 +86,19 @@ impl<B: HallName> KeptReports<B> {
         board: &Board,
         prefix: &Prefix<B>,
         what: &What,
-    ) -> Result<Vec<u8>, ReportFault>
+    ) -> Result<Bytes, ReportFault>
         requires board { board.now.project ≡ project prefix.now }
         requires kind { what_of kind ≡ what.now }
-        ensures { Reports (project prefix.now) usual what.now (seen result) }
+        ensures { Reports (project prefix.now) usual what.now result }
     {
         if let Some(text) = self.found(kind, prefix) {
-            return Ok(text.to_vec(alloc)?);
+            return Ok(text);
         }
         let text = report(alloc, board, what, &Matrix::usual())?;
-        self.keep(alloc, kind, prefix, &text);
-        Ok(text)
+        match self.keep(alloc, kind, prefix, &text) {
+            Some(kept) => Ok(kept),
+            None => Ok(Bytes::from_vec(text)),
+        }
     }
 
     // The report of a kind on the board of these entries. Who finds none waits for its turn, and
@@ -102,20 +111,21 @@ impl<B: HallName> KeptReports<B> {
         board: &Board,
         prefix: &Prefix<B>,
         what: &What,
-    ) -> Result<Vec<u8>, ReportFault>
+    ) -> Result<Bytes, ReportFault>
         requires board { board.now.project ≡ project prefix.now }
         requires kind { what_of kind ≡ what.now }
-        ensures { Reports (project prefix.now) usual what.now (seen result) }
+        ensures { Reports (project prefix.now) usual what.now result }
     {
         if let Some(text) = self.found(kind, prefix) {
-            return Ok(text.to_vec(alloc)?);
+            return Ok(text);
         }
         let _turn = self.place(kind).turn.lock(rt);
         self.kept_or_made(alloc, kind, board, prefix, what)
     }
 
     /// The text of a report on the board of these entries, as `reports::report` makes it by the
-    /// usual matrix. It waits while another makes the same one, by `rt`.
+    /// usual matrix; one that is kept is shared. It waits while another makes the same one, by
+    /// `rt`.
     pub fn report<W: Wait>(
         &self,
         rt: &W,
@@ -123,13 +133,13 @@ impl<B: HallName> KeptReports<B> {
         board: &Board,
         prefix: &Prefix<B>,
         what: &What,
-    ) -> Result<Vec<u8>, ReportFault>
+    ) -> Result<Bytes, ReportFault>
         requires { board.now.project ≡ project prefix.now }
-        ensures { Reports (project prefix.now) usual what.now (seen result) }
+        ensures { Reports (project prefix.now) usual what.now result }
     {
         match kind_of(what) {
             Some(kind) => self.report_of(rt, alloc, kind, board, prefix, what),
-            None => report(alloc, board, what, &Matrix::usual()),
+            None => Ok(Bytes::from_vec(report(alloc, board, what, &Matrix::usual())?)),
         }
     }
 }

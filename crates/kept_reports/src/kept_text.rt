@@ -6,13 +6,14 @@ use crate::kind::ReportKind;
 use hall_log::{HallName, Prefix};
 use std::marker::Model;
 use std::sync::{Mutex, OnceLock};
+use web_requests::Bytes;
 
 /// The text of a report, with the entries and the kind that it is of.
 #[derive(Drop)]
 pub struct KeptText<B: HallName> {
     prefix: Prefix<B>,
     kind: ReportKind,
-    text: Vec<u8>,
+    text: Bytes,
 }
 
 impl<B: HallName> Model for KeptText<B> {
@@ -20,22 +21,22 @@ impl<B: HallName> Model for KeptText<B> {
 
     ghost Value = { KeptData };
 
-    ghost view = { λ k. record { entries = k.prefix; kind = k.kind; text = k.text.items } };
+    ghost view = { λ k. record { entries = k.prefix; kind = k.kind; text = k.text } };
 
-    ghost invariant = { λ k. IsText k.prefix k.kind k.text.items };
+    ghost invariant = { λ k. IsText k.prefix k.kind k.text };
 }
 
 impl<B: HallName> KeptText<B> {
     /// A text of these entries. It takes no memory.
-    pub fn new(prefix: Prefix<B>, kind: ReportKind, text: Vec<u8>) -> KeptText<B>
-        requires { IsText prefix kind text.items }
+    pub fn new(prefix: Prefix<B>, kind: ReportKind, text: Bytes) -> KeptText<B>
+        requires { IsText prefix kind text }
     {
         KeptText { prefix, kind, text }
     }
 
-    /// The text, where it is of this kind and of just these entries. It takes no memory.
-    pub fn text_of(&self, kind: ReportKind, prefix: &Prefix<B>) -> Option<&[u8]>
-        ensures { IfSome result (λ text. IsText prefix.now kind text.now) }
+    /// The text once more, where it is of this kind and of just these entries. It takes no memory.
+    pub fn text_of(&self, kind: ReportKind, prefix: &Prefix<B>) -> Option<Bytes>
+        ensures { IfSome result (λ text. IsText prefix.now kind text) }
     {
         if self.kind != kind {
             return None;
@@ -46,7 +47,7 @@ impl<B: HallName> KeptText<B> {
         if !self.prefix.begins(prefix) {
             return None;
         }
-        Some(&self.text)
+        self.text.again()
     }
 }
 
