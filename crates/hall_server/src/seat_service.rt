@@ -3,7 +3,6 @@ ghost use Rattle.std.specs.Prelude.{◌≡◌};
 ghost use Rattle.hall_server.specs.steps.Looks.{IsWanted, shown_of};
 ghost use Rattle.edit_rules.specs.Histories.{project};
 ghost use Rattle.pin_matrix.specs.Matrices.{usual};
-ghost use Rattle.reports.specs.NetLists.{seen};
 ghost use Rattle.reports.specs.Reports.{Reports};
 
 use edit_entries::Entry;
@@ -41,14 +40,11 @@ fn wanted(least: Option<u64>) -> u64
 }
 
 /// What a report comes to, of a history of so many entries.
-fn shown(front: u32, told: Result<Vec<u8>, ReportFault>) -> Shown
-    ensures { result ≡ shown_of front (seen told) }
+fn shown(front: u32, told: Result<Bytes, ReportFault>) -> Shown
+    ensures { result ≡ shown_of front told }
 {
     match told {
-        Ok(text) => Shown::Text {
-            front,
-            body: Bytes::from_vec(text),
-        },
+        Ok(body) => Shown::Text { front, body },
         Err(ReportFault::NoMemory) => Shown::NoMemory,
         Err(fault) => Shown::Fault { front, fault },
     }
@@ -60,8 +56,8 @@ fn report_on<W: Wait, B: HallName, S: ShowsKept<B, KeptReports<B>>>(
     alloc: Global,
     published: &S,
     what: &What,
-) -> Result<Vec<u8>, ReportFault>
-    ensures { Reports (project (S.list published.now)) usual what.now (seen result) }
+) -> Result<Bytes, ReportFault>
+    ensures { Reports (project (S.list published.now)) usual what.now result }
 {
     let kept = published.kept();
     kept.report(rt, alloc, published.board(), published.prefix(), what)
