@@ -76,13 +76,15 @@ impl Answer {
     }
 }
 
-/// The text of the net list of a project in a form.
-fn listed(alloc: Global, form: Form, project: &Project) -> Result<Answer, RunFault>
-    ensures { ComesOf (ByNetList (listed form) project.now.contents) result }
+/// The text of the net list of a project in a form. The memory of both is left to the system, which
+/// takes it back as the program ends.
+fn listed(alloc: Global, form: Form, project: Project) -> Result<Answer, RunFault>
+    ensures { ComesOf (ByNetList (listed form) project.contents) result }
 {
-    let nets = net_list(alloc, project)?;
+    let nets = net_list(alloc, &project)?;
     let text = net_text(alloc, form, &nets)?;
     forget(nets);
+    forget(project);
     Ok(Answer::done(alloc, text))
 }
 
@@ -158,7 +160,7 @@ fn netlist<F: Folder>(
     ensures files { KeepsFiles (F.files folder.old) (F.files folder.new) }
 {
     let project = project_of(alloc, names.as_slice(), folder)?;
-    listed(alloc, form, &project)
+    listed(alloc, form, project)
 }
 
 fn spice<F: Folder>(alloc: Global, names: Items<Name>, folder: &mut F) -> Result<Answer, RunFault>
