@@ -1,7 +1,6 @@
 """What one client can make all others pay, each with its limit: `crowds`, `writers` and `large`,
 which serving.py calls by these names. Each tells whether it kept to its limit."""
 import multiprocessing
-import os
 import pathlib
 import re
 import shutil
@@ -14,8 +13,8 @@ sys.dont_write_bytecode = True
 
 import paths
 import part_shapes
-from served import Served, free_port
-from serving import Bringing, NGINX, WRITERS, spent
+from load import WRITERS, Bringing, Nginx, spent
+from served import Served
 from writers import Writer
 
 # Seconds of the processor, for each of what is done on a sheet of so many wires at one point.
@@ -25,6 +24,8 @@ MOST_WAIT_MS, READERS, EDITS, PAUSE = 30, 6, 100, 0.02
 # What a reply may cost of the processor beside one of nginx.
 MOST_OF_NGINX, TURNS, SECONDS = 1.3, 3, 2
 NET_LIST = "/netlist/list"
+# What makes nginx the fastest for one file.
+FAST = "sendfile on; open_file_cache max=10;"
 
 
 def equal(count):
@@ -158,28 +159,6 @@ def cost(process, port, path):
     return count / SECONDS, (used_by(process) - before) / count
 
 
-class Nginx:
-    """nginx with a file of these bytes."""
-
-    def __init__(self, room, body):
-        pathlib.Path(room, "sheets").write_bytes(body)
-        os.chmod(room, 0o755)
-        self.port = free_port()
-        text = NGINX.format(port=self.port, root=room)
-        fast = "access_log off; sendfile on; open_file_cache max=10;"
-        pathlib.Path(room, "nginx.conf").write_text(text.replace("access_log off;", fast))
-        self.words = ["nginx", "-p", room, "-c", room + "/nginx.conf"]
-
-    def __enter__(self):
-        self.process = subprocess.Popen(self.words)
-        time.sleep(1)
-        return self
-
-    def __exit__(self, *_):
-        self.process.terminate()
-        self.process.wait()
-
-
 def large(counts):
     """Net lists of so many parts, and nginx with a file of the same bytes, in turns, all warm."""
     if not shutil.which("nginx") or not shutil.which("wrk"):
@@ -192,7 +171,7 @@ def large(counts):
             board.brings(part_shapes.board(count))
             body = board.ask("GET", NET_LIST)[2]
             board.link.close()
-            with Nginx(room, body) as nginx:
+            with Nginx(room, body, FAST) as nginx:
                 turns = [(cost(server.process, server.port, NET_LIST),
                           cost(nginx.process, nginx.port, "/sheets")) for _ in range(TURNS)]
         ours, theirs = (min(turn[place][1] for turn in turns) for place in (0, 1))

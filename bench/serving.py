@@ -38,7 +38,6 @@ GAFD names the program, else the one that is built; TMPDIR names the disk.
 """
 import json
 import multiprocessing
-import os
 import pathlib
 import re
 import resource
@@ -55,25 +54,16 @@ import paths
 import part_shapes
 import sheet_shapes
 from built import built
-from served import Served, free_port, new_database, new_store
+import costs_to_all
+from load import WRITERS, Bringing, Nginx, spent
+from served import Served, new_database, new_store
 from writers import Writer
 
-WRITERS = 8
 # What is measured in costs_to_all.py, and of which counts.
 LIMITED = {"crowds": [4_000, 16_000], "writers": [10_000], "large": [1_000, 5_000, 10_000]}
 # What eight may take of memory beside one who asks alone: a share, and what the workers have of
 # their own, in MiB.
 MOST_OF_ONE, WORKERS_OWN = 1.3, 64
-NGINX = """
-daemon off; pid nginx.pid; error_log stderr crit; worker_processes auto;
-events {{ worker_connections 64; }}
-http {{
-    client_body_temp_path body; proxy_temp_path proxy; fastcgi_temp_path fastcgi;
-    uwsgi_temp_path uwsgi; scgi_temp_path scgi; access_log off; default_type text/plain;
-    keepalive_requests 10000;
-    server {{ listen 127.0.0.1:{port}; location = /sheets {{ root {root}; }} }}
-}}
-"""
 
 
 def beside(count, work):
@@ -145,38 +135,9 @@ def replies(seconds):
         print(f"gafd  {found:8.0f} replies a second, {who}")
         if not shutil.which("nginx"):
             return
-        pathlib.Path(room, "sheets").write_bytes(body)
-        os.chmod(room, 0o755)
-        port = free_port()
-        pathlib.Path(room, "nginx.conf").write_text(NGINX.format(port=port, root=room))
-        nginx = subprocess.Popen(["nginx", "-p", room, "-c", room + "/nginx.conf"])
-        time.sleep(1)
-        try:
-            found, who = rate(port, "/sheets", seconds)
-            print(f"nginx {found:8.0f} replies a second, {who}")
-        finally:
-            nginx.terminate()
-            nginx.wait()
-
-
-class Bringing(Writer):
-    """Who brings the files of a board, and moves its first object to and fro."""
-
-    def brings(self, files):
-        for name, text in sorted(files.items(), reverse=True):
-            kind = "add_symbol" if name.endswith(".sym") else "add_sheet"
-            self.puts({"kind": kind, "name": name, "text": text}, 0)
-
-    def moves(self):
-        way = 100 - 200 * (self.number % 2)
-        self.puts({"dx": 0, "dy": way, "ids": [0], "kind": "move"}, self.front)
-
-    def puts(self, edit, base):
-        self.number += 1
-        value = {"session": self.session, "number": self.number, "base": base, "edit": edit}
-        status, self.front, text = self.ask("POST", "/edits", json.dumps(value).encode())
-        if status != 200:
-            raise SystemExit(f"{edit['kind']} was answered {status} {text}")
+        with Nginx(room, body) as nginx:
+            found, who = rate(nginx.port, "/sheets", seconds)
+        print(f"nginx {found:8.0f} replies a second, {who}")
 
 
 class Moving:
@@ -206,12 +167,6 @@ class Moving:
         self.is_over.set()
         self.thread.join()
         self.reader.link.close()
-
-
-def spent(process):
-    """The seconds of processors that a process has used."""
-    fields = pathlib.Path(f"/proc/{process.pid}/stat").read_text().rpartition(")")[2].split()
-    return (int(fields[11]) + int(fields[12])) / os.sysconf("SC_CLK_TCK")
 
 
 def netlists(seconds, counts):
@@ -340,8 +295,6 @@ def main():
     elif command == "memory":
         return 0 if memories(numbers or [1_000, 10_000]) else 1
     elif command in LIMITED:
-        import costs_to_all
-
         return 0 if getattr(costs_to_all, command)(numbers or LIMITED[command]) else 1
     else:
         sys.exit(__doc__)
