@@ -10,7 +10,7 @@ import time
 sys.dont_write_bytecode = True
 
 import paths
-import built
+import built  # puts clients/ on the path
 from served import free_port
 from writers import Writer
 
