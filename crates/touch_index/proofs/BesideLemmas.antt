@@ -1,5 +1,5 @@
 -- The keys that are found stand for all neighbours.
-use Rattle.std.proofs.Common.{arith, ◌≡◌, ◌≢◌, ◌↔◌, ◌⊎◌, ◌<◌, ◌+◌, ◌++◌, ◌∷◌, [], ℕ, ℤ, zero, suc, inl, inr, true, false, List, length, take, get_or, Option, Some, None, Contains, refl, sym, subst}
+use Rattle.std.proofs.Common.{arith, ◌≡◌, ◌≢◌, ◌↔◌, ◌⊎◌, ◌<◌, ◌+◌, ◌++◌, ◌∷◌, [], ℕ, ℤ, zero, suc, inl, inr, true, false, List, length, take, get_or, Option, Some, None, Contains, refl, sym, ap, subst, ◌∙◌}
 use Rattle.std.proofs.lemmas.List.{take_more}
 use Rattle.std.proofs.lemmas.List.Elements.{Contains-append_left, Contains-push, Contains-push_cases}
 use Rattle.geda_defs.specs.Classes.{Joined}
@@ -8,17 +8,18 @@ use Rattle.geda_geom.specs.declared.conductor.Point.{Point}
 use Rattle.geda_geom.specs.declared.conductor.Conductor.{Conductor}
 use Rattle.geda_geom.specs.Touch.{Touch}
 use Rattle.touch_index.specs.declared.grid.Grid.{Grid}
+use Rattle.touch_index.specs.declared.strips.Strips.{Strips}
 use Rattle.touch_index.specs.declared.spans.Mark.{Mark}
 use Rattle.touch_index.specs.declared.spans.Span.{Span}
-use Rattle.touch_index.specs.declared.spans.SpanSet.{SpanSet}
 use Rattle.touch_index.specs.Index.{AreBeside, DoTouch, IsNeighbour, IsSpanning}
-use Rattle.touch_index.specs.steps.Spans.{DoMeet, Holds, IsMarked, mark_of, span_of}
-use Rattle.touch_index.specs.steps.Spanning.{AreProper, HasAllFound, IsMet}
+use Rattle.touch_index.specs.steps.Spans.{DoMeet, mark_of, span_of}
+use Rattle.touch_index.specs.steps.Strips.{AreAllProper, FindsOn, HasMark, HasSpan, IsMetOn, strip_at, strip_of}
 use Rattle.touch_index.specs.steps.Grid.{AddsMetIn, Covers, Finds, IsMetIn, column_point, ends_of, lifted, row_point}
 use Rattle.touch_index.specs.steps.Drawn.{AreDrawn, IsDrawn}
 use Rattle.touch_index.specs.steps.Sifting.{Entries, IsBesideOne, IsIndexed, StandForAll, conductor_at}
 use Rattle.touch_index.proofs.DrawnLemmas.{IsAxis, columns_axis, marks_touch, mark_proper, rows_axis}
 use Rattle.touch_index.proofs.GridLemmas.{along_both, some_both, touching_meets}
+use Rattle.touch_index.proofs.StripLemmas.{mark_on, mark_there}
 use Rattle.touch_index.proofs.ListLemmas.{none_is_in}
 use Rattle.touch_index.proofs.MapLemmas.{key_or_apart}
 use Rattle.touch_index.proofs.MarkLemmas.{span_of-mark_of}
@@ -30,21 +31,22 @@ pub record StandsFor (at : Key → Option Conductor) (key : Key) (keys : List Ke
   pub near : IsNeighbour at key other
   pub touch : DoTouch (at other) (at q)
 
-module _ (at : Key → Option Conductor) (f g : Point → ℤ) (axis : IsAxis f g) (spans : SpanSet) (key q : Key) (keys : List Key) (apart : q ≢ key)
-    (drawn : (m : Mark) → IsMarked spans.marks m → IsDrawn at (λ p. record { line = lifted (f p); at = lifted (g p) }) m) where
-  pub set_stands : (s t : Span) → HasAllFound false spans key keys s × Holds spans s key → Holds spans t q → DoMeet s t → StandsFor at key keys q
+module _ (at : Key → Option Conductor) (f g : Point → ℤ) (axis : IsAxis f g) (strips : Strips) (key q : Key) (keys : List Key) (apart : q ≢ key)
+    (drawn : (m : Mark) → HasMark strips m → IsDrawn at (λ p. record { line = lifted (f p); at = lifted (g p) }) m) where
+  pub set_stands : (s t : Span) → FindsOn false strips key keys s × HasSpan strips s key → HasSpan strips t q → DoMeet s t → StandsFor at key keys q
   set_stands s t own holds meet =
-      let own_span : span_of (mark_of s key) ≡ s = span_of-mark_of s key own.1.fits in
-      let span : span_of (mark_of t q) ≡ t = span_of-mark_of t q holds.fits in
-      let spanned = own.0 (mark_of t q) holds.known (record {
-        marked = holds.marked;
-        long = let long = holds.long in omega (arith, long);
+      let own_span : span_of (mark_of s key) ≡ s = span_of-mark_of s key own.1.holds.fits in
+      let span : span_of (mark_of t q) ≡ t = span_of-mark_of t q holds.holds.fits in
+      let there : strip_at strips (strip_of s.line) ≡ Some holds.spans = ap (λ (n : ℕ). strip_at strips (strip_of n)) meet.together ∙ holds.there in
+      let spanned = own.0 holds.spans there (mark_of t q) holds.holds.known (record {
+        marked = holds.holds.marked;
+        long = let long = holds.holds.long in omega (arith, long);
         apart = apart;
         meets = subst (DoMeet s) (sym span) meet;
       }) in
-      let first = drawn (mark_of s key) own.1.marked in
-      let second = drawn (mark_of t q) holds.marked in
-      let third = drawn spanned.other spanned.marked in
+      let first = drawn (mark_of s key) (mark_there strips s key own.1) in
+      let second = drawn (mark_of t q) (mark_there strips t q holds) in
+      let third = drawn spanned.other (mark_on strips (strip_of s.line) holds.spans spanned.other there (ap strip_of spanned.near.together) spanned.marked) in
       record {
         other = spanned.other.key;
         listed = spanned.listed;
@@ -63,22 +65,22 @@ module _ (at : Key → Option Conductor) (f g : Point → ℤ) (axis : IsAxis f 
 pub stands_near : (at : Key → Option Conductor) (grid : Grid) (own c : Conductor) (key q : Key) (keys : List Key) → AreDrawn at grid → Covers grid own key → Covers grid c q
     → Finds false grid own key keys → q ≢ key → Touch own c → StandsFor at key keys q
 stands_near at grid own c key q keys drawn mine other spans apart touch =
-    touching_meets (λ s. HasAllFound false grid.rows key keys s × Holds grid.rows s key) (λ s. HasAllFound false grid.columns key keys s × Holds grid.columns s key)
-    (λ s. Holds grid.rows s q) (λ s. Holds grid.columns s q) (StandsFor at key keys q)
+    touching_meets (λ s. FindsOn false grid.rows key keys s × HasSpan grid.rows s key) (λ s. FindsOn false grid.columns key keys s × HasSpan grid.columns s key)
+    (λ s. HasSpan grid.rows s q) (λ s. HasSpan grid.columns s q) (StandsFor at key keys q)
     (set_stands at (λ p. p.y) (λ p. p.x) rows_axis grid.rows key q keys apart drawn.rows)
     (set_stands at (λ p. p.x) (λ p. p.y) columns_axis grid.columns key q keys apart drawn.columns)
     own c
     (record {
-      rows = along_both (HasAllFound false grid.rows key keys) (λ s. Holds grid.rows s key) (row_point (ends_of own).0) (row_point (ends_of own).1) spans.rows mine.rows;
-      columns = along_both (HasAllFound false grid.columns key keys) (λ s. Holds grid.columns s key) (column_point (ends_of own).0) (column_point (ends_of own).1) spans.columns mine.columns;
+      rows = along_both (FindsOn false grid.rows key keys) (λ s. HasSpan grid.rows s key) (row_point (ends_of own).0) (row_point (ends_of own).1) spans.rows mine.rows;
+      columns = along_both (FindsOn false grid.columns key keys) (λ s. HasSpan grid.columns s key) (column_point (ends_of own).0) (column_point (ends_of own).1) spans.columns mine.columns;
     })
     other touch
 
 -- no drawn mark ends before it begins
-pub rows_proper : (at : Key → Option Conductor) (grid : Grid) → AreDrawn at grid → AreProper grid.rows.marks
+pub rows_proper : (at : Key → Option Conductor) (grid : Grid) → AreDrawn at grid → AreAllProper grid.rows
 rows_proper at grid drawn m h = mark_proper at (λ p. p.y) (λ p. p.x) rows_axis m (drawn.rows m h)
 
-pub columns_proper : (at : Key → Option Conductor) (grid : Grid) → AreDrawn at grid → AreProper grid.columns.marks
+pub columns_proper : (at : Key → Option Conductor) (grid : Grid) → AreDrawn at grid → AreAllProper grid.columns
 columns_proper at grid drawn m h = mark_proper at (λ p. p.x) (λ p. p.y) columns_axis m (drawn.columns m h)
 
 -- nothing is a neighbour of what is not there
@@ -98,31 +100,31 @@ beside_or_same at key a b first second touch = elim (key_or_apart a b) [
 join_on : (R : Key → Key → Type 0) (i j k : Key) → Joined R i j → (j ≡ k) ⊎ R j k → Joined R i k
 join_on R i j k joined next = elim next [ inl e ↦ subst (Joined R i) e joined | inr r ↦ (suc joined.0, (j, joined.1, r)) ]
 
-module _ (at : Key → Option Conductor) (f g : Point → ℤ) (axis : IsAxis f g) (spans : SpanSet) (key q : Key)
-    (drawn : (m : Mark) → IsMarked spans.marks m → IsDrawn at (λ p. record { line = lifted (f p); at = lifted (g p) }) m) where
-  met_touches : (s : Span) → IsMet spans.marks s key q → Holds spans s key → IsNeighbour at key q
+module _ (at : Key → Option Conductor) (f g : Point → ℤ) (axis : IsAxis f g) (strips : Strips) (key q : Key)
+    (drawn : (m : Mark) → HasMark strips m → IsDrawn at (λ p. record { line = lifted (f p); at = lifted (g p) }) m) where
+  met_touches : (s : Span) → IsMetOn strips s key q → HasSpan strips s key → IsNeighbour at key q
   met_touches s met own =
-      let own_span : span_of (mark_of s key) ≡ s = span_of-mark_of s key own.fits in
-      let touch = marks_touch at f g axis (mark_of s key) met.mark (drawn (mark_of s key) own.marked) (drawn met.mark met.marked)
+      let own_span : span_of (mark_of s key) ≡ s = span_of-mark_of s key own.holds.fits in
+      let touch = marks_touch at f g axis (mark_of s key) met.mark (drawn (mark_of s key) (mark_there strips s key own)) (drawn met.mark met.marked)
       (subst (λ (u : Span). DoMeet u (span_of met.mark)) (sym own_span) met.near) in
       subst (IsNeighbour at key) met.is (record { apart = met.apart; touch = touch })
 
 -- what has a mark that meets is a neighbour
 pub met_is_near : (at : Key → Option Conductor) (grid : Grid) (own : Conductor) (key q : Key) → AreDrawn at grid → Covers grid own key → IsMetIn grid own key q → IsNeighbour at key q
 met_is_near at grid own key q drawn mine met = elim met [
-  | inl row ↦ some_both (λ s. IsMet grid.rows.marks s key q) (λ s. Holds grid.rows s key) (IsNeighbour at key q) (row_point (ends_of own).0) (row_point (ends_of own).1)
+  | inl row ↦ some_both (λ s. IsMetOn grid.rows s key q) (λ s. HasSpan grid.rows s key) (IsNeighbour at key q) (row_point (ends_of own).0) (row_point (ends_of own).1)
       (met_touches at (λ p. p.y) (λ p. p.x) rows_axis grid.rows key q drawn.rows) row mine.rows
-  | inr column ↦ some_both (λ s. IsMet grid.columns.marks s key q) (λ s. Holds grid.columns s key) (IsNeighbour at key q) (column_point (ends_of own).0) (column_point (ends_of own).1)
+  | inr column ↦ some_both (λ s. IsMetOn grid.columns s key q) (λ s. HasSpan grid.columns s key) (IsNeighbour at key q) (column_point (ends_of own).0) (column_point (ends_of own).1)
       (met_touches at (λ p. p.x) (λ p. p.y) columns_axis grid.columns key q drawn.columns) column mine.columns
 ]
 
-module _ (spans : SpanSet) (key q : Key) (keys : List Key) (apart : q ≢ key) where
-  set_lists : (s t : Span) → HasAllFound true spans key keys s → Holds spans t q → DoMeet s t → Contains keys q
+module _ (strips : Strips) (key q : Key) (keys : List Key) (apart : q ≢ key) where
+  set_lists : (s t : Span) → FindsOn true strips key keys s → HasSpan strips t q → DoMeet s t → Contains keys q
   set_lists s t all holds meet =
-      let span : span_of (mark_of t q) ≡ t = span_of-mark_of t q holds.fits in
-      all (mark_of t q) holds.known (record {
-        marked = holds.marked;
-        long = let long = holds.long in omega (arith, long);
+      let span : span_of (mark_of t q) ≡ t = span_of-mark_of t q holds.holds.fits in
+      all holds.spans (ap (λ (n : ℕ). strip_at strips (strip_of n)) meet.together ∙ holds.there) (mark_of t q) holds.holds.known (record {
+        marked = holds.holds.marked;
+        long = let long = holds.holds.long in omega (arith, long);
         apart = apart;
         meets = subst (DoMeet s) (sym span) meet;
       })
@@ -130,7 +132,7 @@ module _ (spans : SpanSet) (key q : Key) (keys : List Key) (apart : q ≢ key) w
 -- where all are wanted each neighbour is listed
 pub lists_near : (grid : Grid) (own c : Conductor) (key q : Key) (keys : List Key) → Covers grid c q → Finds true grid own key keys → q ≢ key → Touch own c → Contains keys q
 lists_near grid own c key q keys other finds apart touch =
-    touching_meets (HasAllFound true grid.rows key keys) (HasAllFound true grid.columns key keys) (λ s. Holds grid.rows s q) (λ s. Holds grid.columns s q) (Contains keys q)
+    touching_meets (FindsOn true grid.rows key keys) (FindsOn true grid.columns key keys) (λ s. HasSpan grid.rows s q) (λ s. HasSpan grid.columns s q) (Contains keys q)
     (set_lists grid.rows key q keys apart) (set_lists grid.columns key q keys apart) own c finds other touch
 
 module _ (es : Entries) (grid : Grid) (own : Conductor) (key : Key) (near keys : List Key) (indexed : IsIndexed es grid) (drawn : AreDrawn (conductor_at es) grid)

@@ -10,11 +10,12 @@ use Rattle.geda_geom.specs.Touch.{IsAt, IsBetween, IsEnd, IsInside, IsLevel, Som
 use Rattle.geda_geom.proofs.TouchLemmas.{touch_turn}
 use Rattle.touch_index.specs.declared.grid.Grid.{Grid}
 use Rattle.touch_index.specs.declared.grid.LinePoint.{LinePoint}
+use Rattle.touch_index.specs.declared.strips.Strips.{Strips}
 use Rattle.touch_index.specs.declared.spans.Mark.{Mark}
 use Rattle.touch_index.specs.declared.spans.Span.{Span}
-use Rattle.touch_index.specs.declared.spans.SpanSet.{SpanSet}
 use Rattle.touch_index.specs.Index.{DoTouch}
-use Rattle.touch_index.specs.steps.Spans.{AddsMark, DoMeet, LosesMark, mark_of, span_of}
+use Rattle.touch_index.specs.steps.Spans.{DoMeet, mark_of, span_of}
+use Rattle.touch_index.specs.steps.Strips.{AddsMarkTo, TakesMark}
 use Rattle.touch_index.specs.steps.Grid.{IsThrough, between, column_point, ends_of, lifted, row_point}
 use Rattle.touch_index.specs.steps.Drawn.{AddsAlong, AddsMarks, HasPlaces, IsAlong, IsDrawn, IsHeld, IsMarkOf, IsPlace, LosesAlong, LosesMarks}
 use Rattle.touch_index.proofs.MarkLemmas.{span_of-mark_of}
@@ -24,31 +25,31 @@ held (pos n) fits = omega (arith, ints)
 held (negsuc n) fits = omega (arith, ints)
 
 -- marks that come
-pub adds_one : (a b : LinePoint) (key : Key) (s : Span) (old new : SpanSet) → a.line ≡ b.line → s ≡ between a b → AddsMark (mark_of s key) old new → AddsAlong a b key old new
+pub adds_one : (a b : LinePoint) (key : Key) (s : Span) (old new : Strips) → a.line ≡ b.line → s ≡ between a b → AddsMarkTo (mark_of s key) old new → AddsAlong a b key old new
 adds_one a b key s old new line is adds m h = elim (adds m h) [
   | inl was ↦ inl was
   | inr e ↦ inr (inl (line, e ∙ ap (λ (t : Span). mark_of t key) is))
 ]
 
-pub adds_first : (a b : LinePoint) (key : Key) (s : Span) (old new : SpanSet) → a.line ≢ b.line → s ≡ between a a → AddsMark (mark_of s key) old new → AddsAlong a b key old new
+pub adds_first : (a b : LinePoint) (key : Key) (s : Span) (old new : Strips) → a.line ≢ b.line → s ≡ between a a → AddsMarkTo (mark_of s key) old new → AddsAlong a b key old new
 adds_first a b key s old new apart is adds m h = elim (adds m h) [
   | inl was ↦ inl was
   | inr e ↦ inr (inr (apart, inl (e ∙ ap (λ (t : Span). mark_of t key) is)))
 ]
 
-pub adds_second : (a b : LinePoint) (key : Key) (s : Span) (old new : SpanSet) → a.line ≢ b.line → s ≡ between b b → AddsMark (mark_of s key) old new → AddsAlong a b key old new
+pub adds_second : (a b : LinePoint) (key : Key) (s : Span) (old new : Strips) → a.line ≢ b.line → s ≡ between b b → AddsMarkTo (mark_of s key) old new → AddsAlong a b key old new
 adds_second a b key s old new apart is adds m h = elim (adds m h) [
   | inl was ↦ inl was
   | inr e ↦ inr (inr (apart, inr (e ∙ ap (λ (t : Span). mark_of t key) is)))
 ]
 
-pub adds_both : (a b : LinePoint) (key : Key) (old mid new : SpanSet) → AddsAlong a b key old mid → AddsAlong a b key mid new → AddsAlong a b key old new
+pub adds_both : (a b : LinePoint) (key : Key) (old mid new : Strips) → AddsAlong a b key old mid → AddsAlong a b key mid new → AddsAlong a b key old new
 adds_both a b key old mid new first second m h = elim (second m h) [ inl was ↦ first m was | inr is ↦ inr is ]
 
-pub adds_none : (a b : LinePoint) (key : Key) (old : SpanSet) → AddsAlong a b key old old
+pub adds_none : (a b : LinePoint) (key : Key) (old : Strips) → AddsAlong a b key old old
 adds_none a b key old m h = inl h
 
-pub adds_at : (a b x y : LinePoint) (key : Key) (old new : SpanSet) → a ≡ x → b ≡ y → AddsAlong a b key old new → AddsAlong x y key old new
+pub adds_at : (a b x y : LinePoint) (key : Key) (old new : Strips) → a ≡ x → b ≡ y → AddsAlong a b key old new → AddsAlong x y key old new
 adds_at a b x y key old new e f h = subst (λ (p : LinePoint). AddsAlong p y key old new) e (subst (λ (q : LinePoint). AddsAlong a q key old new) f h)
 
 pub adds_marks : (c : Conductor) (key : Key) (old new : Grid) (ends : Point × Point) → ends ≡ ends_of c → IsPlace ends.0 → IsPlace ends.1
@@ -63,7 +64,7 @@ adds_marks c key old new ends e first second rows columns = record {
 }
 
 -- marks that go
-pub loses_one : (a b : LinePoint) (key : Key) (s : Span) (old new : SpanSet) → a.line ≡ b.line → s ≡ between a b → LosesMark (mark_of s key) old new → LosesAlong a b key old new
+pub loses_one : (a b : LinePoint) (key : Key) (s : Span) (old new : Strips) → a.line ≡ b.line → s ≡ between a b → TakesMark (mark_of s key) old new → LosesAlong a b key old new
 loses_one a b key s old new line is loses m h = (
   (loses m h).0,
   λ some. elim some [
@@ -72,8 +73,8 @@ loses_one a b key s old new line is loses m h = (
   ],
 )
 
-pub loses_both : (a b : LinePoint) (key : Key) (s t : Span) (old mid new : SpanSet) → a.line ≢ b.line → s ≡ between a a → t ≡ between b b
-    → LosesMark (mark_of s key) old mid → LosesMark (mark_of t key) mid new → LosesAlong a b key old new
+pub loses_both : (a b : LinePoint) (key : Key) (s t : Span) (old mid new : Strips) → a.line ≢ b.line → s ≡ between a a → t ≡ between b b
+    → TakesMark (mark_of s key) old mid → TakesMark (mark_of t key) mid new → LosesAlong a b key old new
 loses_both a b key s t old mid new apart first second before after m h =
     let mid_has = after m h in
     let old_has = before m mid_has.0 in (
@@ -87,7 +88,7 @@ loses_both a b key s t old mid new apart first second before after m h =
       ],
     )
 
-pub loses_at : (a b x y : LinePoint) (key : Key) (old new : SpanSet) → a ≡ x → b ≡ y → LosesAlong a b key old new → LosesAlong x y key old new
+pub loses_at : (a b x y : LinePoint) (key : Key) (old new : Strips) → a ≡ x → b ≡ y → LosesAlong a b key old new → LosesAlong x y key old new
 loses_at a b x y key old new e f h = subst (λ (p : LinePoint). LosesAlong p y key old new) e (subst (λ (q : LinePoint). LosesAlong a q key old new) f h)
 
 pub loses_marks : (c : Conductor) (key : Key) (old new : Grid) (ends : Point × Point) → ends ≡ ends_of c

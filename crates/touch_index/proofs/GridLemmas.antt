@@ -10,9 +10,10 @@ use Rattle.geda_geom.specs.declared.conductor.Conductor.TheVariants.{Segment, En
 use Rattle.geda_geom.specs.Touch.{Touch, IsBetween, IsEnd, SomeEnd, IsInside}
 use Rattle.touch_index.specs.declared.grid.Grid.{Grid}
 use Rattle.touch_index.specs.declared.grid.LinePoint.{LinePoint}
+use Rattle.touch_index.specs.declared.strips.Strips.{Strips}
 use Rattle.touch_index.specs.declared.spans.Span.{Span}
-use Rattle.touch_index.specs.declared.spans.SpanSet.{SpanSet}
-use Rattle.touch_index.specs.steps.Spans.{DoMeet, Holds}
+use Rattle.touch_index.specs.steps.Spans.{DoMeet}
+use Rattle.touch_index.specs.steps.Strips.{HasSpan}
 use Rattle.touch_index.specs.steps.Grid.{IsThrough, lifted, row_point, column_point, between, AddsMetAlong, AddsMetIn, Along, Through, SomeAlong, ends_of, InGrid, Covers}
 
 -- coordinates stay in order
@@ -163,11 +164,11 @@ along_to P Q a b to h = record {
 }
 
 -- what keeps the spans under a key keeps its conductor
-pub covers_later : (old new : Grid) (k : Key) → ((s : Span) → Holds old.rows s k → Holds new.rows s k)
-    → ((s : Span) → Holds old.columns s k → Holds new.columns s k) → (c : Conductor) → Covers old c k → Covers new c k
+pub covers_later : (old new : Grid) (k : Key) → ((s : Span) → HasSpan old.rows s k → HasSpan new.rows s k)
+    → ((s : Span) → HasSpan old.columns s k → HasSpan new.columns s k) → (c : Conductor) → Covers old c k → Covers new c k
 covers_later old new k rows columns c has = record {
-  rows = along_to (λ s. Holds old.rows s k) (λ s. Holds new.rows s k) (row_point (ends_of c).0) (row_point (ends_of c).1) rows has.rows;
-  columns = along_to (λ s. Holds old.columns s k) (λ s. Holds new.columns s k) (column_point (ends_of c).0) (column_point (ends_of c).1) columns has.columns;
+  rows = along_to (λ s. HasSpan old.rows s k) (λ s. HasSpan new.rows s k) (row_point (ends_of c).0) (row_point (ends_of c).1) rows has.rows;
+  columns = along_to (λ s. HasSpan old.columns s k) (λ s. HasSpan new.columns s k) (column_point (ends_of c).0) (column_point (ends_of c).1) columns has.columns;
 }
 
 -- what is so of a span by two claims
@@ -190,9 +191,9 @@ in_grid_by R C c ends e rows columns = record {
 }
 
 -- keys that come along one line, or two
-pub met_at : (spans : SpanSet) (a b x y : LinePoint) (own : Key) (old new : List Key) → a ≡ x → b ≡ y → AddsMetAlong spans a b own old new → AddsMetAlong spans x y own old new
-met_at spans a b x y own old new e f h =
-    subst (λ (p : LinePoint). AddsMetAlong spans p y own old new) e (subst (λ (q : LinePoint). AddsMetAlong spans a q own old new) f h)
+pub met_at : (strips : Strips) (a b x y : LinePoint) (own : Key) (old new : List Key) → a ≡ x → b ≡ y → AddsMetAlong strips a b own old new → AddsMetAlong strips x y own old new
+met_at strips a b x y own old new e f h =
+    subst (λ (p : LinePoint). AddsMetAlong strips p y own old new) e (subst (λ (q : LinePoint). AddsMetAlong strips a q own old new) f h)
 
 pub met_in : (grid : Grid) (c : Conductor) (own : Key) (old mid new : List Key) (ends : Point × Point) → ends ≡ ends_of c
     → AddsMetAlong grid.rows (row_point ends.0) (row_point ends.1) own old mid → AddsMetAlong grid.columns (column_point ends.0) (column_point ends.1) own mid new → AddsMetIn grid c own old new

@@ -1,6 +1,7 @@
 pub mod ListLemmas
 pub mod MarkLemmas
 pub mod SpanningLemmas
+pub mod StripLemmas
 pub mod GridLemmas
 pub mod DrawnLemmas
 pub mod MapLemmas

@@ -1,8 +1,5 @@
 -- The map of conductors, as a finite map and against the grid.
-use Rattle.std.proofs.Common.{rules, ◌≡◌, ◌≢◌, ◌⊎◌, inl, inr, Bool, true, false, cond, List, [], ◌∷◌, Option, Some, None, Result, Ok, Err, OnErr, OnOk, is_err, refl, sym, ap, subst, ◌∙◌}
-use Rattle.std.specs.BTreeMap.{is_at}
-use Rattle.std.specs.BTreeSet.{BTreeSet}
-use Rattle.std.specs.List.{list_any}
+use Rattle.std.proofs.Common.{rules, ◌≡◌, ◌≢◌, ◌⊎◌, inl, inr, Bool, true, false, cond, [], ◌∷◌, Option, Some, None, Result, Ok, Err, OnErr, OnOk, is_err, refl, sym, ap, subst, ◌∙◌}
 use Rattle.std.specs.Option.{unwrap_or}
 use Rattle.std.specs.Cmp.{IsEquivalence, eq_by_cmp_equiv}
 use Rattle.std.specs.Cmp.Rules.{comparing}
@@ -16,13 +13,13 @@ use Rattle.touch_index.specs.declared.grid.Grid.{Grid}
 use Rattle.touch_index.specs.declared.grid.LinePoint.{LinePoint}
 use Rattle.touch_index.specs.declared.spans.Mark.{Mark}
 use Rattle.geda_geom.specs.Keys.{by_key}
-use Rattle.touch_index.specs.steps.Marks.{by_mark}
-use Rattle.touch_index.specs.steps.Spans.{IsMarked, KeepsSpans, KeepsOthers}
+use Rattle.touch_index.specs.steps.Strips.{KeepsStrips, KeepsOtherKeys}
 use Rattle.touch_index.specs.steps.Grid.{Covers, column_point, ends_of, row_point}
 use Rattle.touch_index.specs.steps.Drawn.{AddsMarks, AreDrawn, HasNoMarks, HasPlaces, IsDrawn, IsMarkOf, LosesMarks}
 use Rattle.touch_index.specs.steps.Sifting.{Entries, DifferAt, IsIndexed, conductor_at, is_same_key}
 use Rattle.touch_index.proofs.DrawnLemmas.{along_key}
 use Rattle.touch_index.proofs.GridLemmas.{covers_later}
+use Rattle.touch_index.proofs.StripLemmas.{no_mark}
 use Rattle.geda_geom.proofs.KeyLemmas.{by_key_total, exact_keys}
 
 -- keys are the same where they compare equal
@@ -64,7 +61,7 @@ one_gone es fs k h = same_map by_key_total exact_keys _ _ (λ q.
 
 -- a conductor more, in the map and in the grid
 pub indexed_more : (m n : Entries) (old new : Grid) (key : Key) (v : Conductor) → DifferAt key (Some v) m n → Covers new v key
-    → KeepsSpans old.rows new.rows → KeepsSpans old.columns new.columns → IsIndexed m old → IsIndexed n new
+    → KeepsStrips old.rows new.rows → KeepsStrips old.columns new.columns → IsIndexed m old → IsIndexed n new
 indexed_more m n old new key v updates covered rows columns indexed k d h = go (is_same_key key k) refl (sym (updates k) ∙ h)
   where
     go : (b : Bool) → is_same_key key k ≡ b → cond b (Some v) (conductor_at m k) ≡ Some d → Covers new d k
@@ -72,12 +69,12 @@ indexed_more m n old new key v updates covered rows columns indexed k d h = go (
     go false e p = covers_later old new k (λ s. rows s k) (λ s. columns s k) d (indexed k d p)
 
 -- the grid alone has more
-pub indexed_kept : (m : Entries) (old new : Grid) → KeepsSpans old.rows new.rows → KeepsSpans old.columns new.columns → IsIndexed m old → IsIndexed m new
+pub indexed_kept : (m : Entries) (old new : Grid) → KeepsStrips old.rows new.rows → KeepsStrips old.columns new.columns → IsIndexed m old → IsIndexed m new
 indexed_kept m old new rows columns indexed k d h = covers_later old new k (λ s. rows s k) (λ s. columns s k) d (indexed k d h)
 
 -- the grid alone has less, under a key that is not there
 pub indexed_left : (m : Entries) (old new : Grid) (key : Key) → conductor_at m key ≡ None
-    → KeepsOthers key old.rows new.rows → KeepsOthers key old.columns new.columns → IsIndexed m old → IsIndexed m new
+    → KeepsOtherKeys key old.rows new.rows → KeepsOtherKeys key old.columns new.columns → IsIndexed m old → IsIndexed m new
 indexed_left m old new key none rows columns indexed k d h = covers_later old new k (λ s. rows s k apart) (λ s. columns s k apart) d (indexed k d h)
   where
     apart : k ≢ key
@@ -85,7 +82,7 @@ indexed_left m old new key none rows columns indexed k d h = covers_later old ne
 
 -- a conductor less
 pub indexed_less : (m n : Entries) (old new : Grid) (key : Key) → DifferAt key None m n
-    → KeepsOthers key old.rows new.rows → KeepsOthers key old.columns new.columns → IsIndexed m old → IsIndexed n new
+    → KeepsOtherKeys key old.rows new.rows → KeepsOtherKeys key old.columns new.columns → IsIndexed m old → IsIndexed n new
 indexed_less m n old new key updates rows columns indexed k d h = go (is_same_key key k) refl (sym (updates k) ∙ h)
   where
     go : (b : Bool) → is_same_key key k ≡ b → cond b None (conductor_at m k) ≡ Some d → Covers new d k
@@ -173,12 +170,8 @@ pub indexed_none : (es : Entries) (grid : Grid) → es ≡ [] → IsIndexed es g
 indexed_none es grid none k c h =
     let p : ◌≡◌ {A = Option Conductor} None (Some c) = sym (ap (λ (fs : Entries). conductor_at fs k) none) ∙ h in absurd (cc)
 
-no_mark : (marks : BTreeSet Mark) → marks.keys ≡ [] → (m : Mark) → IsMarked marks m → ⊥
-no_mark marks none m h =
-    let p : false ≡ true = sym (ap (λ (ms : List Mark). list_any (is_at (by_mark m)) ms) none) ∙ h in absurd (cc)
-
 pub drawn_none : (at : Key → Option Conductor) (grid : Grid) → HasNoMarks grid → AreDrawn at grid
 drawn_none at grid none = record {
-  rows = λ m h. absurd (no_mark grid.rows.marks none.rows m h);
-  columns = λ m h. absurd (no_mark grid.columns.marks none.columns m h);
+  rows = λ m h. absurd (no_mark grid.rows none.rows m h);
+  columns = λ m h. absurd (no_mark grid.columns none.columns m h);
 }

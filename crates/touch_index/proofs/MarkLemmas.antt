@@ -3,8 +3,8 @@ use Rattle.std.proofs.Common.{arith, ◌≡◌, ℕ, ◌≤◌, ◌-◌, Bool, t
 use Rattle.std.proofs.lemmas.Grind.{common_steps}
 use Rattle.std.specs.BTreeSet.{BTreeSet, contains, Updates}
 use Rattle.std.specs.BTreeMap.{is_at}
-use Rattle.std.specs.BTreeMap.Range.{IsLeBy, IsLtBy, range_contains}
-use Rattle.std.specs.declared.ops.Bound.TheVariants.{Included, Excluded}
+use Rattle.std.specs.BTreeMap.Range.{IsLeBy, range_contains}
+use Rattle.std.specs.declared.ops.Bound.TheVariants.{Included, Unbounded}
 use Rattle.std.specs.Cmp.{IsTotalOrder, eq_by_cmp_equiv}
 use Rattle.std.specs.Ordering.{nat_cmp, ordering_then}
 use Rattle.std.proofs.lemmas.Cmp.{nat_cmp_total, then_total, on_total}
@@ -16,7 +16,7 @@ use Rattle.touch_index.specs.declared.spans.Span.{Span}
 use Rattle.geda_geom.specs.Keys.{by_key}
 use Rattle.geda_geom.proofs.KeyLemmas.{by_key_total, exact_keys}
 use Rattle.touch_index.specs.steps.Marks.{by_mark}
-use Rattle.touch_index.specs.steps.Spans.{after_mark, mark_at, mark_of, span_of}
+use Rattle.touch_index.specs.steps.Spans.{mark_at, mark_of, span_of}
 
 pub exact_marks : CmpEqualImpliesEq by_mark
 exact_marks a b h =
@@ -37,14 +37,11 @@ by_mark_total = then_total (on_total (λ m. m.line) nat_cmp_total)
 first_low : (span : Span) (width from : ℕ) (m : Mark) → span.line ≡ m.line → width ≡ m.width → from ≤ m.from → IsLeBy by_mark (mark_at span width from) m
 first_low span width from m together wide low = grind (arith, common_steps, together, wide, low)
 
-after_high : (span : Span) (width : ℕ) (m : Mark) → span.line ≡ m.line → width ≡ m.width → m.from ≤ span.to → IsLtBy by_mark m (after_mark span width)
-after_high span width m together wide high = grind (arith, common_steps, together, wide, high)
-
-pub is_near : (span : Span) (width from : ℕ) (m : Mark) → span.line ≡ m.line → width ≡ m.width → from ≤ m.from → m.from ≤ span.to
-    → range_contains by_mark (Included (mark_at span width from)) (Excluded (after_mark span width)) m ≡ true
-is_near span width from m together wide low high =
-    range_contains-from_IsInRange by_mark_total (Included (mark_at span width from)) (Excluded (after_mark span width)) m
-    (first_low span width from m together wide low, after_high span width m together wide high)
+-- a mark that begins no earlier stands among those from a place on
+pub is_later : (span : Span) (width from : ℕ) (m : Mark) → span.line ≡ m.line → width ≡ m.width → from ≤ m.from
+    → range_contains by_mark (Included (mark_at span width from)) Unbounded m ≡ true
+is_later span width from m together wide low =
+    range_contains-from_IsInRange by_mark_total (Included (mark_at span width from)) Unbounded m (first_low span width from m together wide low, tt)
 
 -- the span of the mark of a span
 pub span_of-mark_of : (s : Span) (k : Key) → s.to ≤ 4294967295 → span_of (mark_of s k) ≡ s
@@ -52,7 +49,6 @@ span_of-mark_of s k fits =
     let e : 4294967295 - (4294967295 - s.to) ≡ s.to = omega (arith, fits) in
     ap (λ (to : ℕ). record { line = s.line; from = s.from; to = to }) e
 
--- a mark that is near stands among those of the range
 -- a mark more leaves the others
 pub more_marked : (old new : BTreeSet Mark) (m q : Mark) → Updates by_mark old new m true → IsTrue (contains by_mark old q) → IsTrue (contains by_mark new q)
 more_marked old new m q updates h = updates.0 q ∙ either (is_at (by_mark m) q) (contains by_mark old q) h

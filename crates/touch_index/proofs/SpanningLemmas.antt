@@ -7,32 +7,36 @@ use Rattle.std.proofs.lemmas.List.Kept.{IsStrictlySortedBy-filter}
 use Rattle.std.proofs.lemmas.Map.Keys.{sorted_tail}
 use Rattle.std.proofs.lemmas.Map.Views.{All-after_first, IsInRange-from_range_contains, btree_set_contains_iff}
 use Rattle.std.specs.BTreeSet.{BTreeSet}
-use Rattle.std.specs.BTreeMap.Range.{IsLeBy, IsLtBy, range_contains}
+use Rattle.std.specs.BTreeMap.Range.{IsLeBy, range_contains}
 use Rattle.std.specs.List.Sorted.{IsStrictlySortedBy}
 use Rattle.std.specs.declared.cmp.Ordering.TheVariants.{Less}
-use Rattle.std.specs.declared.ops.Bound.TheVariants.{Included, Excluded}
+use Rattle.std.specs.declared.ops.Bound.TheVariants.{Included, Unbounded}
 use Rattle.geda_geom.specs.declared.conductor.Key.{Key}
 use Rattle.touch_index.specs.declared.spans.Mark.{Mark}
 use Rattle.touch_index.specs.declared.spans.Span.{Span}
 use Rattle.touch_index.specs.declared.spans.SpanSet.{SpanSet}
 use Rattle.touch_index.specs.steps.Marks.{by_mark}
-use Rattle.touch_index.specs.steps.Spans.{IsKept, after_mark, mark_at, span_of}
-use Rattle.touch_index.specs.steps.Spanning.{AddsMet, AreProper, HasAllFound, HasFirstFound, HasFound, HasSpanningTo, IsFirst, IsFound, IsLooking, IsMeeting, IsNext, IsNoLater, IsPushing, IsSpanned, IsWanted, marks_from}
+use Rattle.touch_index.specs.steps.Spans.{IsKept, mark_at, span_of}
+use Rattle.touch_index.specs.steps.Spanning.{AddsMet, AreLater, AreProper, HasAllFound, HasFirstFound, HasFound, HasSpanningTo, IsFirst, IsFound, IsInTime, IsLooking, IsMeeting, IsNext, IsNoLater, IsPushing, IsSpanned, IsWanted, marks_from}
 use Rattle.touch_index.proofs.ListLemmas.{earlier_or_here, filter_has, filter_kept, filter_passed, head_is_in, in_cases, none_is_in, tail_is_in}
-use Rattle.touch_index.proofs.MarkLemmas.{by_mark_total, exact_marks, is_near}
+use Rattle.touch_index.proofs.MarkLemmas.{by_mark_total, exact_marks, is_later}
 
--- what lies between two marks of one width on a line
-line_between : (span : Span) (width from : ℕ) (m : Mark) → IsLeBy by_mark (mark_at span width from) m → IsLtBy by_mark m (after_mark span width) → m.line ≡ span.line
-line_between span width from m low high = grind (arith, common_steps, low, high)
+-- a mark between one that begins from a place on and one that is in time
+late_enough : (span : Span) (width from : ℕ) (m : Mark) → m.line ≡ span.line → m.width ≡ width → IsLeBy by_mark (mark_at span width from) m → from ≤ m.from
+late_enough span width from m line wide low = grind (arith, common_steps, line, wide, low)
 
-width_between : (span : Span) (width from : ℕ) (m : Mark) → IsLeBy by_mark (mark_at span width from) m → IsLtBy by_mark m (after_mark span width) → m.width ≡ width
-width_between span width from m low high = grind (arith, common_steps, low, high)
-
-from_between : (span : Span) (width from : ℕ) (m : Mark) → IsLeBy by_mark (mark_at span width from) m → IsLtBy by_mark m (after_mark span width) → from ≤ m.from
-from_between span width from m low high = grind (arith, common_steps, low, high)
-
-to_between : (span : Span) (width from : ℕ) (m : Mark) → IsLeBy by_mark (mark_at span width from) m → IsLtBy by_mark m (after_mark span width) → m.from ≤ span.to
-to_between span width from m low high = grind (arith, common_steps, low, high)
+in_time : (span : Span) (width from : ℕ) (m n : Mark) → IsLeBy by_mark (mark_at span width from) m → by_mark m n ≡ Less → IsInTime span width n → IsInTime span width m
+in_time span width from m n low less is =
+    let line = is.line in
+    let wide = is.wide in
+    let soon = is.soon in
+    let same_line : m.line ≡ span.line = grind (arith, common_steps, low, less, line) in
+    let same_width : m.width ≡ width = grind (arith, common_steps, low, less, line, wide, same_line) in
+    record {
+      line = same_line;
+      wide = same_width;
+      soon = grind (arith, common_steps, less, line, wide, soon, same_line, same_width);
+    }
 
 no_later : (m n : Mark) → m.line ≡ n.line → m.width ≡ n.width → by_mark m n ≡ Less → IsNoLater m n
 no_later m n line width less = record {
@@ -78,56 +82,94 @@ adds_one_met marks span width from own old keys m next reaches adds k c = elim (
   })
 ]
 
-module _ (marks : BTreeSet Mark) (span : Span) (width from : ℕ) (own : Key) where
-  pub looking_begins : (left : List Mark) → IsStrictlySortedBy by_mark marks.keys → left ≡ marks_from marks span width from → IsLooking marks span width from own left
-  looking_begins left sorted is = record {
+none_later : (marks : BTreeSet Mark) (span : Span) (width from : ℕ) → AreLater marks span width from []
+unfolding IsStrictlySortedBy
+none_later marks span width from = record { rising = tt; marked = λ n h. none_is_in n h; late = λ n h. none_is_in n h }
+
+module _ (marks : BTreeSet Mark) (span : Span) (width from : ℕ) where
+  pub later_begins : (left : List Mark) → IsStrictlySortedBy by_mark marks.keys → left ≡ marks_from marks span width from → AreLater marks span width from left
+  later_begins left sorted is = record {
     rising = subst (IsStrictlySortedBy by_mark) (sym is) (IsStrictlySortedBy-filter by_mark near marks.keys sorted);
-    inside = λ m has apart.
-        let in_range = subst (λ (ms : List Mark). Contains ms m) is has in
-        let is = IsInRange-from_range_contains by_mark_total (Included (mark_at span width from)) (Excluded (after_mark span width)) m (filter_passed near marks.keys m in_range) in
-        record {
-          marked = (btree_set_contains_iff by_mark_total exact_marks marks m).1 (filter_kept near marks.keys m in_range);
-          line = line_between span width from m is.0 is.1;
-          wide = width_between span width from m is.0 is.1;
-          late = from_between span width from m is.0 is.1;
-          soon = to_between span width from m is.0 is.1;
-          apart = apart;
-        };
-    all = λ m next.
-        subst (λ (ms : List Mark). Contains ms m) (sym is)
-        (filter_has near marks.keys m ((btree_set_contains_iff by_mark_total exact_marks marks m).0 next.marked) (is_near span width from m (sym next.line) (sym next.wide) next.late next.soon));
+    marked = λ m has. (btree_set_contains_iff by_mark_total exact_marks marks m).1 (filter_kept near marks.keys m (in_range m has));
+    late = λ m has. (IsInRange-from_range_contains by_mark_total (Included (mark_at span width from)) Unbounded m (filter_passed near marks.keys m (in_range m has))).0;
   }
     where
       near : Mark → Bool
-      near = range_contains by_mark (Included (mark_at span width from)) (Excluded (after_mark span width))
+      near = range_contains by_mark (Included (mark_at span width from)) Unbounded
 
-  pub looking_past : (m : Mark) (rest : List Mark) → m.key ≡ own → IsLooking marks span width from own (m ∷ rest) → IsLooking marks span width from own rest
-  looking_past m rest is looking = record {
-    rising = sorted_tail by_mark m rest looking.rising;
-    inside = λ n has. looking.inside n (tail_is_in m rest n has);
-    all = λ n next. elim (in_cases m rest n (looking.all n next)) [
-      | inl e ↦ absurd (next.apart (ap (λ (x : Mark). x.key) (sym e) ∙ is))
+      in_range : (m : Mark) → Contains left m → Contains (marks_from marks span width from) m
+      in_range m has = subst (λ (ms : List Mark). Contains ms m) is has
+
+  pub later_has : (own : Key) (left : List Mark) → left ≡ marks_from marks span width from → (m : Mark) → IsNext marks span width from own m → Contains left m
+  later_has own left is m next =
+      subst (λ (ms : List Mark). Contains ms m) (sym is)
+      (filter_has (range_contains by_mark (Included (mark_at span width from)) Unbounded) marks.keys m ((btree_set_contains_iff by_mark_total exact_marks marks m).0 next.marked)
+      (is_later span width from m (sym next.line) (sym next.wide) next.late))
+
+  module _ (m : Mark) (rest : List Mark) (later : AreLater marks span width from (m ∷ rest)) where
+    later_tail : AreLater marks span width from rest
+    later_tail = record {
+      rising = sorted_tail by_mark m rest later.rising;
+      marked = λ n has. later.marked n (tail_is_in m rest n has);
+      late = λ n has. later.late n (tail_is_in m rest n has);
+    }
+
+    after_first : (n : Mark) → Contains rest n → by_mark m n ≡ Less
+    after_first n r = subst (λ (q : Mark). by_mark m q ≡ Less) r.2 (All-after_first by_mark m rest later.rising r.0 n r.1)
+
+    is_next : (own : Key) → IsInTime span width m → m.key ≢ own → IsNext marks span width from own m
+    is_next own is apart = record {
+      marked = later.marked m (head_is_in m rest);
+      line = is.line;
+      wide = is.wide;
+      late = late_enough span width from m is.line is.wide (later.late m (head_is_in m rest));
+      soon = is.soon;
+      apart = apart;
+    }
+
+    -- what stands behind one that is not in time is not, either
+    none_behind : (own : Key) → (IsInTime span width m → ⊥) → (n : Mark) → IsNext marks span width from own n → Contains (m ∷ rest) n → ⊥
+    none_behind own none n next has = elim (in_cases m rest n has) [
+      | inl e ↦ none (subst (IsInTime span width) (sym e) of_next)
+      | inr r ↦ none (in_time span width from m n (later.late m (head_is_in m rest)) (after_first n r) of_next)
+    ]
+      where
+        of_next : IsInTime span width n
+        of_next = record { line = next.line; wide = next.wide; soon = next.soon }
+
+module _ (marks : BTreeSet Mark) (span : Span) (width from : ℕ) (own : Key) where
+  pub looking_begins : (left : List Mark) → IsStrictlySortedBy by_mark marks.keys → left ≡ marks_from marks span width from → IsLooking marks span width from own left
+  looking_begins left sorted is = record {
+    later = later_begins marks span width from left sorted is;
+    all = λ m next wanted. later_has marks span width from own left is m next;
+  }
+
+  pub looking_past : (m : Mark) (rest : List Mark) → (IsWanted span own m → ⊥) → IsLooking marks span width from own (m ∷ rest) → IsLooking marks span width from own rest
+  looking_past m rest none looking = record {
+    later = later_tail marks span width from m rest looking.later;
+    all = λ n next wanted. elim (in_cases m rest n (looking.all n next wanted)) [
+      | inl e ↦ absurd (none (subst (IsWanted span own) (sym e) wanted))
       | inr r ↦ r
     ];
   }
 
-  pub looking_finds : (m : Mark) (rest : List Mark) → m.key ≢ own → IsLooking marks span width from own (m ∷ rest) → IsFirst marks span width from own m
-  looking_finds m rest apart looking = record {
+  pub looking_finds : (m : Mark) (rest : List Mark) → IsInTime span width m → m.key ≢ own → IsLooking marks span width from own (m ∷ rest) → IsFirst marks span width from own m
+  looking_finds m rest in_time apart looking = record {
     next = next;
-    first = λ n other. elim (in_cases m rest n (looking.all n other)) [
+    first = λ n other wanted. elim (in_cases m rest n (looking.all n other wanted)) [
       | inl e ↦ subst (IsNoLater m) e (record { from = omega arith; long = λ e. omega arith })
-      | inr r ↦ no_later m n (next.line ∙ sym other.line) (next.wide ∙ sym other.wide) (after_first n r)
+      | inr r ↦ no_later m n (next.line ∙ sym other.line) (next.wide ∙ sym other.wide) (after_first marks span width from m rest looking.later n r)
     ];
   }
     where
       next : IsNext marks span width from own m
-      next = looking.inside m (head_is_in m rest) apart
+      next = is_next marks span width from m rest looking.later own in_time apart
 
-      after_first : (n : Mark) → Contains rest n → by_mark m n ≡ Less
-      after_first n r = subst (λ (q : Mark). by_mark m q ≡ Less) r.2 (All-after_first by_mark m rest looking.rising r.0 n r.1)
+  pub looking_stops : (m : Mark) (rest : List Mark) → (IsInTime span width m → ⊥) → IsLooking marks span width from own (m ∷ rest) → (n : Mark) → IsNext marks span width from own n → IsWanted span own n → ⊥
+  looking_stops m rest none looking n next wanted = none_behind marks span width from m rest looking.later own none n next (looking.all n next wanted)
 
-  pub looking_ends : IsLooking marks span width from own [] → (m : Mark) → IsNext marks span width from own m → ⊥
-  looking_ends looking m next = none_is_in m (looking.all m next)
+  pub looking_ends : IsLooking marks span width from own [] → (m : Mark) → IsNext marks span width from own m → IsWanted span own m → ⊥
+  looking_ends looking m next wanted = none_is_in m (looking.all m next wanted)
 
 -- all keys of one width
 module _ (marks : BTreeSet Mark) (span : Span) (width : ℕ) (own : Key) (old : List Key) where
@@ -135,16 +177,16 @@ module _ (marks : BTreeSet Mark) (span : Span) (width : ℕ) (own : Key) (old : 
   pushing_begins left looking = record {
     kept = λ k c. c;
     only = λ k c. inl c;
-    inside = looking.inside;
-    all = λ m next wanted. inr (looking.all m next);
+    later = looking.later;
+    all = λ m next wanted. inr (looking.all m next wanted);
   }
 
   module _ (keys : List Key) (m : Mark) (rest : List Mark) (pushing : IsPushing marks span width own old keys (m ∷ rest)) where
-    pub pushing_more : IsWanted span own m → IsPushing marks span width own old (keys ++ m.key ∷ []) rest
-    pushing_more wanted = record {
+    pub pushing_more : IsInTime span width m → IsWanted span own m → IsPushing marks span width own old (keys ++ m.key ∷ []) rest
+    pushing_more in_time wanted = record {
       kept = λ k c. Contains-append_left keys (m.key ∷ []) k (pushing.kept k c);
-      only = adds_one_met marks span width (span.from - width) own old keys m (pushing.inside m (head_is_in m rest) wanted.apart) wanted.late pushing.only;
-      inside = λ n has. pushing.inside n (tail_is_in m rest n has);
+      only = adds_one_met marks span width (span.from - width) own old keys m (is_next marks span width (span.from - width) m rest pushing.later own in_time wanted.apart) wanted.late pushing.only;
+      later = later_tail marks span width (span.from - width) m rest pushing.later;
       all = λ n next late. elim (pushing.all n next late) [
         | inl c ↦ inl (Contains-append_left keys (m.key ∷ []) n.key c)
         | inr h ↦ elim (in_cases m rest n h) [
@@ -158,10 +200,22 @@ module _ (marks : BTreeSet Mark) (span : Span) (width : ℕ) (own : Key) (old : 
     pushing_past none = record {
       kept = pushing.kept;
       only = pushing.only;
-      inside = λ n has. pushing.inside n (tail_is_in m rest n has);
+      later = later_tail marks span width (span.from - width) m rest pushing.later;
       all = λ n next late. elim (pushing.all n next late) [
         | inl c ↦ inl c
         | inr h ↦ elim (in_cases m rest n h) [ inl e ↦ absurd (none (subst (IsWanted span own) (sym e) late)) | inr r ↦ inr r ]
+      ];
+    }
+
+    -- none is left behind one that is not in time
+    pub pushing_stops : (IsInTime span width m → ⊥) → IsPushing marks span width own old keys []
+    pushing_stops none = record {
+      kept = pushing.kept;
+      only = pushing.only;
+      later = none_later marks span width (span.from - width);
+      all = λ n next late. elim (pushing.all n next late) [
+        | inl c ↦ inl c
+        | inr h ↦ absurd (none_behind marks span width (span.from - width) m rest pushing.later own none n next h)
       ];
     }
 
@@ -176,11 +230,14 @@ module _ (marks : BTreeSet Mark) (span : Span) (width : ℕ) (own : Key) where
     apart = is.apart;
   }
 
+  to_wanted : (m : Mark) → IsMeeting marks span own m → IsWanted span own m
+  to_wanted m is = record { apart = is.apart; late = is.meets.before }
+
   pub pushing_ends : (old keys : List Key) → IsPushing marks span width own old keys [] → HasFound true marks span width own keys
   pushing_ends old keys pushing m is wide =
       let long = is.long in
       let meets = is.meets.before in
-      elim (pushing.all m (to_next (span.from - width) m is wide (omega (arith, long, meets, wide))) (record { apart = is.apart; late = is.meets.before })) [
+      elim (pushing.all m (to_next (span.from - width) m is wide (omega (arith, long, meets, wide))) (to_wanted m is)) [
         | inl c ↦ c
         | inr h ↦ none_is_in m h
       ]
@@ -189,10 +246,10 @@ module _ (marks : BTreeSet Mark) (span : Span) (width : ℕ) (own : Key) where
   pub spanning_begins : (keys : List Key) → HasSpanningTo marks span width own keys (span.from - width)
   spanning_begins keys m is wide before = absurd (let long = is.long in let meets = is.meets.before in omega (arith, long, meets, wide, before))
 
-  pub spanning_ends : (keys : List Key) (from : ℕ) → ((m : Mark) → IsNext marks span width from own m → ⊥) → HasSpanningTo marks span width own keys from → HasFound false marks span width own keys
+  pub spanning_ends : (keys : List Key) (from : ℕ) → ((m : Mark) → IsNext marks span width from own m → IsWanted span own m → ⊥) → HasSpanningTo marks span width own keys from → HasFound false marks span width own keys
   spanning_ends keys from none all m is wide = elim (before_or_from m.from from) [
     | inl before ↦ all m is wide before
-    | inr late ↦ absurd (none m (to_next from m is wide late))
+    | inr late ↦ absurd (none m (to_next from m is wide late) (to_wanted m is))
   ]
 
   module _ (from : ℕ) (first : Mark) (is_first : IsFirst marks span width from own first) where
@@ -201,7 +258,7 @@ module _ (marks : BTreeSet Mark) (span : Span) (width : ℕ) (own : Key) where
     spanning_past keys short all m is wide before = elim (before_or_from m.from from) [
       | inl earlier ↦ all m is wide earlier
       | inr late ↦
-          let later = is_first.first m (to_next from m is wide late) in
+          let later = is_first.first m (to_next from m is wide late) (to_wanted m is) in
           let low = later.from in
           let same : first.from ≡ m.from = omega (arith, low, before) in
           let long = later.long same in
@@ -210,14 +267,14 @@ module _ (marks : BTreeSet Mark) (span : Span) (width : ℕ) (own : Key) where
     ]
 
     -- what begins before its end meets it
-    pub spanning_more : (keys : List Key) → AreProper marks → span.from ≤ (span_of first).to → HasSpanningTo marks span width own keys from
+    pub spanning_more : (keys : List Key) → AreProper marks span.line → span.from ≤ (span_of first).to → HasSpanningTo marks span width own keys from
         → HasSpanningTo marks span width own (keys ++ first.key ∷ []) ((span_of first).to + 1)
     spanning_more keys proper reaches all m is wide before = elim (before_or_from m.from from) [
       | inl earlier ↦ more (all m is wide earlier)
       | inr late ↦
           let next = to_next from m is wide late in
-          let low = (is_first.first m next).from in
-          let own_to = proper m is.marked in
+          let low = (is_first.first m next (to_wanted m is)).from in
+          let own_to = proper m is.marked (sym is.meets.together) in
           record {
             other = first;
             marked = is_first.next.marked;

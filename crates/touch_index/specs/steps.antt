@@ -2,6 +2,7 @@
 pub mod Marks
 pub mod Spans
 pub mod Spanning
+pub mod Strips
 pub mod Grid
 pub mod Drawn
 pub mod Sifting

@@ -3,16 +3,17 @@
 ghost use Rattle.std.specs.Prelude.{◌≡◌, [], OnOk, IfOk};
 ghost use Rattle.geda_geom.specs.declared.conductor.Key.{Key};
 ghost use Rattle.geda_geom.specs.declared.conductor.Conductor.{Conductor};
-ghost use Rattle.touch_index.specs.steps.Spans.{Holds, IsKept, KeepsSpans, KeepsOthers};
-ghost use Rattle.touch_index.specs.steps.Spanning.{AreProper, HasAllFound};
+ghost use Rattle.touch_index.specs.steps.Spans.{IsKept};
+ghost use Rattle.touch_index.specs.steps.Strips.{AreAllProper, FindsOn, HasSpan, KeepsStrips, KeepsOtherKeys};
 ghost use Rattle.touch_index.specs.steps.Grid.{lifted, row_point, column_point, between, ends_of, AddsMetAlong, AddsMetIn, Along, Covers, Finds};
 ghost use Rattle.touch_index.specs.steps.Drawn.{AddsAlong, AddsMarks, HasNoMarks, IsHeld, IsPlace, LosesAlong, LosesMarks};
 
-use crate::spans::{Span, SpanSet, Wanted};
+use crate::spans::{Span, Wanted};
+use crate::strips::Strips;
 use geda_geom::{Conductor, Key, Point};
 use std::alloc::{AllocError, Global};
 
-/// A point as it lies on a line, among parallel lines.
+/// A point as it lies on a line, among parallel strips.
 #[derive(Clone, Copy, Debug)]
 pub(crate) struct LinePoint {
     line: u32,
@@ -65,49 +66,49 @@ fn between(a: LinePoint, b: LinePoint) -> Span
     }
 }
 
-fn enter_along(spans: &mut SpanSet, a: LinePoint, b: LinePoint, key: Key) -> Result<(), AllocError>
-    ensures entered { OnOk result (Along (λ s. Holds spans.new s key) a b) }
-    ensures kept { KeepsSpans spans.old spans.new }
-    ensures only { AddsAlong a b key spans.old spans.new }
+fn enter_along(strips: &mut Strips, a: LinePoint, b: LinePoint, key: Key) -> Result<(), AllocError>
+    ensures entered { OnOk result (Along (λ s. HasSpan strips.new s key) a b) }
+    ensures kept { KeepsStrips strips.old strips.new }
+    ensures only { AddsAlong a b key strips.old strips.new }
 {
     if a.line == b.line {
-        return spans.enter(between(a, b), key);
+        return strips.enter(between(a, b), key);
     }
-    spans.enter(between(a, a), key)?;
-    spans.enter(between(b, b), key)
+    strips.enter(between(a, a), key)?;
+    strips.enter(between(b, b), key)
 }
 
-fn leave_along(spans: &mut SpanSet, a: LinePoint, b: LinePoint, key: Key)
-    ensures kept { KeepsOthers key spans.old spans.new }
-    ensures only { LosesAlong a b key spans.old spans.new }
+fn leave_along(strips: &mut Strips, a: LinePoint, b: LinePoint, key: Key)
+    ensures kept { KeepsOtherKeys key strips.old strips.new }
+    ensures only { LosesAlong a b key strips.old strips.new }
 {
     if a.line == b.line {
-        spans.leave(between(a, b), key);
+        strips.leave(between(a, b), key);
         return;
     }
-    spans.leave(between(a, a), key);
-    spans.leave(between(b, b), key);
+    strips.leave(between(a, a), key);
+    strips.leave(between(b, b), key);
 }
 
 fn push_along(
-    spans: &SpanSet,
+    strips: &Strips,
     a: LinePoint,
     b: LinePoint,
     wanted: Wanted,
     keys: &mut Vec<Key>,
 ) -> Result<(), AllocError>
-    requires proper { AreProper spans.now.marks }
+    requires proper { AreAllProper strips.now }
     ensures kept { OnOk result (IsKept keys.old.items keys.new.items) }
     ensures found { OnOk result
-        (Along (HasAllFound wanted.all spans.now wanted.own keys.new.items) a b) }
+        (Along (FindsOn wanted.all strips.now wanted.own keys.new.items) a b) }
     ensures only { OnOk result
-        (AddsMetAlong spans.now a b wanted.own keys.old.items keys.new.items) }
+        (AddsMetAlong strips.now a b wanted.own keys.old.items keys.new.items) }
 {
     if a.line == b.line {
-        return spans.push_meeting(between(a, b), wanted, keys);
+        return strips.push_meeting(between(a, b), wanted, keys);
     }
-    spans.push_meeting(between(a, a), wanted, keys)?;
-    spans.push_meeting(between(b, b), wanted, keys)
+    strips.push_meeting(between(a, a), wanted, keys)?;
+    strips.push_meeting(between(b, b), wanted, keys)
 }
 
 /// The two ends of a segment; the end of a pin twice.
@@ -123,8 +124,8 @@ fn ends_of(conductor: &Conductor) -> (Point, Point)
 /// Rows and columns of spans.
 #[derive(Drop)]
 pub(crate) struct Grid {
-    rows: SpanSet,
-    columns: SpanSet,
+    rows: Strips,
+    columns: Strips,
 }
 
 impl Grid {
@@ -133,16 +134,16 @@ impl Grid {
         ensures { HasNoMarks result }
     {
         Grid {
-            rows: SpanSet::new(alloc),
-            columns: SpanSet::new(alloc),
+            rows: Strips::new(alloc),
+            columns: Strips::new(alloc),
         }
     }
 
     /// Enters a conductor under a key. On AllocError a part of it may stand there.
     pub fn enter(&mut self, conductor: &Conductor, key: Key) -> Result<(), AllocError>
         ensures has { OnOk result (Covers self.new conductor.now key) }
-        ensures rows { KeepsSpans self.old.rows self.new.rows }
-        ensures columns { KeepsSpans self.old.columns self.new.columns }
+        ensures rows { KeepsStrips self.old.rows self.new.rows }
+        ensures columns { KeepsStrips self.old.columns self.new.columns }
         ensures only { AddsMarks conductor.now key self.old self.new }
     {
         let (a, b) = ends_of(conductor);
@@ -152,8 +153,8 @@ impl Grid {
 
     /// Takes out a conductor under a key. It takes no memory.
     pub fn leave(&mut self, conductor: &Conductor, key: Key)
-        ensures rows { KeepsOthers key self.old.rows self.new.rows }
-        ensures columns { KeepsOthers key self.old.columns self.new.columns }
+        ensures rows { KeepsOtherKeys key self.old.rows self.new.rows }
+        ensures columns { KeepsOtherKeys key self.old.columns self.new.columns }
         ensures only { LosesMarks conductor.now key self.old self.new }
     {
         let (a, b) = ends_of(conductor);
@@ -167,8 +168,8 @@ impl Grid {
         wanted: Wanted,
         keys: &mut Vec<Key>,
     ) -> Result<(), AllocError>
-        requires rows { AreProper self.now.rows.marks }
-        requires columns { AreProper self.now.columns.marks }
+        requires rows { AreAllProper self.now.rows }
+        requires columns { AreAllProper self.now.columns }
         ensures found { OnOk result
             (Finds wanted.all self.now conductor.now wanted.own keys.new.items) }
         ensures only { OnOk result
@@ -194,8 +195,8 @@ impl Grid {
         conductor: &Conductor,
         wanted: Wanted,
     ) -> Result<Vec<Key>, AllocError>
-        requires rows { AreProper self.now.rows.marks }
-        requires columns { AreProper self.now.columns.marks }
+        requires rows { AreAllProper self.now.rows }
+        requires columns { AreAllProper self.now.columns }
         ensures found { IfOk result
             (λ keys. Finds wanted.all self.now conductor.now wanted.own keys.items) }
         ensures only { IfOk result

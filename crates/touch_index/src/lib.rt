@@ -14,6 +14,7 @@ mod index;
 mod neighbours;
 mod sealed;
 mod spans;
+mod strips;
 
 pub use index::TouchIndex;
 pub use sealed::Sealed;

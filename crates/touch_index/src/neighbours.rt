@@ -1,5 +1,5 @@
 // The keys whose conductors touch a given one, and some of them that stand for all.
-ghost use Rattle.std.specs.Prelude.{◌↔◌, Contains, IsTrue, IfOk};
+ghost use Rattle.std.specs.Prelude.{◌↔◌, Contains, IsTrue, IfOk, Some};
 ghost use Rattle.std.specs.List.Sorted.{IsStrictlySortedBy};
 ghost use Rattle.geda_geom.specs.declared.conductor.Key.{Key};
 ghost use Rattle.geda_geom.specs.Keys.{by_key};
@@ -13,16 +13,13 @@ use geda_geom::{Conductor, Key, touches};
 use std::alloc::{AllocError, Global};
 use std::collections::HashMap;
 
-/// Whether two keys are there and their conductors touch.
-fn do_touch(conductors: &HashMap<Key, Conductor>, first: Key, second: Key) -> bool
-    ensures { IsTrue result ↔ DoTouch (conductor_at conductors.now.entries first)
-        (conductor_at conductors.now.entries second) }
+/// Whether a key is there and its conductor touches a given one.
+fn touches_key(conductors: &HashMap<Key, Conductor>, key: Key, conductor: &Conductor) -> bool
+    ensures { IsTrue result ↔ DoTouch (conductor_at conductors.now.entries key)
+        (Some conductor.now) }
 {
-    let Some(one) = conductors.get(&first) else {
-        return false;
-    };
-    match conductors.get(&second) {
-        Some(other) => touches(one, other),
+    match conductors.get(&key) {
+        Some(other) => touches(other, conductor),
         None => false,
     }
 }
@@ -31,8 +28,11 @@ fn do_touch(conductors: &HashMap<Key, Conductor>, first: Key, second: Key) -> bo
 fn touches_one(conductors: &HashMap<Key, Conductor>, few: &[Key], key: Key) -> bool
     ensures { IsTrue result → IsBesideOne (conductor_at conductors.now.entries) few.now key }
 {
+    let Some(conductor) = conductors.get(&key) else {
+        return false;
+    };
     for other in few {
-        if do_touch(conductors, *other, key) {
+        if touches_key(conductors, *other, conductor) {
             return true;
         }
     }

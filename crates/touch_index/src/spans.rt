@@ -3,7 +3,7 @@ ghost use Rattle.std.specs.Prelude.{◌≡◌, ◌≤◌, ◌+◌, ◌↔◌, �
 ghost use Rattle.geda_geom.specs.declared.conductor.Key.{Key};
 ghost use Rattle.touch_index.specs.declared.spans.Mark.{Mark};
 ghost use Rattle.touch_index.specs.steps.Spans.{AddsMark, Holds, KeepsSpans, KeepsOthers, IsKept, LosesMark, mark_of, width_from, width_of};
-ghost use Rattle.touch_index.specs.steps.Spanning.{AddsMet, AreProper, HasAllFound, HasFound, IsFirst, IsNext, IsWanted};
+ghost use Rattle.touch_index.specs.steps.Spanning.{AddsMet, AreProper, HasAllFound, HasFound, IsFirst, IsInTime, IsNext, IsWanted};
 
 use geda_geom::Key;
 use std::alloc::{AllocError, Global};
@@ -110,6 +110,20 @@ fn is_wanted(mark: Mark, span: Span, own: Key) -> bool
     u32::MAX - mark.beyond >= span.from
 }
 
+/// Whether a mark stands on the line of a span under a width, and begins no later than the span
+/// ends.
+fn is_in_time(mark: Mark, span: Span, width: u32) -> bool
+    ensures { IsTrue result ↔ IsInTime span width mark }
+{
+    if mark.line != span.line {
+        return false;
+    }
+    if mark.width != width {
+        return false;
+    }
+    mark.from <= u64::from(span.to)
+}
+
 /// Adds the keys of the spans of one width that meet the span, but for one key.
 fn push_all(
     marks: &BTreeSet<Mark>,
@@ -132,14 +146,10 @@ fn push_all(
         beyond: 0,
         key: none,
     };
-    let after = Mark {
-        line: span.line,
-        width,
-        from: u64::from(span.to) + 1,
-        beyond: 0,
-        key: none,
-    };
-    for mark in marks.range(first..after) {
+    for mark in marks.range(first..) {
+        if !is_in_time(*mark, span, width) {
+            return Ok(());
+        }
         if is_wanted(*mark, span, own) {
             keys.push(mark.key)?;
         }
@@ -147,11 +157,14 @@ fn push_all(
     Ok(())
 }
 
-/// The first mark of another key among those of one width that begin from a place on, and no later
-/// than the span ends; the longest of those that begin there.
+/// A mark of another key among those of one width that begin from a place on, and no later than the
+/// span ends: none that meets the span stands before it.
+///
+/// It passes over a few that end before the span begins, and stops at the next such one, since many
+/// may begin at one place.
 fn first_other(marks: &BTreeSet<Mark>, span: Span, width: u32, from: u64, own: Key) -> Option<Mark>
     ensures { MatchOption result
-        ((m : Mark) → IsNext marks.now span width from own m → ⊥)
+        ((m : Mark) → IsNext marks.now span width from own m → IsWanted span own m → ⊥)
         (IsFirst marks.now span width from own) }
 {
     let none = Key { id: 0, place: 0 };
@@ -165,16 +178,19 @@ fn first_other(marks: &BTreeSet<Mark>, span: Span, width: u32, from: u64, own: K
         beyond: 0,
         key: none,
     };
-    let after = Mark {
-        line: span.line,
-        width,
-        from: u64::from(span.to) + 1,
-        beyond: 0,
-        key: none,
-    };
-    for mark in marks.range(first..after) {
-        if mark.key != own {
+    let mut passes: u32 = 8;
+    for mark in marks.range(first..) {
+        if !is_in_time(*mark, span, width) {
+            return None;
+        }
+        if is_wanted(*mark, span, own) {
             return Some(*mark);
+        }
+        if mark.key != own {
+            if passes == 0 {
+                return Some(*mark);
+            }
+            passes -= 1;
         }
     }
     None
@@ -191,7 +207,7 @@ fn push_spanning(
     own: Key,
     keys: &mut Vec<Key>,
 ) -> Result<(), AllocError>
-    requires proper { AreProper marks.now }
+    requires proper { AreProper marks.now span.line }
     ensures kept { OnOk result (IsKept keys.old.items keys.new.items) }
     ensures found { OnOk result (HasFound false marks.now span width own keys.new.items) }
     ensures only { OnOk result (AddsMet marks.now span own keys.old.items keys.new.items) }
@@ -218,7 +234,7 @@ fn push_wanted(
     keys: &mut Vec<Key>,
 ) -> Result<(), AllocError>
     requires from { span.from ≤ span.to }
-    requires proper { AreProper marks.now }
+    requires proper { AreProper marks.now span.line }
     ensures kept { OnOk result (IsKept keys.old.items keys.new.items) }
     ensures found { OnOk result
         (HasFound wanted.all marks.now span width wanted.own keys.new.items) }
@@ -253,6 +269,13 @@ impl SpanSet {
         Ok(())
     }
 
+    /// Whether no spans are left.
+    pub fn is_empty(&self) -> bool
+        ensures { IsTrue result → self.now.marks.keys ≡ [] }
+    {
+        self.marks.is_empty()
+    }
+
     /// Takes out a span under a key. It takes no memory.
     pub fn leave(&mut self, span: Span, key: Key)
         ensures kept { KeepsOthers key self.old self.new }
@@ -271,7 +294,7 @@ impl SpanSet {
         keys: &mut Vec<Key>,
     ) -> Result<(), AllocError>
         requires from { span.from ≤ span.to }
-        requires proper { AreProper self.now.marks }
+        requires proper { AreProper self.now.marks span.line }
         ensures kept { OnOk result (IsKept keys.old.items keys.new.items) }
         ensures found { OnOk result
             (HasAllFound wanted.all self.now wanted.own keys.new.items span) }

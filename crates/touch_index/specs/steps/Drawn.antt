@@ -6,9 +6,10 @@ use Rattle.geda_geom.specs.declared.conductor.Point.{Point}
 use Rattle.geda_geom.specs.declared.conductor.Conductor.{Conductor}
 use Rattle.touch_index.specs.declared.grid.Grid.{Grid}
 use Rattle.touch_index.specs.declared.grid.LinePoint.{LinePoint}
+use Rattle.touch_index.specs.declared.strips.Strips.{Strips}
 use Rattle.touch_index.specs.declared.spans.Mark.{Mark}
-use Rattle.touch_index.specs.declared.spans.SpanSet.{SpanSet}
-use Rattle.touch_index.specs.steps.Spans.{IsMarked, mark_of}
+use Rattle.touch_index.specs.steps.Spans.{mark_of}
+use Rattle.touch_index.specs.steps.Strips.{HasMark}
 use Rattle.touch_index.specs.steps.Grid.{SomeAlong, ends_of, row_point, column_point}
 
 -- a number that a coordinate holds
@@ -29,14 +30,14 @@ abbrev pub IsAlong : LinePoint → LinePoint → Key → Mark → Type 0
 IsAlong a b key m = SomeAlong (λ s. m ≡ mark_of s key) a b
 
 -- no more marks are there than before, but for these
-abbrev pub AddsAlong : LinePoint → LinePoint → Key → SpanSet → SpanSet → Type 0
+abbrev pub AddsAlong : LinePoint → LinePoint → Key → Strips → Strips → Type 0
 AddsAlong a b key old new =
-    (m : Mark) → IsMarked new.marks m → IsMarked old.marks m ⊎ IsAlong a b key m
+    (m : Mark) → HasMark new m → HasMark old m ⊎ IsAlong a b key m
 
 -- no more marks are there than before, and none of these
-abbrev pub LosesAlong : LinePoint → LinePoint → Key → SpanSet → SpanSet → Type 0
+abbrev pub LosesAlong : LinePoint → LinePoint → Key → Strips → Strips → Type 0
 LosesAlong a b key old new =
-    (m : Mark) → IsMarked new.marks m → IsMarked old.marks m × (IsAlong a b key m → ⊥)
+    (m : Mark) → HasMark new m → HasMark old m × (IsAlong a b key m → ⊥)
 
 -- the mark is one of those of a conductor, whose points lie so on lines
 abbrev pub IsMarkOf : (Point → LinePoint) → Conductor → Key → Mark → Type 0
@@ -63,9 +64,9 @@ pub record IsDrawn (at : Key → Option Conductor) (lie : Point → LinePoint) (
   pub mark : IsMarkOf lie conductor m.key m
 
 pub record AreDrawn (at : Key → Option Conductor) (grid : Grid) : Type 0 where
-  pub rows : (m : Mark) → IsMarked grid.rows.marks m → IsDrawn at row_point m
-  pub columns : (m : Mark) → IsMarked grid.columns.marks m → IsDrawn at column_point m
+  pub rows : (m : Mark) → HasMark grid.rows m → IsDrawn at row_point m
+  pub columns : (m : Mark) → HasMark grid.columns m → IsDrawn at column_point m
 
 pub record HasNoMarks (grid : Grid) : Type 0 where
-  pub rows : grid.rows.marks.keys ≡ []
-  pub columns : grid.columns.marks.keys ≡ []
+  pub rows : grid.rows.spans.entries ≡ []
+  pub columns : grid.columns.spans.entries ≡ []

@@ -7,10 +7,9 @@ use Rattle.geda_geom.specs.declared.conductor.Conductor.{Conductor}
 use Rattle.geda_geom.specs.declared.conductor.Conductor.TheVariants.{Segment, End}
 use Rattle.touch_index.specs.declared.grid.Grid.{Grid}
 use Rattle.touch_index.specs.declared.grid.LinePoint.{LinePoint}
+use Rattle.touch_index.specs.declared.strips.Strips.{Strips}
 use Rattle.touch_index.specs.declared.spans.Span.{Span}
-use Rattle.touch_index.specs.declared.spans.SpanSet.{SpanSet}
-use Rattle.touch_index.specs.steps.Spans.{Holds}
-use Rattle.touch_index.specs.steps.Spanning.{HasAllFound, IsMet}
+use Rattle.touch_index.specs.steps.Strips.{FindsOn, HasSpan, IsMetOn}
 
 -- a coordinate, counted from the least one
 abbrev pub lifted : ℤ → ℕ
@@ -61,21 +60,21 @@ pub record InGrid (R C : Span → Type 0) (c : Conductor) : Type 0 where
 
 -- the grid has a conductor under the key
 abbrev pub Covers : Grid → Conductor → Key → Type 0
-Covers grid c k = InGrid (λ s. Holds grid.rows s k) (λ s. Holds grid.columns s k) c
+Covers grid c k = InGrid (λ s. HasSpan grid.rows s k) (λ s. HasSpan grid.columns s k) c
 
 -- the list has the keys, or some that stand for them, of the spans that meet those of the conductor
 abbrev pub Finds : Bool → Grid → Conductor → Key → List Key → Type 0
 Finds all grid c own keys =
-    InGrid (HasAllFound all grid.rows own keys) (HasAllFound all grid.columns own keys) c
+    InGrid (FindsOn all grid.rows own keys) (FindsOn all grid.columns own keys) c
 
 -- another key has a span that meets one between two points
-abbrev pub IsMetAlong : SpanSet → LinePoint → LinePoint → Key → Key → Type 0
-IsMetAlong spans a b own key = SomeAlong (λ s. IsMet spans.marks s own key) a b
+abbrev pub IsMetAlong : Strips → LinePoint → LinePoint → Key → Key → Type 0
+IsMetAlong strips a b own key = SomeAlong (λ s. IsMetOn strips s own key) a b
 
 -- no other keys come into a list
-abbrev pub AddsMetAlong : SpanSet → LinePoint → LinePoint → Key → List Key → List Key → Type 0
-AddsMetAlong spans a b own old new =
-    (k : Key) → Contains new k → Contains old k ⊎ IsMetAlong spans a b own k
+abbrev pub AddsMetAlong : Strips → LinePoint → LinePoint → Key → List Key → List Key → Type 0
+AddsMetAlong strips a b own old new =
+    (k : Key) → Contains new k → Contains old k ⊎ IsMetAlong strips a b own k
 
 -- another key has a span that meets one of the conductor
 abbrev pub IsMetIn : Grid → Conductor → Key → Key → Type 0

@@ -2,18 +2,20 @@
 -- The spans that stand for all that meet one (own).
 use Rattle.std.specs.Prelude.{◌≡◌, ℕ, ◌<◌, ◌≤◌, ◌+◌, ◌-◌, ◌⊎◌, Bool, true, false, List, slice_index_or, ◌≢◌, Contains}
 use Rattle.std.specs.BTreeSet.{BTreeSet, keys_between}
+use Rattle.std.specs.BTreeMap.Range.{IsLeBy}
 use Rattle.std.specs.List.Sorted.{IsStrictlySortedBy}
-use Rattle.std.specs.declared.ops.Bound.TheVariants.{Included, Excluded}
+use Rattle.std.specs.declared.ops.Bound.TheVariants.{Included, Unbounded}
 use Rattle.geda_geom.specs.declared.conductor.Key.{Key}
 use Rattle.touch_index.specs.declared.spans.SpanSet.{SpanSet}
 use Rattle.touch_index.specs.declared.spans.Mark.{Mark}
 use Rattle.touch_index.specs.declared.spans.Span.{Span}
 use Rattle.touch_index.specs.steps.Marks.{by_mark}
-use Rattle.touch_index.specs.steps.Spans.{DoMeet, IsKept, IsMarked, after_mark, mark_at, span_of}
+use Rattle.touch_index.specs.steps.Spans.{DoMeet, IsKept, IsMarked, mark_at, span_of}
 
--- no span of a mark ends before it begins
-abbrev pub AreProper : BTreeSet Mark → Type 0
-AreProper marks = (m : Mark) → IsMarked marks m → m.from ≤ (span_of m).to
+-- no span of a mark of a line ends before it begins
+abbrev pub AreProper : BTreeSet Mark → ℕ → Type 0
+AreProper marks line =
+    (m : Mark) → IsMarked marks m → m.line ≡ line → m.from ≤ (span_of m).to
 
 -- a mark of another key, of one width on the line of a span, that begins from a place on, and no
 -- later than the span ends
@@ -31,24 +33,42 @@ pub record IsNoLater (m n : Mark) : Type 0 where
   pub from : m.from ≤ n.from
   pub long : m.from ≡ n.from → m.beyond ≤ n.beyond
 
--- the first of such marks
+-- a mark of another key, that ends no earlier than a span begins
+pub record IsWanted (span : Span) (own : Key) (m : Mark) : Type 0 where
+  pub apart : m.key ≢ own
+  pub late : span.from ≤ (span_of m).to
+
+-- one of such marks, and no later than those of them that end no earlier than the span begins
 pub record IsFirst (marks : BTreeSet Mark) (span : Span) (width from : ℕ) (own : Key) (m : Mark)
     : Type 0 where
   pub next : IsNext marks span width from own m
-  pub first : (n : Mark) → IsNext marks span width from own n → IsNoLater m n
+  pub first : (n : Mark) → IsNext marks span width from own n → IsWanted span own n
+      → IsNoLater m n
 
--- the marks of one width on the line of the span, from a place on, that begin before it ends
+-- the mark stands on the line of the span under a width, and begins no later than the span ends
+pub record IsInTime (span : Span) (width : ℕ) (m : Mark) : Type 0 where
+  pub line : m.line ≡ span.line
+  pub wide : m.width ≡ width
+  pub soon : m.from ≤ span.to
+
+-- the marks from a place of one width on the line of the span on
 abbrev pub marks_from : BTreeSet Mark → Span → ℕ → ℕ → List Mark
 marks_from marks span width from =
-    keys_between by_mark (Included (mark_at span width from)) (Excluded (after_mark span width))
-    marks
+    keys_between by_mark (Included (mark_at span width from)) Unbounded marks
 
--- what is left of them, in order, while those of the own key are passed over
+-- marks that are there, in order, from a place of one width on the line of the span on
+pub record AreLater (marks : BTreeSet Mark) (span : Span) (width from : ℕ) (left : List Mark)
+    : Type 0 where
+  pub rising : IsStrictlySortedBy by_mark left
+  pub marked : (m : Mark) → Contains left m → IsMarked marks m
+  pub late : (m : Mark) → Contains left m → IsLeBy by_mark (mark_at span width from) m
+
+-- what is left of them, while those that are not wanted are passed over
 pub record IsLooking (marks : BTreeSet Mark) (span : Span) (width from : ℕ) (own : Key)
     (left : List Mark) : Type 0 where
-  pub rising : IsStrictlySortedBy by_mark left
-  pub inside : (m : Mark) → Contains left m → m.key ≢ own → IsNext marks span width from own m
-  pub all : (m : Mark) → IsNext marks span width from own m → Contains left m
+  pub later : AreLater marks span width from left
+  pub all : (m : Mark) → IsNext marks span width from own m → IsWanted span own m
+      → Contains left m
 
 -- the span of a listed key meets a span, and that of a mark
 pub record IsSpanned (marks : BTreeSet Mark) (span : Span) (own : Key) (keys : List Key) (m : Mark)
@@ -71,11 +91,6 @@ pub record IsMeeting (marks : BTreeSet Mark) (span : Span) (own : Key) (m : Mark
 abbrev pub HasSpanningTo : BTreeSet Mark → Span → ℕ → Key → List Key → ℕ → Type 0
 HasSpanningTo marks span width own keys from = (m : Mark) → IsMeeting marks span own m
     → m.width ≡ width → m.from < from → IsSpanned marks span own keys m
-
--- a mark of another key, that ends no earlier than a span begins
-pub record IsWanted (span : Span) (own : Key) (m : Mark) : Type 0 where
-  pub apart : m.key ≢ own
-  pub late : span.from ≤ (span_of m).to
 
 -- the key of a mark is listed where all are wanted; else some listed keys stand for it
 abbrev pub IsFound : Bool → BTreeSet Mark → Span → Key → List Key → Mark → Type 0
@@ -117,7 +132,6 @@ pub record IsPushing (marks : BTreeSet Mark) (span : Span) (width : ℕ) (own : 
     (old keys : List Key) (left : List Mark) : Type 0 where
   pub kept : IsKept old keys
   pub only : AddsMet marks span own old keys
-  pub inside : (m : Mark) → Contains left m → m.key ≢ own
-      → IsNext marks span width (span.from - width) own m
+  pub later : AreLater marks span width (span.from - width) left
   pub all : (m : Mark) → IsNext marks span width (span.from - width) own m → IsWanted span own m
       → Contains keys m.key ⊎ Contains left m

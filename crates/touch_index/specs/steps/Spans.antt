@@ -58,9 +58,6 @@ abbrev pub mark_at : Span → ℕ → ℕ → Mark
 mark_at s width from =
     record { line = s.line; width = width; from = from; beyond = 0; key = no_key }
 
-abbrev pub after_mark : Span → ℕ → Mark
-after_mark s width = mark_at s width (s.to + 1)
-
 -- nothing is lost
 abbrev pub KeepsSpans : SpanSet → SpanSet → Type 0
 KeepsSpans old new = (s : Span) (k : Key) → Holds old s k → Holds new s k

@@ -1,6 +1,6 @@
-use Rattle.touch_index.specs.steps.Spanning.{HasAllFound}
+use Rattle.touch_index.specs.steps.Strips.{FindsOn}
 use Rattle.touch_index.proofs.GridLemmas.{along_at, along_to, in_grid_by, met_at, met_in, on_ok}
-use Rattle.touch_index.proofs.SpanningLemmas.{all_found_later}
+use Rattle.touch_index.proofs.StripLemmas.{finds_later}
 use Rattle.touch_index.proofs.grid.Grid.push_near.Goals as goal
 
 pub returns-clause-found : goal.returns-clause-found
@@ -11,11 +11,11 @@ returns-clause-found c =
     let own = c.args.wanted.own in
     let old = c.push_along.new.keys.items in
     let new = c.push_along-2.new.keys.items in
-    let row = along_at (HasAllFound all rows own old) _ _ _ _ c.row_point.ensures.same c.row_point-2.ensures.same c.in_ok-push_along.ensures.found in
+    let row = along_at (FindsOn all rows own old) _ _ _ _ c.row_point.ensures.same c.row_point-2.ensures.same c.in_ok-push_along.ensures.found in
     on_ok c.push_along-2.result (λ kept found.
-    in_grid_by (HasAllFound all rows own new) (HasAllFound all columns own new) c.args.conductor.now c.ends_of.result c.ends_of.ensures
-    (along_to (HasAllFound all rows own old) (HasAllFound all rows own new) _ _ (all_found_later all rows own old new kept) row)
-    (along_at (HasAllFound all columns own new) _ _ _ _ c.column_point.ensures c.column_point-2.ensures found))
+    in_grid_by (FindsOn all rows own new) (FindsOn all columns own new) c.args.conductor.now c.ends_of.result c.ends_of.ensures
+    (along_to (FindsOn all rows own old) (FindsOn all rows own new) _ _ (finds_later all rows own old new kept) row)
+    (along_at (FindsOn all columns own new) _ _ _ _ c.column_point.ensures c.column_point-2.ensures found))
     c.push_along-2.ensures.kept c.push_along-2.ensures.found
 
 pub returns-clause-only : goal.returns-clause-only
