@@ -59,7 +59,7 @@ fn body_bound(body: &Body) -> Option<u64>
 ///
 /// For a wire, a text and a component of a library, and what is attached to them, it is told by the
 /// bytes of contents alone; all else is counted.
-pub(crate) fn object_bound(object: &Object) -> u64
+pub fn object_bound(object: &Object) -> u64
     ensures { min (object_bytes object.now) (2 ^ 64 - 1) ≤ result }
 {
     match body_bound(&object.body) {

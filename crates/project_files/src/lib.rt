@@ -23,6 +23,7 @@ mod project_text;
 mod replacing;
 mod symbol_text;
 
+pub use bounds::object_bound;
 pub use dir_folder::DirFolder;
 pub use fault::FileFault;
 pub use file_reads::{sheet_in, symbol_in};

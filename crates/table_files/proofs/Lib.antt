@@ -1,2 +1,6 @@
 mod OpeningLemmas
 mod FillingLemmas
+mod ObjectLemmas
+mod FileLemmas
+mod RoomLemmas
+mod AtOnceLemmas

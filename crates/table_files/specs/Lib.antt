@@ -1,3 +1,4 @@
 pub mod Faults
 pub mod OpenedFiles
 pub mod FilledFiles
+pub mod steps

@@ -1,18 +1,22 @@
 // A table that is filled into the file of a sheet.
-ghost use Rattle.std.specs.Prelude.{◌≡◌, ◌≤◌, ◌∷◌, [], IfOk, length};
+ghost use Rattle.std.specs.Prelude.{◌≡◌, ◌≤◌, ◌∷◌, [], IfOk, codes, length};
 ghost use Rattle.std.specs.List.{filter_map};
+ghost use Rattle.attr_table.specs.Filling.{entries_from};
+ghost use Rattle.edit_rules.specs.Histories.{project};
 ghost use Rattle.renum_files.specs.RenumberedFiles.{sheet_file};
 ghost use Rattle.table_files.specs.FilledFiles.{changed_files, entries_in, filled_by};
 ghost use Rattle.table_files.specs.FilledFiles.{filled_file, filled_with};
 ghost use Rattle.table_files.specs.OpenedFiles.{Gives};
+ghost use Rattle.table_files.specs.steps.Room.{AreOfTable};
 
+use crate::at_once::filled_at_once;
 use crate::fault::{TableFileFault, TableKind, refused, row_fault};
 use crate::opening::session;
-use attr_table::entries_of;
+use attr_table::{components_of, entries_from};
 use desk_entries::put_all;
 use edit_desk::Desk;
 use edit_entries::Entry;
-use geda_model::{MOST_FILE_BYTES, Name};
+use geda_model::{MOST_FILE_BYTES, Name, Object};
 use project_model::Project;
 use renum_files::{FileText, sheet_files};
 use std::alloc::{AllocError, Global};
@@ -79,21 +83,23 @@ fn filled_with(
     Ok(FilledFile { count, files })
 }
 
-/// The entries of a table: session `fill`, numbers from 2 on.
-fn entries_in(
+/// The components that a table makes, which its entries put in: session `fill`, numbers from 2 on.
+fn components_in(
     alloc: Global,
     desk: &Desk,
     sheet: &Name,
     table: &Name,
     bytes: &[u8],
-) -> Result<Vec<Entry>, TableFileFault>
+) -> Result<Vec<(u32, Object)>, TableFileFault>
     requires { length bytes.now ≤ 4194304 }
-    ensures { Gives (λ entries. entries.items) result
+    ensures entries { Gives (λ components. entries_from (codes "fill") 2 1 components.items) result
         (entries_in desk.now.history sheet.now table.now bytes.now) }
+    ensures table { IfOk result (λ components.
+        AreOfTable (project desk.now.history) sheet.now components.items) }
+    ensures few { IfOk result (λ components. length components.items ≤ 4194304) }
 {
-    let session = session(alloc)?;
-    match entries_of(alloc, desk.project(), sheet, bytes, &session, 2, 1) {
-        Ok(entries) => Ok(entries),
+    match components_of(alloc, desk.project(), sheet, bytes) {
+        Ok(components) => Ok(components),
         Err(fault) => {
             let file = table.clone()?;
             Err(row_fault(file, fault))
@@ -101,8 +107,18 @@ fn entries_in(
     }
 }
 
-/// What it comes to that these entries are put into a history.
-fn filled_by(
+/// The entries of components.
+fn entries_of(alloc: Global, components: Vec<(u32, Object)>) -> Result<Vec<Entry>, AllocError>
+    requires { length components.items ≤ 4194304 }
+    ensures { IfOk result (λ entries.
+        entries.items ≡ entries_from (codes "fill") 2 1 components.items) }
+{
+    let session = session(alloc)?;
+    entries_from(alloc, &session, 2, 1, components.as_slice())
+}
+
+/// What it comes to that these entries are put into a history, one after the other.
+fn filled_in_order(
     alloc: Global,
     desk: Desk,
     sheet: &Name,
@@ -121,6 +137,27 @@ fn filled_by(
         Some(fault) => {
             let file = sheet.clone()?;
             Err(TableFileFault::EditRefused { file, fault })
+        }
+    }
+}
+
+/// What it comes to that the entries of the components of a table are put into a history.
+fn filled_by(
+    alloc: Global,
+    desk: Desk,
+    sheet: &Name,
+    components: Vec<(u32, Object)>,
+) -> Result<FilledFile, TableFileFault>
+    requires table { AreOfTable (project desk.history) sheet.now components.items }
+    requires few { length components.items ≤ 4194304 }
+    ensures { Gives (λ filled. filled) result (filled_by desk.history sheet.now
+        (entries_from (codes "fill") 2 1 components.items)) }
+{
+    match filled_at_once(alloc, &desk, sheet, components.as_slice())? {
+        Some(filled) => Ok(filled),
+        None => {
+            let entries = entries_of(alloc, components)?;
+            filled_in_order(alloc, desk, sheet, entries)
         }
     }
 }
@@ -146,8 +183,8 @@ pub fn filled_file(
         let file = table.clone()?;
         return Err(refused(file, 1, TableKind::TooLarge));
     }
-    match entries_in(alloc, &desk, sheet, table, bytes) {
-        Ok(entries) => filled_by(alloc, desk, sheet, entries),
+    match components_in(alloc, &desk, sheet, table, bytes) {
+        Ok(components) => filled_by(alloc, desk, sheet, components),
         Err(fault) => Err(fault),
     }
 }
