@@ -96,3 +96,14 @@ pub fn load_row<S: Alter>(
         Err(error) => Err(keep_fault(error)),
     }
 }
+
+/// Runs a statement that begins or ends a transaction.
+pub fn run_bound<S: Alter>(
+    connection: &mut Connection<S>,
+    statement: &str,
+) -> Result<(), KeepFault> {
+    match connection.execute(statement, &[]) {
+        Ok(_) => Ok(()),
+        Err(error) => Err(keep_fault(error)),
+    }
+}
