@@ -3,10 +3,8 @@ ghost use Rattle.std.specs.Prelude.{◌≡◌, ◌+◌, ◌*◌};
 
 use crate::connections::{Connection, link_of};
 use crate::hall_fault::HallFault;
-use hall_core::{
-    Hall, HallName, Keys, NewLog, Places, Seat, ShowsBoard, ShowsKept, close_hall, open_hall,
-};
-use hall_server::{KeptReports, serve_link};
+use hall_core::{Hall, HallName, Keys, NewLog, Places, Seat, ShowsBoard, close_hall, open_hall};
+use hall_server::serve_link;
 use keeper_core::MemoryKeeper;
 use std::alloc::{AllocError, Global};
 use std::marker::Brand;
@@ -36,7 +34,7 @@ pub struct Served {
     pub held: bool,
 }
 
-fn serve_input<W: Wait, B: HallName, S: ShowsKept<B, KeptReports<B>>, R: Wait + Drop>(
+fn serve_input<W: Wait, B: HallName, S: ShowsBoard<B>, R: Wait + Drop>(
     rt: &W,
     alloc: Global,
     hall: &Hall<MemoryKeeper, B, S, R>,
@@ -49,7 +47,7 @@ fn serve_input<W: Wait, B: HallName, S: ShowsKept<B, KeptReports<B>>, R: Wait + 
 }
 
 /// Serves each input by the next of the seats, and after the last by the first again.
-fn serve_inputs<W: Wait, B: HallName, S: ShowsKept<B, KeptReports<B>>, R: Wait + Drop>(
+fn serve_inputs<W: Wait, B: HallName, S: ShowsBoard<B>, R: Wait + Drop>(
     rt: &W,
     alloc: Global,
     hall: &Hall<MemoryKeeper, B, S, R>,
@@ -80,7 +78,7 @@ fn last_look<B: HallName, S: ShowsBoard<B>>(
 }
 
 /// Serves the inputs, and closes the hall.
-fn serve_and_close<W: Wait, B: HallName, S: ShowsKept<B, KeptReports<B>>, R: Wait + Drop>(
+fn serve_and_close<W: Wait, B: HallName, S: ShowsBoard<B>, R: Wait + Drop>(
     rt: &W,
     alloc: Global,
     hall: &Hall<MemoryKeeper, B, S, R>,

@@ -13,17 +13,15 @@ use project_model::Change;
 use std::alloc::{AllocError, Global};
 use std::marker::Model;
 
-/// A board, the prefix whose project it has, and what is kept beside it until it takes the next
-/// change, as texts that were made of it. Contracts see the entries of the prefix.
+/// A board, with the prefix whose project it has. Contracts see the entries of the prefix.
 #[derive(Drop)]
-pub struct PrefixBoard<B: HallName, T: Default + Drop> {
+pub struct PrefixBoard<B: HallName> {
     alloc: Global,
     board: Board,
     prefix: Prefix<B>,
-    kept: T,
 }
 
-impl<B: HallName, T: Default + Drop> Model for PrefixBoard<B, T> {
+impl<B: HallName> Model for PrefixBoard<B> {
     ghost use Rattle.std.specs.Prelude.{◌≡◌, List};
     ghost use Rattle.edit_entries.specs.Entries.{EntryData};
     ghost use Rattle.edit_rules.specs.Histories.{project};
@@ -54,9 +52,9 @@ impl<B: HallName> Model for NextChange<B> {
     ghost invariant = { λ o. IsNextChange o.before o.after o.change.items };
 }
 
-impl<B: HallName, T: Default + Drop> PrefixBoard<B, T> {
-    /// The board of these entries, and nothing beside it.
-    pub fn new(alloc: Global, board: Board, prefix: Prefix<B>) -> PrefixBoard<B, T>
+impl<B: HallName> PrefixBoard<B> {
+    /// The board of these entries. It takes no memory.
+    pub fn new(alloc: Global, board: Board, prefix: Prefix<B>) -> PrefixBoard<B>
         requires { board.project ≡ project prefix }
         ensures { result ≡ prefix }
     {
@@ -64,7 +62,6 @@ impl<B: HallName, T: Default + Drop> PrefixBoard<B, T> {
             alloc,
             board,
             prefix,
-            kept: T::default(),
         }
     }
 }
@@ -118,13 +115,7 @@ pub trait ShowsBoard<B: HallName>: Absorb<NextChange<B>, State = [Entry; 0]> + D
         Self.Absorb.applied xs op ≡ applied_to xs op };
 }
 
-/// What is published, with a T beside the board until it takes the next change.
-pub trait ShowsKept<B: HallName, T>: ShowsBoard<B> {
-    /// What is kept beside the board. It takes no memory.
-    fn kept(&self) -> &T;
-}
-
-impl<B: HallName, T: Default + Drop> ShowsBoard<B> for PrefixBoard<B, T> {
+impl<B: HallName> ShowsBoard<B> for PrefixBoard<B> {
     ghost use Rattle.std.specs.Prelude.{refl};
 
     ghost list = { λ s. s };
@@ -142,13 +133,7 @@ impl<B: HallName, T: Default + Drop> ShowsBoard<B> for PrefixBoard<B, T> {
     }
 }
 
-impl<B: HallName, T: Default + Drop> ShowsKept<B, T> for PrefixBoard<B, T> {
-    fn kept(&self) -> &T {
-        &self.kept
-    }
-}
-
-impl<B: HallName, T: Default + Drop> Absorb<NextChange<B>> for PrefixBoard<B, T> {
+impl<B: HallName> Absorb<NextChange<B>> for PrefixBoard<B> {
     type State = [Entry; 0];
 
     ghost state = { λ s. s };
@@ -158,7 +143,7 @@ impl<B: HallName, T: Default + Drop> Absorb<NextChange<B>> for PrefixBoard<B, T>
     fn absorb_first(
         &mut self,
         operation: &NextChange<B>,
-        _other: &PrefixBoard<B, T>,
+        _other: &PrefixBoard<B>,
     ) -> Result<(), AllocError> {
         // Each copy takes the steps in their order, so this is never so. The proof needs the test:
         // it knows the prefix that a step is to follow, and not which one this copy has.
@@ -168,8 +153,6 @@ impl<B: HallName, T: Default + Drop> Absorb<NextChange<B>> for PrefixBoard<B, T>
         let _history = operation.after.len();
         self.board.apply(self.alloc, &operation.change)?;
         self.prefix = operation.after.again();
-        // What was kept is of the entries before, and would never be answered.
-        self.kept = T::default();
         Ok(())
     }
 }

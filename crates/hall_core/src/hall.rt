@@ -37,11 +37,11 @@ impl<K: Keeper, B: HallName, S: ShowsBoard<B>, R: Wait + Drop> Drop for Hall<K, 
     }
 }
 
-/// The hall of a board that a T is kept beside, and whose writer waits by R.
-pub type BoardHall<K, B, T, R> = Hall<K, B, PrefixBoard<B, T>, R>;
+/// The hall of a board whose writer waits by R.
+pub type BoardHall<K, B, R> = Hall<K, B, PrefixBoard<B>, R>;
 
 /// A seat of it.
-pub type BoardSeat<B, T> = Seat<B, PrefixBoard<B, T>>;
+pub type BoardSeat<B> = Seat<B, PrefixBoard<B>>;
 
 /// Takes the lock, and answers the entry: exactly by the verdict on it after the whole history
 /// (docs/RULES.md, "Seats"). The seat has then seen the whole history, but for `NoEntry` and
@@ -117,11 +117,11 @@ fn list_all<B: HallName>(listed: &mut Prefix<B>, log_length: &LogLength<B>, desk
 }
 
 // What is published at first: the board of the whole history.
-fn first_board<B: HallName, T: Default + Drop>(
+fn first_board<B: HallName>(
     alloc: Global,
     desk: &Desk,
     prefix: &Prefix<B>,
-) -> Result<PrefixBoard<B, T>, OpenFault>
+) -> Result<PrefixBoard<B>, OpenFault>
     requires { prefix.now ≡ desk.now.history }
     ensures shown { IfOk result (λ board. board ≡ desk.now.history) }
     ensures other { IfErr result (λ e. e ≡ OpenFault.NoMemory) }
@@ -130,11 +130,11 @@ fn first_board<B: HallName, T: Default + Drop>(
     Ok(PrefixBoard::new(alloc, board, prefix.again()))
 }
 
-fn first_boards<B: HallName, T: Default + Drop>(
+fn first_boards<B: HallName>(
     alloc: Global,
     desk: &Desk,
     prefix: &Prefix<B>,
-) -> Result<(PrefixBoard<B, T>, PrefixBoard<B, T>), OpenFault>
+) -> Result<(PrefixBoard<B>, PrefixBoard<B>), OpenFault>
     requires { prefix.now ≡ desk.now.history }
     ensures shown { IfOk result
         (λ boards. (boards.0 ≡ desk.now.history) × (boards.1 ≡ desk.now.history)) }
@@ -151,13 +151,13 @@ fn first_boards<B: HallName, T: Default + Drop>(
 }
 
 // The history, published whole. Each exit gives what goes away to `drop`, by its type.
-fn published_at_first<B: HallName, T: Default + Drop, R: Wait + Drop>(
+fn published_at_first<B: HallName, R: Wait + Drop>(
     alloc: Global,
     rt: R,
     desk: Desk,
     log: (LogLength<B>, Prefix<B>),
     seats: u32,
-) -> Result<PublishedDesk<B, PrefixBoard<B, T>, R>, OpenFault>
+) -> Result<PublishedDesk<B, PrefixBoard<B>, R>, OpenFault>
     requires listed { log.1 ≡ desk.history }
     requires seats { 0 < seats }
     ensures published { IfOk result (λ d. (d.history ≡ desk.history) × (d.shown ≡ desk.history)
@@ -184,14 +184,14 @@ fn published_at_first<B: HallName, T: Default + Drop, R: Wait + Drop>(
 /// `KeeperFault` only where a call of the keeper failed. Where the rows are told, `RowRefused` only
 /// where the rules do not accept that row, which is the first such one, and a hall only where they
 /// accept each. `NoPlace` only where the count of `places` rose.
-pub fn open_hall<K: Keeper, B: HallName, T: Default + Drop, R: Wait + Drop>(
+pub fn open_hall<K: Keeper, B: HallName, R: Wait + Drop>(
     alloc: Global,
     rt: R,
     named: NamedLog<B>,
     keeper: K,
     seats: u32,
     places: &mut Places,
-) -> Result<(BoardHall<K, B, T, R>, Vec<BoardSeat<B, T>>, Keys<B>), OpenFault>
+) -> Result<(BoardHall<K, B, R>, Vec<BoardSeat<B>>, Keys<B>), OpenFault>
     requires { (0 < seats) × (seats ≤ 32) × (seats ≡ B.seats) }
     ensures seats { IfOk result (λ opened. length opened.1.items ≡ seats) }
     ensures nothing { IfOk result (λ opened. All HasLostNothing opened.1.items) }

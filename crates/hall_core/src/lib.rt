@@ -1,9 +1,9 @@
 //! Many callers at one history of edits: the pen behind a lock, a seat for each caller, and the
 //! board that they read without the lock.
 //!
-//! Each published board has a token of its prefix, and beside it what its opener wants to keep
-//! there until the board takes its next change: a type that begins empty, of which nothing more is
-//! known. It makes no report, and knows no connection.
+//! Each published board has a token of its prefix. A publish waits for the looks at the older copy
+//! of the board, so a look is to be short: who makes a text of the board copies its project first.
+//! It makes no report, and knows no connection.
 //!
 //! Serials and lengths of histories count entries, from 0. The main types are `Hall` and `Seat`;
 //! who opens a hall names it once (`HallName`). Rules: docs/RULES.md, "Histories that are shared"
@@ -22,7 +22,7 @@ mod published;
 mod rows;
 mod seat;
 
-pub use board_copy::{NextChange, PrefixBoard, ShowsBoard, ShowsKept};
+pub use board_copy::{NextChange, PrefixBoard, ShowsBoard};
 pub use door::{Door, Places};
 pub use hall::{BoardHall, BoardSeat, Hall, close_hall, edit, open_hall};
 pub use hall_log::{HallName, NamedLog, NewLog, Prefix};

@@ -107,8 +107,7 @@ impl<B: HallName, S: ShowsBoard<B>> Seat<B, S> {
         )
     }
 
-    /// Shows all that is published, the board with its prefix and what is kept beside it, as
-    /// `look_from` shows the board.
+    /// Shows all that is published, the board with its prefix, as `look_from` shows the board.
     pub fn look_whole<T, F: FnOnce(&S) -> T + Drop>(
         &mut self,
         least: u64,
@@ -131,8 +130,25 @@ impl<B: HallName, S: ShowsBoard<B>> Seat<B, S> {
         Some((front, answer))
     }
 
-    // Sees what it is told, where that holds all that it had seen.
-    pub(crate) fn learn(&mut self, told: &Prefix<B>) -> bool
+    /// The prefix that is published, which holds all that this seat has seen. What it has seen stays.
+    /// It takes no lock, does not wait, and takes no memory.
+    ///
+    /// `None` only where the count of refusals rose.
+    pub fn published(&mut self) -> Option<Prefix<B>>
+        ensures holds { IfSome result (λ told. IsPrefix self.old.seen told) }
+        ensures none { IfNone result (HasRisen self.old.refusals self.new.refusals) }
+        ensures same { (self.new.seen ≡ self.old.seen) × (self.new.losses ≡ self.old.losses) }
+        ensures later { self.old.refusals ≤ self.new.refusals }
+    {
+        let (told, _) = self.door.read(&self.seen, 0, |_shown: &S| ())?;
+        Some(told)
+    }
+
+    /// Sees what it is told, where that holds all that it had seen, and says whether it does. It takes
+    /// no lock and no memory.
+    ///
+    /// False only where the count of refusals rose; what it has seen is then as before.
+    pub fn learn(&mut self, told: &Prefix<B>) -> bool
         ensures learned { Learns self.old told.now result self.new }
     {
         if !self.door.admits(&self.seen, told) {

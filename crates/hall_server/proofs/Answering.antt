@@ -1,5 +1,5 @@
 -- What a hall answers a seat, as what a service answers.
-use Rattle.std.proofs.Common.{◌≡◌, ℕ, ◌+◌, ◌≤◌, ◌<◌, true, List, [], ◌∷◌, ◌++◌, length, take, Some, cond, arith, refl, sym, ap, ◌∙◌, subst, append_assoc, append-nil, length-append, ⊎_elim}
+use Rattle.std.proofs.Common.{◌≡◌, ℕ, ◌+◌, ◌≤◌, ◌<◌, true, List, [], ◌∷◌, ◌++◌, length, take, Some, cond, arith, refl, sym, ap, ◌∙◌, append_assoc, length-append, ⊎_elim}
 use Rattle.std.specs.List.{slice_get}
 use Rattle.std.specs.Cmp.{unsigned_Decides}
 use Rattle.std.proofs.lemmas.Bool.{cases_lt}
@@ -11,7 +11,7 @@ use Rattle.edit_entries.specs.steps.EqualityLaws.{entry_itself}
 use Rattle.edit_rules.specs.EarlyLines.{is_same_at, numbered, repeated, repeated_at}
 use Rattle.edit_rules.specs.Histories.{changes, last_place}
 use Rattle.edit_rules.specs.Naming.{is_numbered}
-use Rattle.edit_rules.specs.Verdicts.{Legal, first_of, lines, verdict, verdict_by}
+use Rattle.edit_rules.specs.Verdicts.{first_of, lines, verdict, verdict_by}
 use Rattle.edit_rules.specs.declared.verdict.Verdict.TheVariants.{Repeat}
 use Rattle.edit_rules.proofs.LongerHistories.{last_push}
 use Rattle.keeper_core.specs.declared.reply.Reply.{Reply}
@@ -64,10 +64,6 @@ stands_at l e serial is =
 
 of_prefix : (xs ys : List EntryData) → IsPrefix xs ys → IsPrefixOf xs ys
 of_prefix xs ys p = (p.0, sym p.1)
-
--- what is seen is as before
-pub stays : (old new : List EntryData) → new ≡ old → services.Grows old new
-stays old new same = (([], same ∙ sym (append-nil old)), λ legal. subst Legal (sym same) legal)
 
 module _ (old new : SeatData) (e : EntryData) where
   pub grown : (r : Reply) → hall.Edits old e r new → IsPrefixOf old.seen new.seen

@@ -10,7 +10,6 @@ use crate::workers::serve_all;
 use gates::Gate;
 use hall_core::{BoardHall, BoardSeat, HallName, NewLog, Places, open_hall};
 use keeper_core::Keeper;
-use kept_reports::KeptReports;
 use sinks::{Sink, SinkFault};
 use std::alloc::{AllocError, Global};
 use std::marker::Brand;
@@ -53,8 +52,8 @@ fn serve_opened<
 >(
     rt: &W,
     alloc: Global,
-    hall: &BoardHall<K, B, KeptReports<B>, R>,
-    seats: Vec<BoardSeat<B, KeptReports<B>>>,
+    hall: &BoardHall<K, B, R>,
+    seats: Vec<BoardSeat<B>>,
     gate: &G,
     out: &mut O,
 ) -> Result<(), ServeFault>

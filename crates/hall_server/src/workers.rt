@@ -1,9 +1,9 @@
 // One worker a seat.
 ghost use Rattle.std.specs.Prelude.{◌≡◌, IfOk, length};
 
-use crate::connection::serve_link;
+use crate::connection::serve_link_with;
 use gates::Gate;
-use hall_core::{BoardHall, BoardSeat, Hall, HallName, Seat, ShowsKept};
+use hall_core::{BoardHall, BoardSeat, Hall, HallName, Seat, ShowsBoard};
 use keeper_core::Keeper;
 use kept_reports::KeptReports;
 use std::alloc::{AllocError, Global};
@@ -30,36 +30,24 @@ fn work_with_each<W: Threads + Sync, T: Send + Drop, J: Work<T> + Sync>(
 
 /// To serve the links of a gate until it gives none.
 #[derive(Drop)]
-struct LinkWork<
-    'a,
-    W: Wait,
-    K: Keeper,
-    B: HallName,
-    S: ShowsKept<B, KeptReports<B>>,
-    R: Wait + Drop,
-    G: Gate,
-> {
+struct LinkWork<'a, W: Wait, K: Keeper, B: HallName, S: ShowsBoard<B>, R: Wait + Drop, G: Gate> {
     rt: &'a W,
     alloc: Global,
     hall: &'a Hall<K, B, S, R>,
+    reports: &'a KeptReports<B>,
     gate: &'a G,
 }
 
-impl<
-    W: Wait,
-    K: Keeper,
-    B: HallName,
-    S: ShowsKept<B, KeptReports<B>>,
-    R: Wait + Drop,
-    G: Gate,
-> Work<Seat<B, S>> for LinkWork<'_, W, K, B, S, R, G> {
+impl<W: Wait, K: Keeper, B: HallName, S: ShowsBoard<B>, R: Wait + Drop, G: Gate> Work<Seat<B, S>>
+    for LinkWork<'_, W, K, B, S, R, G> {
     fn work_with(&self, with: Seat<B, S>) -> Seat<B, S> {
         let mut seat = with;
         for _ in 0..u64::MAX {
             let Some(mut link) = self.gate.next() else {
                 break;
             };
-            let _end = serve_link(self.rt, self.alloc, self.hall, &mut seat, &mut link);
+            let (hall, reports) = (self.hall, self.reports);
+            let _end = serve_link_with(self.rt, self.alloc, hall, &mut seat, reports, &mut link);
         }
         seat
     }
@@ -67,10 +55,12 @@ impl<
 
 /// Serves the links of a gate by one worker a seat of a hall (docs/RULES.md, "Serving"). Each takes
 /// a link from the gate and answers its requests (`serve_link`), one link after the other, until
-/// the gate gives none. It hands the seats back when all workers have ended.
+/// the gate gives none. All share the texts of reports that were made. It hands the seats back when
+/// all workers have ended.
 ///
-/// It waits for the gate, for links, and for the hall's lock. Where no thread can be made, one
-/// worker begins when another has ended.
+/// It waits for the gate, for links, and for the hall's lock; a net list or a check waits while
+/// another worker makes one of its kind. Where no thread can be made, one worker begins when
+/// another has ended.
 pub fn serve_all<
     W: Threads + Wait + Sync,
     K: Keeper + Send,
@@ -80,16 +70,18 @@ pub fn serve_all<
 >(
     rt: &W,
     alloc: Global,
-    hall: &BoardHall<K, B, KeptReports<B>, R>,
-    seats: Vec<BoardSeat<B, KeptReports<B>>>,
+    hall: &BoardHall<K, B, R>,
+    seats: Vec<BoardSeat<B>>,
     gate: &G,
-) -> Result<Vec<BoardSeat<B, KeptReports<B>>>, AllocError>
+) -> Result<Vec<BoardSeat<B>>, AllocError>
     ensures all { IfOk result (λ back. length back.items ≡ length seats.items) }
 {
+    let reports = KeptReports::new();
     let work = LinkWork {
         rt,
         alloc,
         hall,
+        reports: &reports,
         gate,
     };
     work_with_each(rt, seats, &work)

@@ -1,11 +1,10 @@
-// One text that is kept, and its place.
+// One text that is kept.
 ghost use Rattle.std.specs.Prelude.{◌≡◌, IfSome};
-ghost use Rattle.kept_reports.specs.steps.KeptTexts.{IsText};
+ghost use Rattle.kept_reports.specs.KeptTexts.{IsText, IsTextAfter};
 
 use crate::kind::ReportKind;
 use hall_log::{HallName, Prefix};
 use std::marker::Model;
-use std::sync::{Mutex, OnceLock};
 use web_requests::Bytes;
 
 /// The text of a report, with the entries and the kind that it is of.
@@ -17,7 +16,7 @@ pub struct KeptText<B: HallName> {
 }
 
 impl<B: HallName> Model for KeptText<B> {
-    ghost use Rattle.kept_reports.specs.steps.KeptTexts.{IsText, KeptData};
+    ghost use Rattle.kept_reports.specs.KeptTexts.{IsText, KeptData};
 
     ghost Value = { KeptData };
 
@@ -34,38 +33,18 @@ impl<B: HallName> KeptText<B> {
         KeptText { prefix, kind, text }
     }
 
-    /// The text once more, where it is of this kind and of just these entries. It takes no memory.
-    pub fn text_of(&self, kind: ReportKind, prefix: &Prefix<B>) -> Option<Bytes>
-        ensures { IfSome result (λ text. IsText prefix.now kind text) }
+    /// The text once more, with the entries that it is of, where it is of this kind and these begin
+    /// with those that were seen. It takes no memory.
+    pub fn text_after(&self, kind: ReportKind, seen: &Prefix<B>) -> Option<(Prefix<B>, Bytes)>
+        ensures { IfSome result (IsTextAfter seen.now kind) }
     {
         if self.kind != kind {
             return None;
         }
-        if self.prefix.len() != prefix.len() {
+        if !seen.begins(&self.prefix) {
             return None;
         }
-        if !self.prefix.begins(prefix) {
-            return None;
-        }
-        self.text.again()
-    }
-}
-
-/// Where a text is kept once it is made, with the turn of the one who makes it.
-#[derive(Drop)]
-pub struct TextPlace<B: HallName> {
-    /// The text; none before it is made.
-    pub kept: OnceLock<KeptText<B>>,
-    /// Held by who makes it.
-    pub turn: Mutex<()>,
-}
-
-impl<B: HallName> TextPlace<B> {
-    /// No text yet. It takes no memory.
-    pub fn new() -> TextPlace<B> {
-        TextPlace {
-            kept: OnceLock::new(),
-            turn: Mutex::new(()),
-        }
+        let text = self.text.again()?;
+        Some((self.prefix.again(), text))
     }
 }

@@ -1,6 +1,6 @@
-// The reports whose text is kept: those that name no sheet and no symbol.
+// The reports whose text is kept: those that look at all sheets.
 ghost use Rattle.std.specs.Prelude.{◌≡◌, IfSome};
-ghost use Rattle.kept_reports.specs.steps.KeptTexts.{what_of};
+ghost use Rattle.kept_reports.specs.KeptTexts.{what_of};
 
 use reports::{Form, What};
 
@@ -11,8 +11,6 @@ pub enum ReportKind {
     Net(Form),
     /// What the check finds.
     Drc,
-    /// The names of the sheets.
-    Sheets,
 }
 
 /// The kind of a report, where its text is kept.
@@ -22,7 +20,6 @@ pub fn kind_of(what: &What) -> Option<ReportKind>
     match what {
         What::Net(form) => Some(ReportKind::Net(*form)),
         What::Drc => Some(ReportKind::Drc),
-        What::Sheets => Some(ReportKind::Sheets),
-        What::Sheet(_) | What::Symbol(_) | What::Objects(_) => None,
+        What::Sheet(_) | What::Symbol(_) | What::Objects(_) | What::Sheets => None,
     }
 }

@@ -4,7 +4,7 @@ use Rattle.edit_rules.specs.Verdicts.{Legal}
 use Rattle.web_http.specs.Completeness.{Completes}
 use Rattle.web_http.specs.Serving.{Serves}
 use Rattle.hall_server.specs.Stands.{stand_of}
-use Rattle.hall_server.proofs.connection.serve_link.Goals as goal
+use Rattle.hall_server.proofs.connection.serve_link_with.Goals as goal
 
 pub returns-clause-serves : goal.returns-clause-serves
 returns-clause-serves g c =

@@ -1,5 +1,6 @@
 -- The reports whose text is kept, and what a kept text is (own).
 use Rattle.std.specs.Prelude.{ℕ, List, Ok}
+use mathlib.Core.List.{IsPrefix}
 use Rattle.edit_entries.specs.Entries.{EntryData}
 use Rattle.edit_rules.specs.Histories.{project}
 use Rattle.pin_matrix.specs.Matrices.{usual}
@@ -13,11 +14,16 @@ use Rattle.kept_reports.specs.declared.kind.ReportKind.TheVariants as kinds
 abbrev pub what_of : ReportKind → What
 what_of (kinds.Net form) = reports.Net form
 what_of kinds.Drc = reports.Drc
-what_of kinds.Sheets = reports.Sheets
 
 -- the report on the project of these entries comes to this text; the check is by the usual matrix
 abbrev pub IsText : List EntryData → ReportKind → List ℕ → Type 0
 IsText h kind text = ReportsTo (project h) usual (what_of kind) (Ok text)
+
+-- a text of a kind, with entries that begin with these
+pub record IsTextAfter (h : List EntryData) (kind : ReportKind) (told : List EntryData × List ℕ)
+    : Type 0 where
+  pub begins : IsPrefix h told.0
+  pub text : IsText told.0 kind told.1
 
 -- a text, with the entries and the kind that it is of
 pub record KeptData : Type 0 where

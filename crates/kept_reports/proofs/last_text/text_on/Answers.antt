@@ -1,0 +1,21 @@
+use Rattle.std.proofs.Common.{◌≡◌, ap}
+use Rattle.pin_matrix.specs.Matrices.{usual}
+use Rattle.reports.specs.NetLists.{CheckData}
+use Rattle.kept_reports.proofs.TextLemmas.{check_told, net_refused, net_told}
+use Rattle.kept_reports.proofs.last_text.text_on.Goals as goal
+
+pub returns-in_err-net_report-in-Net : goal.returns-in_err-net_report-in-Net
+returns-in_err-net_report-in-Net c =
+    let refused = net_refused c.args.project.now.contents usual c.in-Net.form c.in_err-net_report-in-Net.field-0.0 c.from_residual.result c.from_residual.ensures.1 c.in_err-net_report-in-Net.ensures in
+    rw c.in-Net.is refused
+
+pub returns-in_ok-net_report-in-Net : goal.returns-in_ok-net_report-in-Net
+returns-in_ok-net_report-in-Net c =
+    let told = net_told c.args.project.now.contents usual c.in-Net.form c.in_ok-net_report-in-Net.field-0.items c.in_ok-net_report-in-Net.ensures in
+    rw c.in-Net.is told
+
+pub returns-in_ok-check-in-Drc : goal.returns-in_ok-check-in-Drc
+returns-in_ok-check-in-Drc c =
+    let told = check_told c.args.project.now.contents usual c.in_ok-check-in-Drc.field-0 c.in_ok-check-in-Drc.ensures in
+    let text : c.result.inside.text.items ≡ c.in_ok-check-in-Drc.field-0.text = ap (λ (check : CheckData). check.text) c.result.view_is in
+    rw (c.in-Drc.is, text) told
