@@ -17,7 +17,7 @@ use gates::TcpGate;
 use hall_core::Places;
 use project_files::DirFolder;
 use sinks::StdSink;
-use sql_file_keeper::SqlFileKeeper;
+use sql_file_keeper::SqlBatchKeeper;
 use std::process::ExitCode;
 use std::rt::Env;
 use std::{env, io};
@@ -44,7 +44,7 @@ fn main(rt: HostRuntime) -> ExitCode {
     let mut err = StdSink::new(rt.stderr());
     let mut gate = TcpGate::new(&rt);
     let keeper = StoreKeeper::new(&rt);
-    let database = SqlFileKeeper::new(&rt);
+    let database = SqlBatchKeeper::new(&rt);
     let mut places = Places::new();
     let status = match arguments(&rt) {
         Ok(arguments) => run(

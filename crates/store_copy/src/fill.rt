@@ -33,7 +33,7 @@ fn put_next<D: Keeper>(desk: &Desk, to: &mut D, serial: u32) -> Result<(), Store
 }
 
 /// Puts the rows from a serial on, behind those before it.
-pub fn put_rows<D: Keeper>(desk: &Desk, to: &mut D, serial: u32) -> Result<(), StoreFault>
+fn put_each<D: Keeper>(desk: &Desk, to: &mut D, serial: u32) -> Result<(), StoreFault>
     requires within { serial ≤ length desk.now.history }
     requires first { HasFirst serial desk.now.history (D.rows to.old) (D.rows to.old) }
     ensures later { D.faults to.old ≤ D.faults to.new }
@@ -50,4 +50,40 @@ pub fn put_rows<D: Keeper>(desk: &Desk, to: &mut D, serial: u32) -> Result<(), S
         put_next(desk, to, next)?;
     }
     Ok(())
+}
+
+/// Asks for the row behind the last one. A keeper may gather rows that are put, and keep them all
+/// before it answers what is asked (`SqlBatchKeeper`): once it does, all rows are kept.
+fn settle_rows<D: Keeper>(desk: &Desk, to: &mut D) -> Result<(), StoreFault>
+    ensures later { D.faults to.old ≤ D.faults to.new }
+    ensures cause { IsErrOf result StoreFault.ToFault →
+        HasRisen (D.faults to.old) (D.faults to.new) }
+    ensures never { D.never_fails to.old →
+        NeverFaults (D.never_fails to.new) result StoreFault.ToFault }
+    ensures kind { IsOfTo result }
+    ensures rows { D.rows to.new ≡ D.rows to.old }
+{
+    match to.load(desk.front()) {
+        Ok(_) => Ok(()),
+        Err(KeepFault::Failed) => Err(StoreFault::ToFault),
+        Err(KeepFault::NoMemory) => Err(StoreFault::NoMemory),
+    }
+}
+
+/// Puts the rows from a serial on, behind those before it, so that all are kept.
+pub fn put_rows<D: Keeper>(desk: &Desk, to: &mut D, serial: u32) -> Result<(), StoreFault>
+    requires within { serial ≤ length desk.now.history }
+    requires first { HasFirst serial desk.now.history (D.rows to.old) (D.rows to.old) }
+    ensures later { D.faults to.old ≤ D.faults to.new }
+    ensures cause { IsErrOf result StoreFault.ToFault →
+        HasRisen (D.faults to.old) (D.faults to.new) }
+    ensures never { D.never_fails to.old →
+        NeverFaults (D.never_fails to.new) result StoreFault.ToFault }
+    ensures kind { IsOfTo result }
+    ensures rows { MatchResult result
+        (λ _. HasFirst (length desk.now.history) desk.now.history (D.rows to.old) (D.rows to.new))
+        (λ _. HasSome desk.now.history (D.rows to.old) (D.rows to.new)) }
+{
+    put_each(desk, to, serial)?;
+    settle_rows(desk, to)
 }
