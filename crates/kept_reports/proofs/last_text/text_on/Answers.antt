@@ -1,6 +1,9 @@
-use Rattle.std.proofs.Common.{◌≡◌, ap}
+use Rattle.std.proofs.Common.{◌≡◌, List, Ok, ap, subst}
 use Rattle.pin_matrix.specs.Matrices.{usual}
+use Rattle.pin_matrix.specs.declared.level.Level.{Level}
+use Rattle.reports.specs.declared.what.What.TheVariants.{Drc}
 use Rattle.reports.specs.NetLists.{CheckData}
+use Rattle.reports.specs.Reports.{Reports}
 use Rattle.kept_reports.proofs.TextLemmas.{check_told, net_refused, net_told}
 use Rattle.kept_reports.proofs.last_text.text_on.Goals as goal
 
@@ -16,6 +19,8 @@ returns-in_ok-net_report-in-Net c =
 
 pub returns-in_ok-check-in-Drc : goal.returns-in_ok-check-in-Drc
 returns-in_ok-check-in-Drc c =
-    let told = check_told c.args.project.now.contents usual c.in_ok-check-in-Drc.field-0 c.in_ok-check-in-Drc.ensures in
-    let text : c.result.inside.text.items ≡ c.in_ok-check-in-Drc.field-0.text = ap (λ (check : CheckData). check.text) c.result.view_is in
+    let check = c.in_ok-check-in-Drc.field-0 in
+    let made = check_told c.args.project.now.contents c.usual.result check c.in_ok-check-in-Drc.ensures in
+    let told = subst (λ (matrix : List Level). Reports c.args.project.now.contents matrix Drc (Ok check.text)) c.usual.ensures made in
+    let text : c.result.inside.text.items ≡ check.text = ap (λ (seen : CheckData). seen.text) c.result.view_is in
     rw (c.in-Drc.is, text) told
