@@ -1,0 +1,24 @@
+//! Works again the cases on rows in databases of the tables that its arguments name: copies into a
+//! database in memory, and out of one. It prints for each table how many cases there are, and each
+//! that came out otherwise.
+//!
+//! The tables are in data/, with what each rule wants; how they are written stands in
+//! crates/cases/data/README.txt.
+#![tactic(auto)]
+
+mod answers;
+mod copies;
+mod rows;
+
+use answers::table_report;
+use std::{env, fs, io};
+
+fn main(rt: HostRuntime) -> io::Result<()> {
+    for argument in env::args(&rt)?.skip(1) {
+        let name = argument.as_str();
+        let text = fs::read_to_string(&rt, name)?;
+        let report = table_report(rt.alloc(), name, text.as_str())?;
+        print!(rt; "{}", report.as_str())?;
+    }
+    Ok(())
+}
