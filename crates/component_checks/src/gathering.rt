@@ -117,8 +117,8 @@ fn checked_by_tables<'a>(
     Ok(None)
 }
 
-/// A component as the check sees it, by all its pins; the tables keep them, where its library symbol
-/// gives them.
+/// A component as the check sees it, by all its pins; the tables keep them, where its library
+/// symbol gives them.
 fn checked_by_pins<'a>(
     alloc: Global,
     tables: &mut SymbolTables<'a>,

@@ -76,8 +76,8 @@ impl GrowingRows {
         Ok(())
     }
 
-    /// Puts a drawn conductor without names and ports behind the others. On want of memory all drawn
-    /// ones are gone.
+    /// Puts a drawn conductor without names and ports behind the others. On want of memory all
+    /// drawn ones are gone.
     pub fn push_plain(&mut self, row: FlatRow, member: Option<RowMember>) -> Result<(), AllocError>
         requires { IsPartOf (length self.old.parts) member }
         ensures parts { OnOk result (self.new.parts ≡ self.old.parts) }

@@ -8,14 +8,12 @@ use geda_geom::Key;
 use std::alloc::{AllocError, Global};
 use std::collections::HashMap;
 
-// So many neighbouring lines are one strip.
+// So many neighbouring lines are one strip: less than the grid of a drawing, so that most strips
+// have one line, and enough that lines off the grid don't take a set of spans each.
 const STRIP: u32 = 64;
 
 /// Spans on parallel lines, each under a key. What is asked of a line takes time by what lies in
 /// its strip, however many strips there are.
-///
-/// Lines of a drawing lie further apart than a strip is wide, and where they do not, strips keep
-/// memory small: each set of spans takes memory for several.
 #[derive(Drop)]
 pub(crate) struct Strips {
     alloc: Global,

@@ -17,7 +17,8 @@ abbrev pub unknown_number : PlacedPin → Option (List ℕ)
 unknown_number pin = if same_kind pin.kind kinds.Unknown then Some pin.number else None
 
 -- whether there are no pins, and the numbers of those of kind unknown
-pub record AreTold (pins : List PlacedPin) (has_none : Bool) (unknown : List (List ℕ)) : Type 0 where
+pub record AreTold (pins : List PlacedPin) (has_none : Bool) (unknown : List (List ℕ))
+    : Type 0 where
   pub none : has_none ≡ (length pins == 0)
   pub numbers : unknown ≡ filter_map unknown_number pins
 

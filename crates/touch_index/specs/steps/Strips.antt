@@ -55,8 +55,8 @@ AreAllProper strips = (m : Mark) → HasMark strips m → m.from ≤ (span_of m)
 
 -- the keys of the spans that meet one are listed where all are wanted; else some stand for them
 abbrev pub FindsOn : Bool → Strips → Key → List Key → Span → Type 0
-FindsOn all strips own keys span = (spans : SpanSet) → strip_at strips (strip_of span.line) ≡ Some spans
-    → HasAllFound all spans own keys span
+FindsOn all strips own keys span = (spans : SpanSet)
+    → strip_at strips (strip_of span.line) ≡ Some spans → HasAllFound all spans own keys span
 
 -- another key has a mark that meets the span
 pub record IsMetOn (strips : Strips) (span : Span) (own key : Key) : Type 0 where

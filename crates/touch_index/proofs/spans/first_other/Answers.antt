@@ -1,5 +1,5 @@
 use Rattle.std.proofs.Common.{rules, ◌≡◌, ◌≢◌, ◌∷◌, sym, subst, ◌∙◌}
-use Rattle.touch_index.specs.steps.Spanning.{IsInTime, IsLooking, IsWanted, marks_from}
+use Rattle.touch_index.specs.steps.Spanning.{IsLooking, IsWanted, marks_from}
 use Rattle.touch_index.proofs.SpanningLemmas.{looking_begins, looking_finds, looking_past, looking_stops}
 use Rattle.touch_index.proofs.spans.first_other.Goals as goal
 
