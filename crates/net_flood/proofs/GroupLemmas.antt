@@ -1,35 +1,27 @@
 -- The groups of touching where a conductor comes, or goes.
-use Rattle.std.proofs.Common.{◌≡◌, ◌≢◌, ◌⊎◌, ◌↔◌, ◌<◌, ◌≤◌, ◌+◌, ◌∷◌, [], ℕ, inl, inr, true, false, cond, List, length, take, get_or, arith, Contains, Option, None, Some, IsSome, is_some, refl, sym, ap, subst, ◌∙◌}
+use Rattle.std.proofs.Common.{◌≡◌, ◌≢◌, ◌⊎◌, ◌<◌, ◌≤◌, ◌+◌, [], ℕ, inl, inr, Bool, true, false, cond, List, length, take, get_or, Contains, Option, None, Some, IsSome, is_some, refl, sym, ap, subst, ◌∙◌}
 use Rattle.std.specs.BTreeMap.{is_at}
 use Rattle.std.specs.BTreeSet.{BTreeSet, contains}
-use Rattle.std.specs.Bool.{Decides}
-use Rattle.std.specs.Cmp.{eq_by_cmp_equiv}
-use Rattle.std.specs.List.{AllByRecursion}
-use Rattle.std.specs.Ordering.{eq_by_cmp}
-use Rattle.std.specs.FinMap as finite
 use Rattle.std.specs.FinMap.{get, insert, remove}
-use Rattle.std.specs.List.Sorted.{IsStrictlySortedBy}
-use Rattle.std.proofs.lemmas.List.{length-map}
-use Rattle.std.proofs.lemmas.Map.Keys.{IsDistinct-cons, IsDistinct-from_sorted}
-use Rattle.std.proofs.lemmas.Map.Made.{is_member-Decides, length-le_from_is_member}
-use Rattle.std.proofs.lemmas.List.Elements.{Contains-append_cases, Contains-append_right, Contains-push_cases}
-use Rattle.std.proofs.lemmas.Map.Views.{tells_apart}
+use Rattle.std.specs.Option.{unwrap_or}
 use Rattle.geda_geom.specs.declared.conductor.Key.{Key}
 use Rattle.geda_geom.specs.declared.conductor.Conductor.{Conductor}
 use Rattle.geda_geom.specs.Keys.{by_key}
-use Rattle.geda_geom.proofs.KeyLemmas.{by_key_total, exact_keys}
-use Rattle.touch_index.proofs.MapLemmas.{key_ties}
+use Rattle.touch_index.proofs.MapLemmas.{same_key_exact}
 use Rattle.touch_index.specs.Index.{AreBeside, IsNeighbour, IsSpanning}
 use Rattle.net_flood.specs.Grouping.{Conductors, InGroup, IsGroup}
 use Rattle.net_flood.specs.declared.partition.Partition.{Partition}
-use Rattle.net_flood.specs.steps.Partition.{AddsMember, Has, IsPartition, Joins, Lacks, Members, TakesOut, Together, heads_of, members_of}
-use Rattle.net_flood.specs.steps.Search.{AreLinked, IsBeside, IsPlaced, PutsRest, Searches}
+use Rattle.net_flood.specs.steps.Found.{PutsFound}
+use Rattle.net_flood.specs.steps.Partition.{AddsMember, Has, Heads, IsPartition, Joins, Lacks, Members, PutsLeft, TakesOut, Together, head_at, heads_of, members_of}
+use Rattle.net_flood.specs.steps.Search.{AreUnder, AreUnique, IsFound, IsParted, IsReached, IsUnder, Searches, is_that}
 use Rattle.net_flood.specs.steps.Kept.{AreGroups, HasKeys, IsBefore, IsJoining}
 use Rattle.net_flood.proofs.ConductorLemmas.{get_inserted, get_removed, group_end, group_itself, group_once, group_trans, group_turn, near_alike, near_first, near_second, near_turn, removed_apart}
-use Rattle.net_flood.proofs.KeyLemmas.{same_apart, same_here, same_or_apart}
+use Rattle.net_flood.proofs.CountLemmas.{few_beside}
+use Rattle.net_flood.proofs.KeyLemmas.{same_here, same_or_apart}
 use Rattle.net_flood.proofs.PartitionLemmas.{first_cases, none_in, together_trans, together_turn}
-use Rattle.net_flood.proofs.RelationLemmas.{along, joined_map}
-use Rattle.net_flood.proofs.SetLemmas.{has_contains, has_or_lacks, lacks_not, not_lacks, update_apart, update_here}
+use Rattle.net_flood.proofs.RelationLemmas.{along, joined_map, joined_once, joined_trans}
+use Rattle.net_flood.proofs.SearchLemmas.{head_of, head_or_none, is_found, under_none, under_one}
+use Rattle.net_flood.proofs.SetLemmas.{has_or_lacks, lacks_not, not_lacks, update_apart, update_here}
 
 -- what stands together with itself at the start of a chain does so with its end
 module _ (cs : Conductors) (M : Members) (head : Key → Option Key) (is : IsPartition head M) where
@@ -129,250 +121,304 @@ module _ (cs : Conductors) (key : Key) where
         ]
       ]
 
--- searches among conductors that are all that there are have found all groups
-module _ (cs : Conductors) (left : BTreeSet Key) (start : Key) (p : Partition) (placed : IsPlaced cs left p) (linked : AreLinked cs left (Together (members_of p) start) p)
-    (N : Members) (head : Key → Option Key) (is : IsPartition head N) (kept : (k q : Key) → Together (members_of p) k q → Together N k q)
-    (rest : (q : Key) → Has left q → Together N start q) (sound : (k q : Key) → Together N k q → InGroup cs k q) where
-  -- a neighbour of what is with the start, or was left
-  beside : (k q : Key) → IsNeighbour (get cs) k q → Together N start k → Together N k q
-  beside k q n t =
-      let back : Together N k start = together_turn N start k t in
-      elim (linked q k (near_turn (get cs) k q n)) [
-        | inl h ↦ together_trans head N is k start q back (rest q h)
-        | inr o ↦ elim o [
-          | inl s ↦ together_trans head N is k start q back (kept start q s)
-          | inr u ↦ together_turn N q k (kept q k u)
-        ]
-      ]
-
-  pub searched_groups : AreGroups cs N
-  searched_groups = record {
-    sound = sound;
-    whole = whole_from cs N head is
-        (λ k there. elim (placed.parts k there) [
-          | inl h ↦ let t = rest k h in (t.0, t.2, t.2)
-          | inr t ↦ kept k k t
-        ])
-        (λ k q n. elim (linked k q n) [
-          | inl h ↦ beside k q n (rest k h)
-          | inr o ↦ elim o [ inl s ↦ beside k q n (kept start k s) | inr t ↦ kept k q t ]
-        ]);
-  }
-
 -- who is there stands with itself
 pub together_there : (cs : Conductors) (M : Members) (key : Key) → AreGroups cs M → IsSome (get cs key) → Together M key key
 together_there cs M key groups there = groups.whole key key (group_itself cs key there)
 
-decides_key : (a b : Key) → Decides (eq_by_cmp by_key a b) (a ≡ b)
-decides_key a b = ((λ e. tells_apart exact_keys a b e), (λ e. sym (key_ties a b) ∙ same_here a b e))
+-- a key that was found is with those that searches began at, or is parted
+abbrev pub IsMet : Conductors → Option Key → Key → Type 0
+IsMet cs start x = (s : Key) × (start ≡ Some s) × InGroup cs s x
 
-none_ties : (key : Key) (ks : List Key) → ((q : Key) → Contains ks q → q ≢ key) → AllByRecursion (λ q. eq_by_cmp by_key key q ≡ false) ks
-none_ties key [] apart = tt
-none_ties key (k ∷ ks) apart = (
-  sym (key_ties key k) ∙ same_apart key k (λ e. apart k (0, omega arith, refl) (sym e)),
-  none_ties key ks (λ q c. apart q (Contains-append_right (k ∷ []) ks q c)),
-)
+that_apart : (start : Option Key) (h : Key) → start ≡ Some h → is_that start h ≡ false → ⊥
+that_apart None h e not = let p : None ≡ Some h = e in absurd (cc)
+that_apart (Some x) h e not = let p : true ≡ false = sym (same_here x h (ap (λ o. unwrap_or o x) e)) ∙ not in absurd (cc)
 
--- a group's list has the key, and all others of the group
-pub few_others : (others : BTreeSet Key) (key : Key) (keys : List Key) → IsStrictlySortedBy by_key others.keys → Contains keys key → ((q : Key) → Has others q → Contains keys q)
-    → ((q : Key) → Has others q → q ≢ key) → length others.keys + 1 ≤ length keys
-few_others others key keys rising here inside apart =
-    let less : length (key ∷ others.keys) ≤ length keys = length-le_from_is_member (eq_by_cmp_equiv by_key_total) (key ∷ others.keys) keys
-    (IsDistinct-cons (eq_by_cmp by_key) key others.keys (none_ties key others.keys (λ q c. apart q ((has_contains others q).1 c))) (IsDistinct-from_sorted by_key others.keys rising))
-    (λ q h. (is_member-Decides decides_key keys q).1 (elim (Contains-append_cases (key ∷ []) others.keys q ((is_member-Decides decides_key (key ∷ others.keys) q).0 h)) [
-      | inl c ↦ elim (Contains-push_cases [] key q c) [ inl n ↦ absurd (none_in q n) | inr e ↦ subst (Contains keys) e here ]
-      | inr c ↦ inside q ((has_contains others q).1 c)
-    ])) in
-    omega arith
+that_some : (start : Option Key) (h : Key) → is_that start h ≡ true → start ≡ Some h
+that_some None h is = absurd (cc)
+that_some (Some x) h is = ap Some (same_key_exact x h is)
 
-pub few_key : (key : Key) (keys : List Key) → Contains keys key → 1 ≤ length keys
-few_key key [] c = absurd (none_in key c)
-few_key key (k ∷ ks) c = omega arith
+that_or : (start : Option Key) (h : Key) → (start ≡ Some h) ⊎ (is_that start h ≡ false)
+that_or start h = go (is_that start h) refl
+  where
+    go : (t : Bool) → is_that start h ≡ t → (start ≡ Some h) ⊎ (is_that start h ≡ false)
+    go true e = inl (that_some start h e)
+    go false e = inr e
+
+-- what was found is parted, or not
+parted_or : (start : Option Key) (found : Heads) (q : Key) → IsParted start found q ⊎ (IsParted start found q → ⊥)
+parted_or start found q = elim (head_or_none (head_at found q)) [
+  | inl at ↦ elim (that_or start at.0) [
+    | inl e ↦ inr (λ p. that_apart start at.0 e (subst (λ x. is_that start x ≡ false) (under_one found p.0 at.0 q p.1 at.1) p.2))
+    | inr e ↦ inl (at.0, at.1, e)
+  ]
+  | inr none ↦ inr (λ p. under_none found p.0 q none p.1)
+]
+
+module _ (cs : Conductors) (near : List Key) (start : Option Key) (found : Heads) (searches : Searches cs near start found) where
+  found_or : (q : Key) → IsFound found q → IsMet cs start q ⊎ IsParted start found q
+  found_or q f =
+      let at = head_of (head_at found q) f in
+      elim (that_or start at.0) [
+        | inl e ↦ inl (at.0, e, searches.placed.sound at.0 q at.1)
+        | inr e ↦ inr (at.0, at.1, e)
+      ]
+
+  -- who touches what is parted is with it
+  parted_near : (k q : Key) → IsNeighbour (get cs) k q → (p : IsParted start found k) → IsUnder found p.0 q
+  parted_near k q n p = elim (searches.linked k q n (is_found found p.0 k p.1)) [
+    | inl e ↦ absurd (that_apart start p.0 (sym e ∙ p.1) p.2)
+    | inr t ↦ subst (λ x. IsUnder found x q) (under_one found t.0 p.0 k t.1 p.1) t.2
+  ]
 
 -- a conductor goes
-module _ (cs : Conductors) (key : Key) (row others : BTreeSet Key) (old mid : Partition) (is : IsPartition (heads_of old) (members_of old)) (groups : AreGroups cs (members_of old))
-    (out : TakesOut key row old mid) (updates : (q : Key) → contains by_key others q ≡ cond (is_at (by_key key) q) false (contains by_key row q)) where
-  pub other_apart : (q : Key) → Has others q → q ≢ key
-  other_apart q h e = lacks_not others q h (update_here row others key false updates q e)
-
-  other_in_row : (q : Key) → Has others q → Has row q
-  other_in_row q h = sym (update_apart row others key false updates q (other_apart q h)) ∙ h
-
-  others_have : (q : Key) → Has row q → q ≢ key → Has others q
-  others_have q h apart = update_apart row others key false updates q apart ∙ h
-
-  pub other_with_key : (q : Key) → Has others q → Together (members_of old) key q
-  other_with_key q h = (out.same q).0 (other_in_row q h)
-
-  pub others_there : (q : Key) → Has others q → IsSome (get (remove cs key) q)
-  others_there q h = ap is_some (get_removed cs key q (other_apart q h)) ∙ group_end cs key q (groups.sound key q (other_with_key q h))
-
-  pub others_free : (h q : Key) → members_of mid h q → Lacks others q
-  others_free h q m = not_lacks others q (λ has. ((out.rest h q).0 m).1 (other_with_key q has))
-
-  pub others_count : (keys : List Key) → IsGroup cs key keys → IsSome (get cs key) → IsStrictlySortedBy by_key others.keys → length others.keys + 1 ≤ length keys
-  others_count keys group there rising =
-      few_others others key keys rising ((group.same key).1 (group_itself cs key there)) (λ q h. (group.same q).1 (groups.sound key q (other_with_key q h))) other_apart
-
-  -- all in the group of the key have its head
-  pub others_alike : (head : Key) → heads_of old key ≡ Some head → (q : Key) → Has others q → heads_of old q ≡ Some head
-  others_alike head at q h =
-      let t = other_with_key q h in
-      is.one t.0 q t.2 ∙ sym (is.one t.0 key t.1) ∙ at
-
+module _ (cs : Conductors) (key : Key) (old : Partition) (is : IsPartition (heads_of old) (members_of old)) (groups : AreGroups cs (members_of old)) where
   near_less : (k q : Key) → k ≢ key → q ≢ key → IsNeighbour (get cs) k q → IsNeighbour (get (remove cs key)) k q
   near_less k q first second n = near_alike (get cs) (get (remove cs key)) k q (sym (get_removed cs key k first)) (sym (get_removed cs key q second)) n
 
-  -- a chain that begins in another group does not meet the key
-  stays_in : (k q : Key) → Together (members_of old) k q → ¬ (Together (members_of old) key k) → InGroup (remove cs key) k q
-  stays_in k q t never = (along (IsNeighbour (get cs)) (λ x. InGroup cs k x × InGroup (remove cs key) k x)
-      (λ x y p n.
-      let after = group_trans cs k x y p.0 (group_once cs x y n) in
-      (after, group_trans (remove cs key) k x y p.1 (group_once (remove cs key) x y (near_less x y (clear x p.0) (clear y after) n))))
-      k q (start, started) chain.1).1
-    where
-      chain : InGroup cs k q
-      chain = groups.sound k q t
+  near_back : (k q : Key) → IsNeighbour (get (remove cs key)) k q → IsNeighbour (get cs) k q
+  near_back k q n = near_alike (get (remove cs key)) (get cs) k q
+      (get_removed cs key k (removed_apart cs key k (near_first (get (remove cs key)) k q n))) (get_removed cs key q (removed_apart cs key q (near_second (get (remove cs key)) k q n))) n
 
-      clear : (x : Key) → InGroup cs k x → x ≢ key
-      clear x g e = never (together_turn (members_of old) k key (groups.whole k key (subst (InGroup cs k) e g)))
+  there_more : (q : Key) → IsSome (get (remove cs key) q) → IsSome (get cs q)
+  there_more q there = sym (ap is_some (get_removed cs key q (removed_apart cs key q there))) ∙ there
 
-      start : InGroup cs k k
-      start = group_itself cs k chain.0
+  module _ (near : List Key) (all : IsSpanning (get cs) key near) where
+    pub near_there : (q : Key) → Contains near q → IsSome (get (remove cs key) q)
+    near_there q c =
+        let n = all.near q c in
+        ap is_some (get_removed cs key q (λ e. n.apart e)) ∙ near_second (get cs) key q n
 
-      started : InGroup (remove cs key) k k
-      started = group_itself (remove cs key) k (ap is_some (get_removed cs key k (clear k start)) ∙ chain.0)
+    -- what is reached is in the group
+    pub reached_with : (q : Key) → IsReached (remove cs key) near q → InGroup cs key q
+    reached_with q r = (
+      near_first (get cs) key r.0 (all.near r.0 r.1),
+      joined_trans (IsNeighbour (get cs)) key r.0 q (joined_once (IsNeighbour (get cs)) key r.0 (all.near r.0 r.1))
+          (joined_map (IsNeighbour (get (remove cs key))) (IsNeighbour (get cs)) near_back r.0 q r.2.1),
+    )
 
-  together_mid : (k q : Key) → Together (members_of old) k q → ¬ (Together (members_of old) key k) → Together (members_of mid) k q
-  together_mid k q t never = (
-    t.0,
-    (out.rest t.0 k).1 (t.1, never),
-    (out.rest t.0 q).1 (t.2, (λ u. never (together_trans (heads_of old) (members_of old) is key q k u (together_turn (members_of old) k q t)))),
-  )
+    pub reached_apart : (q : Key) → IsReached (remove cs key) near q → q ≢ key
+    reached_apart q r = removed_apart cs key q (group_end (remove cs key) r.0 q r.2)
 
-  -- all that searches among the others want
-  pub placed_without : ((q : Key) → heads_of mid q ≡ heads_of old q) → IsPlaced (remove cs key) others mid
-  placed_without same = record {
-    apart = record {
-      partition = out.partition;
-      heads = λ q h. let t = other_with_key q h in ap is_some (same q ∙ is.one t.0 q t.2);
-      apart = λ q t. others_free t.0 q t.1;
-    };
-    there = others_there;
-    sound = λ k q t.
-        let first = (out.rest t.0 k).0 t.1 in
-        let second = (out.rest t.0 q).0 t.2 in
-        stays_in k q (t.0, first.0, second.0) first.1;
-    parts = λ q there.
-        let apart = removed_apart cs key q there in
-        elim (has_or_lacks row q) [
-          | inl h ↦ inl (others_have q h apart)
-          | inr l ↦ inr (together_mid q q (groups.whole q q (group_itself cs q (sym (ap is_some (get_removed cs key q apart)) ∙ there)))
-              (λ u. lacks_not row q ((out.same q).1 u) l))
-        ];
-  }
+    pub found_count : (found : Heads) (keys : List Key) → AreUnique found → ((q : Key) → IsFound found q → IsReached (remove cs key) near q) → IsGroup cs key keys → IsSome (get cs key)
+        → length found + 1 ≤ length keys
+    found_count found keys unique reached group there = few_beside found key keys unique ((group.same key).1 (group_itself cs key there))
+        (λ q f. (group.same q).1 (reached_with q (reached q f))) (λ q f. reached_apart q (reached q f))
 
-  pub linked_without : AreLinked (remove cs key) others (λ q. ⊥) mid
-  linked_without k q n =
-      let before = near_alike (get (remove cs key)) (get cs) k q
-      (get_removed cs key k (removed_apart cs key k (near_first (get (remove cs key)) k q n))) (get_removed cs key q (removed_apart cs key q (near_second (get (remove cs key)) k q n))) n in
-      elim (has_or_lacks row k) [
-        | inl h ↦ inl (others_have k h (removed_apart cs key k (near_first (get (remove cs key)) k q n)))
-        | inr l ↦ inr (inr (together_mid k q (groups.whole k q (group_once cs k q before)) (λ u. lacks_not row k ((out.same k).1 u) l)))
-      ]
+  module _ (row others : BTreeSet Key) (mid : Partition) (out : TakesOut key row old mid)
+      (updates : (q : Key) → contains by_key others q ≡ cond (is_at (by_key key) q) false (contains by_key row q)) (same : (q : Key) → heads_of mid q ≡ heads_of old q) where
+    other_apart : (q : Key) → Has others q → q ≢ key
+    other_apart q h e = lacks_not others q h (update_here row others key false updates q e)
 
-  module _ (near : List Key) (all : IsSpanning (get cs) key near) (left : BTreeSet Key) (start : Key) (p : Partition)
-      (searches : Searches (remove cs key) near others left start mid p) where
-    -- a chain leads from the start, and the start was found
-    pub record Comes (x : Key) : Type 0 where
-      pub found : Together (members_of p) start start
-      pub chain : InGroup (remove cs key) start x
+    other_with_key : (q : Key) → Has others q → Together (members_of old) key q
+    other_with_key q h = (out.same q).0 (sym (update_apart row others key false updates q (other_apart q h)) ∙ h)
 
-    abbrev Meets : Key → Type 0
-    Meets x = (x ≡ key) ⊎ (Comes x ⊎ Lacks left x)
+    others_have : (q : Key) → InGroup cs key q → q ≢ key → Has others q
+    others_have q g apart = update_apart row others key false updates q apart ∙ (out.same q).1 (groups.whole key q g)
 
-    comes_next : (x y : Key) → IsNeighbour (get (remove cs key)) x y → Comes x ⊎ Lacks left x → Comes y ⊎ Lacks left y
-    comes_next x y n either = elim either [
-      | inl c ↦ inl (record { found = c.found; chain = group_trans (remove cs key) start x y c.chain (group_once (remove cs key) x y n) })
-      | inr l ↦ elim (searches.linked x y n) [
-        | inl h ↦ absurd (lacks_not left x h l)
-        | inr o ↦ elim o [
-          | inl s ↦ inl (record {
-            found = (s.0, s.1, s.1);
-            chain = group_trans (remove cs key) start x y (searches.placed.sound start x s) (group_once (remove cs key) x y n);
-          })
-          | inr t ↦ inr (searches.placed.apart.apart y (t.0, t.2, t.2))
-        ]
-      ]
-    ]
+    others_free : (h q : Key) → members_of mid h q → Lacks others q
+    others_free h q m = not_lacks others q (λ has. ((out.rest h q).0 m).1 (other_with_key q has))
 
-    -- a chain without the key leads to each neighbour from one that was found
-    near_found : (y : Key) → IsNeighbour (get cs) key y → Comes y ⊎ Lacks left y
-    near_found y n =
-        let from = all.all y n in
-        along (AreBeside (get cs) key) (λ x. Comes x ⊎ Lacks left x)
-        (λ x z either link. comes_next x z (near_less x z link.first_apart link.second_apart link.near) either)
-        from.0 y (inr (searches.starts from.0 from.1)) from.2
+    -- all in the group of the key have its head
+    others_alike : (head : Key) → heads_of old key ≡ Some head → (q : Key) → Has others q → heads_of mid q ≡ Some head
+    others_alike head at q h =
+        let t = other_with_key q h in
+        same q ∙ is.one t.0 q t.2 ∙ sym (is.one t.0 key t.1) ∙ at
 
-    meets_next : (x y : Key) → Meets x → IsNeighbour (get cs) x y → Meets y
-    meets_next x y meets n = elim (same_or_apart y key) [
-      | inl e ↦ inl e
-      | inr second ↦ elim meets [
-        | inl e ↦ inr (near_found y (subst (λ z. IsNeighbour (get cs) z y) e n))
-        | inr either ↦ elim (same_or_apart x key) [
-          | inl e ↦ inr (near_found y (subst (λ z. IsNeighbour (get cs) z y) e n))
-          | inr first ↦ inr (comes_next x y (near_less x y first second n) either)
-        ]
-      ]
-    ]
-
-    -- what no search has found is joined with the start
-    pub comes_left : (x : Key) → Has left x → Comes x
-    comes_left x h =
-        let other = searches.goes.fewer x h in
-        let g = groups.sound key x (other_with_key x other) in
-        elim (along (IsNeighbour (get cs)) Meets meets_next key x (inl refl) g.1) [
-          | inl e ↦ absurd (other_apart x other e)
-          | inr either ↦ elim either [ inl c ↦ c | inr l ↦ absurd (lacks_not left x h l) ]
-        ]
-
-    pub groups_without : (new : Partition) → PutsRest left start p new → AreGroups (remove cs key) (members_of new)
-    groups_without new puts = searched_groups (remove cs key) left start p searches.placed searches.linked (members_of new) (heads_of new) puts.partition puts.kept puts.rest sound
+    -- a chain that begins in another group does not meet the key
+    stays_in : (k q : Key) → Together (members_of old) k q → ¬ (Together (members_of old) key k) → InGroup (remove cs key) k q
+    stays_in k q t never = (along (IsNeighbour (get cs)) (λ x. InGroup cs k x × InGroup (remove cs key) k x)
+        (λ x y p n.
+        let after = group_trans cs k x y p.0 (group_once cs x y n) in
+        (after, group_trans (remove cs key) k x y p.1 (group_once (remove cs key) x y (near_less x y (clear x p.0) (clear y after) n))))
+        k q (start, started) chain.1).1
       where
-        from_start : (k : Key) → IsBeside left start p k → InGroup (remove cs key) start k
-        from_start k b = elim b [ inl h ↦ (comes_left k h).chain | inr t ↦ searches.placed.sound start k t ]
+        chain : InGroup cs k q
+        chain = groups.sound k q t
 
-        sound : (k q : Key) → Together (members_of new) k q → InGroup (remove cs key) k q
-        sound k q t = elim (puts.sound k q t) [
-          | inl o ↦ searches.placed.sound k q o
-          | inr both ↦ group_trans (remove cs key) k start q (group_turn (remove cs key) start k (from_start k both.0)) (from_start q both.1)
+        clear : (x : Key) → InGroup cs k x → x ≢ key
+        clear x g e = never (together_turn (members_of old) k key (groups.whole k key (subst (InGroup cs k) e g)))
+
+        start : InGroup cs k k
+        start = group_itself cs k chain.0
+
+        started : InGroup (remove cs key) k k
+        started = group_itself (remove cs key) k (ap is_some (get_removed cs key k (clear k start)) ∙ chain.0)
+
+    together_mid : (k q : Key) → Together (members_of old) k q → ¬ (Together (members_of old) key k) → Together (members_of mid) k q
+    together_mid k q t never = (
+      t.0,
+      (out.rest t.0 k).1 (t.1, never),
+      (out.rest t.0 q).1 (t.2, (λ u. never (together_trans (heads_of old) (members_of old) is key q k u (together_turn (members_of old) k q t)))),
+    )
+
+    mid_sound : (h k q : Key) → members_of mid h k → members_of mid h q → InGroup (remove cs key) k q
+    mid_sound h k q first second =
+        let one = (out.rest h k).0 first in
+        let two = (out.rest h q).0 second in
+        stays_in k q (h, one.0, two.0) one.1
+
+    -- searches have found some of the others
+    module _ (near : List Key) (all : IsSpanning (get cs) key near) (start : Option Key) (found : Heads) (reached : (q : Key) → IsFound found q → IsReached (remove cs key) near q)
+        (searches : Searches (remove cs key) near start found) where
+      found_other : (q : Key) → IsFound found q → Has others q
+      found_other q f = others_have q (reached_with near all q (reached q f)) (reached_apart near all q (reached q f))
+
+      pub found_free : (h q : Key) → IsFound found q → ¬ (members_of mid h q)
+      found_free h q f m = lacks_not others q (found_other q f) (others_free h q m)
+
+      pub found_there : (q : Key) → IsFound found q → IsSome (heads_of mid q)
+      found_there q f = let t = other_with_key q (found_other q f) in ap is_some (same q ∙ is.one t.0 q t.2)
+
+      abbrev Meets : Key → Type 0
+      Meets x = IsMet (remove cs key) start x ⊎ IsParted start found x
+
+      meets_next : (x y : Key) → IsNeighbour (get (remove cs key)) x y → Meets x → Meets y
+      meets_next x y n either = elim either [
+        | inl m ↦ inl (m.0, m.1, group_trans (remove cs key) m.0 x y m.2 (group_once (remove cs key) x y n))
+        | inr p ↦ inr (p.0, parted_near (remove cs key) near start found searches x y n p, p.2)
+      ]
+
+      -- a chain without the key leads to each neighbour from one that was found
+      near_meets : (y : Key) → IsNeighbour (get cs) key y → Meets y
+      near_meets y n =
+          let from = all.all y n in
+          along (AreBeside (get cs) key) Meets (λ x z either link. meets_next x z (near_less x z link.first_apart link.second_apart link.near) either)
+          from.0 y (found_or (remove cs key) near start found searches from.0 (searches.starts from.0 from.1)) from.2
+
+      all_meet : (x : Key) → InGroup cs key x → (x ≡ key) ⊎ Meets x
+      all_meet x g = along (IsNeighbour (get cs)) (λ z. (z ≡ key) ⊎ Meets z) step key x (inl refl) g.1
+        where
+          step : (a b : Key) → (a ≡ key) ⊎ Meets a → IsNeighbour (get cs) a b → (b ≡ key) ⊎ Meets b
+          step a b h n = elim (same_or_apart b key) [
+            | inl e ↦ inl e
+            | inr second ↦ elim (same_or_apart a key) [
+              | inl e ↦ inr (near_meets b (subst (λ z. IsNeighbour (get cs) z b) e n))
+              | inr first ↦ elim h [ inl e ↦ absurd (first e) | inr m ↦ inr (meets_next a b (near_less a b first second n) m) ]
+            ]
+          ]
+
+      -- they are moved, but for those that are with the start
+      module _ (left : BTreeSet Key) (moved : Partition) (puts : PutsFound start found others left mid moved) where
+        left_other : (q : Key) → Has left q → Has others q
+        left_other q h = puts.fewer q h
+
+        left_apart : (q : Key) → Has left q → IsParted start found q → ⊥
+        left_apart q h p = lacks_not left q h (puts.gone q p)
+
+        left_met : (q : Key) → Has left q → IsMet (remove cs key) start q
+        left_met q h =
+            let t = other_with_key q (left_other q h) in
+            elim (all_meet q (groups.sound key q t)) [
+              | inl e ↦ absurd (other_apart q (left_other q h) e)
+              | inr m ↦ elim m [ inl s ↦ s | inr p ↦ absurd (left_apart q h p) ]
+            ]
+
+        pub left_alike : (head : Key) → heads_of old key ≡ Some head → (q : Key) → Has left q → heads_of moved q ≡ Some head
+        left_alike head at q h = puts.heads q (left_apart q h) ∙ others_alike head at q (left_other q h)
+
+        pub left_free : (h q : Key) → members_of moved h q → Lacks left q
+        left_free h q m = elim (puts.later h q m) [
+          | inl o ↦ not_lacks left q (λ has. lacks_not others q (left_other q has) (others_free h q o))
+          | inr p ↦ puts.gone q (h, p.0, p.1)
         ]
 
--- all conductors are left
-module _ (cs : Conductors) (all : BTreeSet Key) (p : Partition) (is : IsPartition (heads_of p) (members_of p)) (empty : (h q : Key) → members_of p h q → ⊥)
-    (same : (q : Key) → Has all q ↔ IsSome (get cs q)) where
-  pub placed_anew : ((q : Key) → Has all q → IsSome (heads_of p q)) → IsPlaced cs all p
-  placed_anew heads = record {
-    apart = record { partition = is; heads = heads; apart = λ q t. absurd (empty t.0 q t.1) };
-    there = λ q h. (same q).0 h;
-    sound = λ k q t. absurd (empty t.0 k t.1);
-    parts = λ q there. inl ((same q).1 there);
-  }
+        never_both : (h k q : Key) → members_of mid h k → IsUnder found h q → ⊥
+        never_both h k q m u =
+            let own = out.partition.own h k m in
+            found_free h h (is_found found h h (searches.placed.own h q u)) own
 
-  pub linked_anew : AreLinked cs all (λ q. ⊥) p
-  linked_anew k q n = inl ((same k).1 (near_first (get cs) k q n))
+        moved_sound : (k q : Key) → Together (members_of moved) k q → InGroup (remove cs key) k q
+        moved_sound k q t = elim (puts.later t.0 k t.1) [
+          | inl first ↦ elim (puts.later t.0 q t.2) [
+            | inl second ↦ mid_sound t.0 k q first second
+            | inr second ↦ absurd (never_both t.0 k q first second.0)
+          ]
+          | inr first ↦ elim (puts.later t.0 q t.2) [
+            | inl second ↦ absurd (never_both t.0 q k second first.0)
+            | inr second ↦ group_trans (remove cs key) k t.0 q (group_turn (remove cs key) t.0 k (searches.placed.sound t.0 k first.0)) (searches.placed.sound t.0 q second.0)
+          ]
+        ]
 
-  pub groups_anew : (list : List Key) (left : BTreeSet Key) (start : Key) (new : Partition) → list ≡ all.keys → Searches cs list all left start p new → AreGroups cs (members_of new)
-  groups_anew list left start new are searches = searched_groups cs left start new searches.placed searches.linked (members_of new) (heads_of new) searches.placed.apart.partition (λ k q t. t)
-      (λ q h. absurd (none q h)) searches.placed.sound
-    where
-      none : (q : Key) → Has left q → ⊥
-      none q h = lacks_not left q h (searches.starts q (subst (λ ks. Contains ks q) (sym are) ((has_contains all q).0 (searches.goes.fewer q h))))
+        -- and those make one group with what was not found
+        module _ (new : Partition) (last : IsPartition (heads_of new) (members_of new)) (rest : PutsLeft left (members_of moved) (members_of new)) where
+          sound_without : (k q : Key) → Together (members_of new) k q → InGroup (remove cs key) k q
+          sound_without k q t = elim (rest.sound k q t) [
+            | inl o ↦ moved_sound k q o
+            | inr both ↦
+                let one = left_met k both.0 in
+                let two = left_met q both.1 in
+                let same_start : two.0 ≡ one.0 = ap (λ o. unwrap_or o two.0) (sym two.1 ∙ one.1) in
+                group_trans (remove cs key) k one.0 q (group_turn (remove cs key) one.0 k one.2) (subst (λ x. InGroup (remove cs key) x q) same_start two.2)
+          ]
 
-pub few_of_all : (cs : Conductors) (all : BTreeSet Key) → IsStrictlySortedBy by_key all.keys → ((q : Key) → Has all q → IsSome (get cs q)) → length all.keys ≤ finite.len cs
-few_of_all cs all rising inside =
-    let few = length-le_from_is_member (eq_by_cmp_equiv by_key_total) all.keys (finite.keys cs) (IsDistinct-from_sorted by_key all.keys rising)
-    (λ q h. sym (finite.contains_key-keys cs q) ∙ inside q h) in
-    let long : length (finite.keys cs) ≡ length (finite.entries cs) = length-map (finite.entries cs) (λ e. e.0) in
-    let same = finite.len-entries cs in
-    omega arith
+          parted_new : (h k q : Key) → is_that start h ≡ false → IsUnder found h k → IsUnder found h q → Together (members_of new) k q
+          parted_new h k q not one two = rest.kept k q (h, puts.put h k one not, puts.put h q two not)
+
+          mid_new : (k q : Key) → Together (members_of mid) k q → Together (members_of new) k q
+          mid_new k q t = rest.kept k q (t.0, puts.kept t.0 k t.1, puts.kept t.0 q t.2)
+
+          other_new : (k q : Key) → Together (members_of old) k q → Lacks row k → Together (members_of new) k q
+          other_new k q t l = mid_new k q (together_mid k q t (λ u. lacks_not row k ((out.same k).1 u) l))
+
+          row_group : (k : Key) → Has row k → InGroup cs key k
+          row_group k h = groups.sound key k ((out.same k).0 h)
+
+          there_without : (k : Key) → IsSome (get (remove cs key) k) → Together (members_of new) k k
+          there_without k there = elim (has_or_lacks row k) [
+            | inl h ↦ elim (parted_or start found k) [
+              | inl p ↦ parted_new p.0 k k p.2 p.1 p.1
+              | inr never ↦
+                  let has = puts.stays k (others_have k (row_group k h) (removed_apart cs key k there)) never in
+                  rest.rest k k has has
+            ]
+            | inr l ↦ other_new k k (groups.whole k k (group_itself cs k (there_more k there))) l
+          ]
+
+          links_without : (k q : Key) → IsNeighbour (get (remove cs key)) k q → Together (members_of new) k q
+          links_without k q n = elim (has_or_lacks row k) [
+            | inl h ↦ elim (parted_or start found k) [
+              | inl p ↦ parted_new p.0 k q p.2 p.1 (parted_near (remove cs key) near start found searches k q n p)
+              | inr never ↦
+                  let back = near_turn (get (remove cs key)) k q n in
+                  let apart = λ (p : IsParted start found q). never (p.0, parted_near (remove cs key) near start found searches q k back p, p.2) in
+                  let with = group_trans cs key k q (row_group k h) (group_once cs k q (near_back k q n)) in
+                  rest.rest k q
+                  (puts.stays k (others_have k (row_group k h) (removed_apart cs key k (near_first (get (remove cs key)) k q n))) never)
+                  (puts.stays q (others_have q with (removed_apart cs key q (near_second (get (remove cs key)) k q n))) apart)
+            ]
+            | inr l ↦ other_new k q (groups.whole k q (group_once cs k q (near_back k q n))) l
+          ]
+
+          pub groups_without : AreGroups (remove cs key) (members_of new)
+          groups_without = record { sound = sound_without; whole = whole_from (remove cs key) (members_of new) (heads_of new) last there_without links_without }
+
+-- all conductors are grouped
+pub groups_anew : (cs : Conductors) (near : List Key) (start : Option Key) (found : Heads) (left after : BTreeSet Key) (old new : Partition) → ((q : Key) → IsSome (get cs q) → Contains near q) → ((h q : Key) → members_of old h q → ⊥)
+    → Searches cs near start found → PutsFound None found left after old new → AreGroups cs (members_of new)
+groups_anew cs near start found left after old new every empty searches puts = record {
+  sound = λ k q t. elim (puts.later t.0 k t.1) [
+    | inl m ↦ absurd (empty t.0 k m)
+    | inr one ↦ elim (puts.later t.0 q t.2) [
+      | inl m ↦ absurd (empty t.0 q m)
+      | inr two ↦ group_trans cs k t.0 q (group_turn cs t.0 k (searches.placed.sound t.0 k one.0)) (searches.placed.sound t.0 q two.0)
+    ]
+  ];
+  whole = whole_from cs (members_of new) (heads_of new) puts.partition
+      (λ k there. let at = head_of (head_at found k) (searches.starts k (every k there)) in (at.0, puts.put at.0 k at.1 refl, puts.put at.0 k at.1 refl))
+      links;
+}
+  where
+    put : (k q : Key) → AreUnder found k q → Together (members_of new) k q
+    put k q t = (t.0, puts.put t.0 k t.1 refl, puts.put t.0 q t.2 refl)
+
+    links : (k q : Key) → IsNeighbour (get cs) k q → Together (members_of new) k q
+    links k q n =
+        let at = head_of (head_at found k) (searches.starts k (every k (near_first (get cs) k q n))) in
+        let to = head_of (head_at found q) (searches.starts q (every q (near_second (get cs) k q n))) in
+        elim (searches.linked k q n (is_found found at.0 k at.1)) [
+          | inl e ↦ elim (searches.linked q k (near_turn (get cs) k q n) (is_found found to.0 q to.1)) [
+            | inl f ↦ put k q (at.0, at.1, f ∙ sym e ∙ at.1)
+            | inr t ↦ together_turn (members_of new) q k (put q k t)
+          ]
+          | inr t ↦ put k q t
+        ]

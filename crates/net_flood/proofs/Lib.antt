@@ -4,6 +4,8 @@ pub mod KeyLemmas
 pub mod SetLemmas
 pub mod ConductorLemmas
 pub mod PartitionLemmas
+pub mod CountLemmas
 pub mod SearchLemmas
+pub mod FoundLemmas
 pub mod GroupLemmas
 pub mod KeptLemmas

@@ -7,8 +7,7 @@ use Rattle.std.specs.BTreeSet.{BTreeSet}
 use Rattle.std.proofs.lemmas.List.{take_more}
 use Rattle.std.proofs.lemmas.List.Elements.{Contains-append_left, Contains-push, Contains-push_cases}
 use Rattle.net_flood.specs.declared.partition.Partition.{Partition}
-use Rattle.net_flood.specs.steps.Partition.{AddsAll, AddsMember, IsIn, IsMember, IsPartition, IsPutting, Has, Joins, KeepsHeads, KeepsKeys, Lacks, Puts, PutsSet, Members, MovesTo, Rows, TakesOut, Together, head_at, heads_of, members_of, row_at}
-use Rattle.net_flood.specs.steps.Search.{IsBeside, PutsRest}
+use Rattle.net_flood.specs.steps.Partition.{AddsAll, AddsMember, IsIn, IsMember, IsPartition, IsPutting, Has, Joins, KeepsKeys, Lacks, Puts, PutsLeft, PutsSet, Members, MovesTo, Rows, TakesOut, Together, head_at, heads_of, members_of, row_at}
 use Rattle.net_flood.proofs.KeyLemmas.{same_apart, same_here, same_or_apart}
 use Rattle.net_flood.proofs.SetLemmas.{has_contains, lacks_not}
 
@@ -107,10 +106,9 @@ turn_sound M a b k q h = elim h [
 
 -- the groups of two keys are one
 pub joins_by_move : (a b from to x y : Key) (old new : Partition) → IsPartition (heads_of new) (members_of new) → MovesTo from to (members_of old) (members_of new)
-    → KeepsHeads (members_of old from) old new → members_of old from x → members_of old to y → to ≢ from → ((x ≡ a) × (y ≡ b)) ⊎ ((x ≡ b) × (y ≡ a)) → Joins a b old new
-joins_by_move a b from to x y old new is moves heads at_x at_y apart which = record {
+    → members_of old from x → members_of old to y → to ≢ from → ((x ≡ a) × (y ≡ b)) ⊎ ((x ≡ b) × (y ≡ a)) → Joins a b old new
+joins_by_move a b from to x y old new is moves at_x at_y apart which = record {
   partition = is;
-  heads = λ q never. heads q (λ m. never (from, m, m));
   kept = moves_keep M N from to moves;
   joined = elim which [
     | inl e ↦ subst (λ k. Together N k b) e.0 (subst (λ q. Together N x q) e.1 one)
@@ -137,7 +135,7 @@ joins_by_move a b from to x y old new is moves heads at_x at_y apart which = rec
 
 -- nothing changes where they stand together already
 pub joins_itself : (a b : Key) (p : Partition) → IsPartition (heads_of p) (members_of p) → Together (members_of p) a b → Joins a b p p
-joins_itself a b p is t = record { partition = is; kept = λ k q h. h; joined = t; heads = λ q never. refl; sound = λ k q h. inl h }
+joins_itself a b p is t = record { partition = is; kept = λ k q h. h; joined = t; sound = λ k q h. inl h }
 
 -- who is a member where the row under one head is replaced
 pub adds_member : (old new : Rows) (head key : Key) (o : Option (BTreeSet Key)) (row : BTreeSet Key) → row_at old head ≡ o
@@ -258,7 +256,6 @@ module _ (ks : List Key) (i : ℕ) (d : Key) (inside : i < length ks) where
         ]
       ]),
     );
-    heads = λ q never. puts.heads q (λ e. never (first_more q (inr e))) ∙ putting.heads q (λ c. never (first_more q (inl c)));
   }
 
 pub none_in : (q : Key) → Contains [] q → ⊥
@@ -269,7 +266,6 @@ putting_none h p is = record {
   kept = λ k. refl;
   partition = is;
   adds = λ j q. ((λ m. inl m), (λ m. elim m [ inl o ↦ o | inr both ↦ absurd (none_in q both.1) ]));
-  heads = λ q never. refl;
 }
 
 -- who is in no other group before is in none on the way
@@ -319,29 +315,11 @@ module _ (from to : Key) (row : BTreeSet Key) (old out : Partition) (is : IsPart
   pub out_free : (h q : Key) → Contains row.keys q → members_of out h q → h ≡ to
   out_free h q c m = absurd (apart h q m (heads_same (heads_of old) (members_of old) is h from q (was h q m) ((row_members q).0 c)))
 
-  pub out_heads : (ks : List Key) (new : Partition) → ks ≡ row.keys → KeepsHeads (Contains ks) out new → KeepsHeads (members_of old from) old new
-  out_heads ks new are heads q never = heads q (λ c. never ((row_members q).0 (subst (λ ys. Contains ys q) are c))) ∙ ap (λ es. head_at es q) same
-
   pub out_moves : (N : Members) → AddsAll to row.keys (members_of out) N → MovesTo from to (members_of old) N
   out_moves N adds j q = (
     (λ n. elim ((adds j q).0 n) [ inl m ↦ inl (was j q m, apart j q m) | inr both ↦ inr (both.0, (row_members q).0 both.1) ]),
     (λ m. (adds j q).1 (elim m [ inl o ↦ inl (stays j q o.0 o.1) | inr both ↦ inr (both.0, (row_members q).1 both.1) ])),
   )
-
--- both keys have one head exactly where they stand together
-pub one_head_together : (p : Partition) → IsPartition (heads_of p) (members_of p) → (a b h g : Key) → Together (members_of p) a a → Together (members_of p) b b
-    → heads_of p a ≡ Some h → heads_of p b ≡ Some g → (h ≡ g) ↔ Together (members_of p) a b
-one_head_together p is a b h g first second at_a at_b = (
-  (λ e. (
-    h,
-    subst (λ x. M x a) (one_head (heads_of p a) first.0 h (is.one first.0 a first.1) at_a) first.1,
-    subst (λ x. M x b) (one_head (heads_of p b) second.0 g (is.one second.0 b second.1) at_b ∙ sym e) second.1,
-  )),
-  (λ t. one_head (heads_of p a) h t.0 at_a (is.one t.0 a t.1) ∙ one_head (heads_of p b) t.0 g (is.one t.0 b t.2) at_b),
-)
-  where
-    M : Members
-    M = members_of p
 
 -- a set of keys, which were in no group and have one head, is put into one group
 module _ (keys : BTreeSet Key) (p : Partition) (is : IsPartition (heads_of p) (members_of p)) (free : (h q : Key) → members_of p h q → Lacks keys q) where
@@ -417,10 +395,10 @@ module _ (keys : BTreeSet Key) (p : Partition) (is : IsPartition (heads_of p) (m
     }
 
   module _ (mid : Partition) (puts : PutsSet keys (members_of p) (members_of mid)) where
-    pub set_kept : (k q : Key) → Together (members_of p) k q → Together (members_of mid) k q
+    set_kept : (k q : Key) → Together (members_of p) k q → Together (members_of mid) k q
     set_kept k q t = (t.0, (puts.adds t.0 k).1 (inl t.1), (puts.adds t.0 q).1 (inl t.2))
 
-    pub set_together : (k q : Key) → Has keys k → Has keys q → Together (members_of mid) k q
+    set_together : (k q : Key) → Has keys k → Has keys q → Together (members_of mid) k q
     set_together k q first second =
         (puts.head, (puts.adds puts.head k).1 (inr (refl, (has_contains keys k).0 first)), (puts.adds puts.head q).1 (inr (refl, (has_contains keys q).0 second)))
 
@@ -439,36 +417,13 @@ module _ (keys : BTreeSet Key) (p : Partition) (is : IsPartition (heads_of p) (m
         never : (h x : Key) → h ≡ puts.head → members_of p h x → ⊥
         never h x e m = lacks_not keys puts.head puts.has (free puts.head puts.head (subst (λ y. members_of p y y) e (is.own h x m)))
 
-    -- and that group is joined with another one
-    module _ (start any : Key) (has : Has keys any) (new : Partition) (joins : Joins start any mid new) where
-      side : (k : Key) → Together (members_of mid) k start → IsBeside keys start p k
-      side k t = elim (set_cases k start t) [ inl o ↦ inr (together_turn (members_of p) k start o) | inr both ↦ inl both.0 ]
-
-      any_side : (q : Key) → Together (members_of mid) any q → IsBeside keys start p q
-      any_side q t = elim (set_cases any q t) [
-        | inl o ↦ absurd (lacks_not keys any has (free o.0 any o.1))
-        | inr both ↦ inl both.1
-      ]
-
-      pub rest_puts : PutsRest keys start p new
-      rest_puts = record {
-        partition = joins.partition;
-        kept = λ k q t. joins.kept k q (set_kept k q t);
-        rest = λ q h. together_trans (heads_of new) (members_of new) joins.partition start any q joins.joined (joins.kept any q (set_together any q has h));
-        sound = λ k q t. elim (joins.sound k q t) [
-          | inl o ↦ elim (set_cases k q o) [ inl before ↦ inl before | inr both ↦ inr (inl both.0, inl both.1) ]
-          | inr two ↦ elim two [
-            | inl both ↦ inr (side k both.0, any_side q both.1)
-            | inr both ↦ inr (any_side k (together_turn (members_of mid) k any both.0), side q (together_turn (members_of mid) start q both.1))
-          ]
-        ];
-      }
+    pub left_puts : PutsLeft keys (members_of p) (members_of mid)
+    left_puts = record { kept = set_kept; rest = set_together; sound = set_cases }
 
 -- nothing is left
-pub rest_none : (keys : BTreeSet Key) (start : Key) (p : Partition) → IsPartition (heads_of p) (members_of p) → ((q : Key) → Lacks keys q) → PutsRest keys start p p
-rest_none keys start p is none = record {
-  partition = is;
+pub left_none : (keys : BTreeSet Key) (M : Members) → ((q : Key) → Lacks keys q) → PutsLeft keys M M
+left_none keys M none = record {
   kept = λ k q t. t;
-  rest = λ q h. absurd (lacks_not keys q h (none q));
+  rest = λ k q h. absurd (lacks_not keys k h (none k));
   sound = λ k q t. inl t;
 }

@@ -1,26 +1,24 @@
 -- Searches from neighbour to neighbour: what each step keeps.
-use Rattle.std.proofs.Common.{◌≡◌, ◌≢◌, ◌⊎◌, ◌↔◌, ◌<◌, ◌≤◌, ◌+◌, ◌++◌, ◌∷◌, [], ℕ, inl, inr, true, false, cond, List, length, suc, take, get_or, arith, Contains, Option, None, Some, IsSome, is_some, refl, sym, ap, subst, ◌∙◌}
-use Rattle.std.specs.BTreeMap.{is_at}
-use Rattle.std.specs.BTreeSet.{BTreeSet, contains}
+use Rattle.std.proofs.Common.{◌≡◌, ◌≢◌, ◌⊎◌, ◌↔◌, ◌<◌, ◌≤◌, ◌+◌, ◌++◌, ◌∷◌, [], ℕ, inl, inr, Bool, true, false, ◌||◌, cond, List, length, suc, take, drop, get_or, arith, Contains, Option, None, Some, IsSome, is_some, refl, sym, ap, subst, ◌∙◌}
 use Rattle.std.specs.FinMap.{get}
-use Rattle.std.proofs.lemmas.List.{length_push}
+use Rattle.std.specs.List.{IsDistinct, slice_get}
+use Rattle.std.specs.Map.{keys_of}
+use Rattle.std.specs.Option.{unwrap_or}
+use Rattle.std.proofs.lemmas.List.{length-append, take-append-drop}
 use Rattle.std.proofs.lemmas.List.Elements.{Contains-append_cases, Contains-append_left, Contains-append_right, Contains-get_or, Contains-push, Contains-push_cases}
 use Rattle.geda_geom.specs.declared.conductor.Key.{Key}
-use Rattle.geda_geom.specs.Keys.{by_key}
 use Rattle.touch_index.specs.Index.{IndexData, IsNeighbour}
 use Rattle.touch_index.specs.steps.Sifting.{is_same_key}
 use Rattle.net_flood.specs.Grouping.{Conductors, InGroup}
-use Rattle.net_flood.specs.declared.partition.Partition.{Partition}
 use Rattle.net_flood.specs.declared.search.Search.{Search}
-use Rattle.net_flood.specs.steps.Partition.{Has, Joins, KeepsKeys, Lacks, Members, Puts, Together, heads_of, members_of}
-use Rattle.net_flood.specs.steps.Search.{AreLinked, Asks, Finds, GoesOn, IsApart, IsAsking, IsPlaced, IsRacing, IsSearch, IsSearching, Races, Searches, Takes, is_passed, passing}
-use Rattle.net_flood.proofs.ConductorLemmas.{get_removed, group_itself, group_once, group_trans, near_alike, near_first, near_second, near_turn, removed_apart}
+use Rattle.net_flood.specs.steps.Partition.{Heads, head_at}
+use Rattle.net_flood.specs.steps.Search.{Absorbs, AreLinked, AreUnder, AreUnique, Begins, Grows, IsAsking, IsFound, IsMoving, IsPlaced, IsRacing, IsReached, IsRow, IsSearch, IsSearching, IsUnder, Looks, Meets, Moves, Races, Reaches, Searches, is_that, passing}
+use Rattle.net_flood.proofs.ConductorLemmas.{get_removed, group_end, group_itself, group_once, group_trans, group_turn, near_alike, near_first, near_second, near_turn, removed_apart}
 use Rattle.net_flood.proofs.KeyLemmas.{same_apart, same_here, same_or_apart}
-use Rattle.net_flood.proofs.PartitionLemmas.{first_cases, key_in, none_in, together_trans}
-use Rattle.net_flood.proofs.SetLemmas.{lacks_not, not_lacks, update_apart, update_here}
+use Rattle.net_flood.proofs.PartitionLemmas.{first_cases, first_more, none_in}
 
 -- who touches where one conductor is passed over
-pub passed_near : (passed : Option Key) (cs : Conductors) (k q : Key) → is_passed passed k ≡ false → is_passed passed q ≡ false → IsNeighbour (get cs) k q → IsNeighbour (get (passing passed cs)) k q
+pub passed_near : (passed : Option Key) (cs : Conductors) (k q : Key) → is_that passed k ≡ false → is_that passed q ≡ false → IsNeighbour (get cs) k q → IsNeighbour (get (passing passed cs)) k q
 passed_near None cs k q first second n = n
 passed_near (Some key) cs k q first second n = near_alike (get cs) (get (passing (Some key) cs)) k q (sym (get_removed cs key k (other k first))) (sym (get_removed cs key q (other q second))) n
   where
@@ -37,419 +35,418 @@ pub passing_there : (passed : Option Key) (cs : Conductors) (q : Key) → IsSome
 passing_there None cs q there = there
 passing_there (Some key) cs q there = ap is_some (sym (get_removed cs key q (removed_apart cs key q there))) ∙ there
 
-pub not_passed : (passed : Option Key) (cs : Conductors) (q : Key) → IsSome (get (passing passed cs) q) → is_passed passed q ≡ false
+pub not_passed : (passed : Option Key) (cs : Conductors) (q : Key) → IsSome (get (passing passed cs) q) → is_that passed q ≡ false
 not_passed None cs q there = refl
 not_passed (Some key) cs q there = same_apart key q (λ e. removed_apart cs key q there (sym e))
 
-pub goes_on : (left mid after : BTreeSet Key) (old now new : Partition) → GoesOn left mid old now → GoesOn mid after now new → GoesOn left after old new
-goes_on left mid after old now new first second = record {
-  kept = λ k q t. second.kept k q (first.kept k q t);
-  fewer = λ q h. first.fewer q (second.fewer q h);
-  heads = λ q h. second.heads q h ∙ first.heads q (second.fewer q h);
+-- heads
+pub under_one : (found : Heads) (h g q : Key) → IsUnder found h q → IsUnder found g q → h ≡ g
+under_one found h g q first second = ap (λ x. unwrap_or x h) (sym first ∙ second)
+
+pub is_found : (found : Heads) (h q : Key) → IsUnder found h q → IsFound found q
+is_found found h q u = ap is_some u
+
+pub head_of : (o : Option Key) → IsSome o → (h : Key) × (o ≡ Some h)
+head_of None s = absurd (cc)
+head_of (Some h) s = (h, refl)
+
+pub head_or_none : (o : Option Key) → ((h : Key) × (o ≡ Some h)) ⊎ (o ≡ None)
+head_or_none None = inr refl
+head_or_none (Some h) = inl (h, refl)
+
+pub under_none : (found : Heads) (h q : Key) → head_at found q ≡ None → IsUnder found h q → ⊥
+under_none found h q none u = let p : None ≡ Some h = sym none ∙ u in absurd (cc)
+
+-- what grows
+pub grows_nowhere : (P : Key → Type 0) (found : Heads) → Grows P found found
+grows_nowhere P found = record { later = λ q f. inl f; unique = λ u. u; more = omega arith }
+
+pub grows_more : (P Q : Key → Type 0) (found after : Heads) → ((q : Key) → P q → Q q) → Grows P found after → Grows Q found after
+grows_more P Q found after f grows = record {
+  later = λ q h. elim (grows.later q h) [ inl o ↦ inl o | inr p ↦ inr (f q p) ];
+  unique = grows.unique;
+  more = grows.more;
 }
 
-pub goes_nowhere : (left : BTreeSet Key) (p : Partition) → GoesOn left left p p
-goes_nowhere left p = record { kept = λ k q t. t; fewer = λ q h. h; heads = λ q h. refl }
+pub grows_then : (P Q R : Key → Type 0) (found mid after : Heads) → ((q : Key) → P q → R q) → ((q : Key) → Q q → R q) → Grows P found mid → Grows Q mid after → Grows R found after
+grows_then P Q R found mid after f g first second = record {
+  later = λ q h. elim (second.later q h) [
+    | inl m ↦ elim (first.later q m) [ inl o ↦ inl o | inr p ↦ inr (f q p) ]
+    | inr p ↦ inr (g q p)
+  ];
+  unique = λ u. second.unique (first.unique u);
+  more = let a = first.more in let b = second.more in omega arith;
+}
 
--- a key is taken in
-module _ (left after : BTreeSet Key) (other : Key) (waiting : List Key)
-    (updates : (q : Key) → contains by_key after q ≡ cond (is_at (by_key other) q) false (contains by_key left q)) where
-  less : (q : Key) → Has after q → Has left q
-  less q h = elim (same_or_apart q other) [
-    | inl e ↦ absurd (lacks_not after q h (update_here left after other false updates q e))
-    | inr apart ↦ sym (update_apart left after other false updates q apart) ∙ h
-  ]
+-- a key gets a head
+module _ (found after : Heads) (key head : Key) (updates : (q : Key) → head_at after q ≡ cond (is_same_key key q) (Some head) (head_at found q)) where
+  pub set_here : (q : Key) → q ≡ key → IsUnder after head q
+  set_here q e = updates q ∙ (λ i. cond (same_here key q (sym e) i) (Some head) (head_at found q))
 
-  still : (q : Key) → Has left q → q ≢ other → Has after q
-  still q h apart = update_apart left after other false updates q apart ∙ h
+  pub set_apart : (q : Key) → q ≢ key → head_at after q ≡ head_at found q
+  set_apart q n = updates q ∙ (λ i. cond (same_apart key q (λ e. n (sym e)) i) (Some head) (head_at found q))
 
-  still_lacks : (q : Key) → Lacks left q → Lacks after q
-  still_lacks q l = not_lacks after q (λ h. lacks_not left q (less q h) l)
+  pub grows_set : AreUnique after → length found ≤ length after → Grows (λ q. q ≡ key) found after
+  grows_set unique more = record {
+    later = λ q f. elim (same_or_apart q key) [ inl e ↦ inr e | inr n ↦ inl (ap is_some (sym (set_apart q n)) ∙ f) ];
+    unique = λ u. unique;
+    more = more;
+  }
 
-  gone : (q : Key) → q ≡ other → Lacks after q
-  gone q e = update_here left after other false updates q e
-
-  -- a key that was left
-  module _ (old new : Partition) (apart : IsApart left old) (has : Has left other) (keeps : KeepsKeys old new) (puts : Puts other other old new) where
-    abbrev N : Members
-    N = members_of new
-
-    together_more : (k q : Key) → Together (members_of old) k q → Together N k q
-    together_more k q t = (t.0, (puts.adds t.0 k).1 (inl t.1), (puts.adds t.0 q).1 (inl t.2))
-
-    alone : Together N other other
-    alone = (other, (puts.adds other other).1 (inr (refl, refl)), (puts.adds other other).1 (inr (refl, refl)))
-
-    never : (h q : Key) → h ≡ other → members_of old h q → ⊥
-    never h q e m =
-        let own : members_of old other other = subst (λ x. members_of old x x) e (apart.partition.own h q m) in
-        lacks_not left other has (apart.apart other (other, own, own))
-
-    together_cases : (k q : Key) → Together N k q → Together (members_of old) k q ⊎ ((k ≡ other) × (q ≡ other))
-    together_cases k q t = elim ((puts.adds t.0 k).0 t.1) [
-      | inl first ↦ elim ((puts.adds t.0 q).0 t.2) [
-        | inl second ↦ inl (t.0, first, second)
-        | inr second ↦ absurd (never t.0 k second.0 first)
-      ]
-      | inr first ↦ elim ((puts.adds t.0 q).0 t.2) [
-        | inl second ↦ absurd (never t.0 q first.0 second)
-        | inr second ↦ inr (first.1, second.1)
-      ]
-    ]
-
-    pub takes_one : (now : List Key) → now ≡ waiting ++ other ∷ [] → length after.keys + 1 ≡ length left.keys → Takes other left after waiting now old new
-    takes_one now are fewer = record {
-      goes = record {
-        kept = together_more;
-        fewer = less;
-        heads = λ q h. puts.heads q (λ e. lacks_not after q h (gone q e));
-      };
-      placed = λ cs placed. record {
-        apart = record {
-          partition = puts.partition;
-          heads = λ q h. keeps q ∙ apart.heads q (less q h);
-          apart = λ q t. elim (together_cases q q t) [ inl o ↦ still_lacks q (apart.apart q o) | inr both ↦ gone q both.0 ];
-        };
-        there = λ q h. placed.there q (less q h);
-        sound = λ k q t. elim (together_cases k q t) [
-          | inl o ↦ placed.sound k q o
-          | inr both ↦ subst (InGroup cs k) (both.0 ∙ sym both.1) (group_itself cs k (ap (λ x. is_some (get cs x)) both.0 ∙ placed.there other has))
-        ];
-        parts = λ q there. elim (placed.parts q there) [
-          | inl h ↦ elim (same_or_apart q other) [
-            | inl e ↦ inr (subst (λ x. Together N x x) (sym e) alone)
-            | inr differ ↦ inl (still q h differ)
-          ]
-          | inr t ↦ inr (together_more q q t)
-        ];
-      };
-      found = alone;
-      parts = λ q h. elim (same_or_apart q other) [
-        | inl e ↦ inr (subst (λ ks. Contains ks q) (sym are) (subst (Contains (waiting ++ other ∷ [])) (sym e) (Contains-push waiting other)))
-        | inr differ ↦ inl (still q h differ)
+  -- it was not found before, and waits in a search
+  pub puts_looks : (s t : Search) → head ≡ s.start → head_at found key ≡ None → t.start ≡ s.start → t.row.items ≡ s.row.items ++ key ∷ [] → t.waiting.items ≡ s.waiting.items ++ key ∷ []
+      → Looks (λ q. q ≡ key) false s t found after
+  puts_looks s t is none start row waiting = record {
+    start = start;
+    kept = kept;
+    later = later;
+    first = first;
+    news = λ q f. elim (same_or_apart q key) [ inl e ↦ inr (waits q e) | inr n ↦ inl (ap is_some (sym (set_apart q n)) ∙ f) ];
+    search = λ was. record {
+      row = λ q. (
+        (λ c. elim (Contains-push_cases s.row.items key q (subst (λ ks. Contains ks q) row c)) [
+          | inl b ↦ under q (kept s.start q ((was.row q).0 b))
+          | inr e ↦ under q (here q (sym e))
+        ]),
+        (λ u. subst (λ ks. Contains ks q) (sym row) (elim (later s.start q (subst (λ x. IsUnder after x q) start u)) [
+          | inl o ↦ Contains-append_left s.row.items (key ∷ []) q ((was.row q).1 o)
+          | inr both ↦ subst (Contains (s.row.items ++ key ∷ [])) (sym both.1) (Contains-push s.row.items key)
+        ])),
+      );
+      waits = λ q c. elim (Contains-push_cases s.waiting.items key q (subst (λ ks. Contains ks q) waiting c)) [
+        | inl b ↦ under q (kept s.start q (was.waits q b))
+        | inr e ↦ under q (here q (sym e))
       ];
-      first = λ q c. subst (λ ks. Contains ks q) (sym are) (Contains-append_left waiting (other ∷ []) q c);
-      later = λ q c. elim (Contains-push_cases waiting other q (subst (λ ks. Contains ks q) are c)) [ inl b ↦ inl b | inr e ↦ inr (sym e) ];
-      count = let long : length now ≡ length waiting + 1 = ap length are ∙ length_push waiting other in omega arith;
-    }
-
-  -- a key that was found before
-  pub takes_none : (p : Partition) → Lacks left other → Together (members_of p) other other → length after.keys + 0 ≡ length left.keys → Takes other left after waiting waiting p p
-  takes_none p lacks t fewer = record {
-    goes = record { kept = λ k q u. u; fewer = less; heads = λ q h. refl };
-    placed = λ cs placed. record {
-      apart = record {
-        partition = placed.apart.partition;
-        heads = λ q h. placed.apart.heads q (less q h);
-        apart = λ q u. still_lacks q (placed.apart.apart q u);
-      };
-      there = λ q h. placed.there q (less q h);
-      sound = placed.sound;
-      parts = λ q there. elim (placed.parts q there) [ inl h ↦ inl (stays q h) | inr u ↦ inr u ];
     };
-    found = t;
-    parts = λ q h. inl (stays q h);
-    first = λ q c. c;
-    later = λ q c. inl c;
-    count = omega arith;
+    links = λ q e. (s.start, here q e, inl refl);
+    meets = λ m. absurd (cc);
   }
     where
-      stays : (q : Key) → Has left q → Has after q
-      stays q h = still q h (λ e. lacks_not left q h (subst (Lacks left) (sym e) lacks))
+      here : (q : Key) → q ≡ key → IsUnder after s.start q
+      here q e = subst (λ x. IsUnder after x q) is (set_here q e)
 
--- the groups of two neighbours are joined
-module _ (cs : Conductors) (left : BTreeSet Key) (a b : Key) (old new : Partition) (placed : IsPlaced cs left old) (near : IsNeighbour (get cs) a b) (keeps : KeepsKeys old new) (joins : Joins a b old new) where
-  abbrev M : Members
-  M = members_of old
+      under : (q : Key) → IsUnder after s.start q → IsUnder after t.start q
+      under q u = subst (λ x. IsUnder after x q) (sym start) u
 
-  sound_now : (k q : Key) → Together (members_of new) k q → InGroup cs k q
-  sound_now k q t = elim (joins.sound k q t) [
-    | inl o ↦ placed.sound k q o
-    | inr two ↦ elim two [
-      | inl both ↦ group_trans cs k a q (placed.sound k a both.0) (group_trans cs a b q (group_once cs a b near) (placed.sound b q both.1))
-      | inr both ↦ group_trans cs k b q (placed.sound k b both.0) (group_trans cs b a q (group_once cs b a (near_turn (get cs) a b near)) (placed.sound a q both.1))
-    ]
-  ]
-
-  was : (q : Key) → Together (members_of new) q q → Together M q q
-  was q t = elim (joins.sound q q t) [
-    | inl o ↦ o
-    | inr two ↦ elim two [ inl both ↦ (both.0.0, both.0.1, both.0.1) | inr both ↦ (both.0.0, both.0.1, both.0.1) ]
-  ]
-
-  pub placed_joined : IsPlaced cs left new
-  placed_joined = record {
-    apart = record {
-      partition = joins.partition;
-      heads = λ q h. keeps q ∙ placed.apart.heads q h;
-      apart = λ q t. placed.apart.apart q (was q t);
-    };
-    there = placed.there;
-    sound = sound_now;
-    parts = λ q there. elim (placed.parts q there) [ inl h ↦ inl h | inr t ↦ inr (joins.kept q q t) ];
-  }
-
-  pub goes_joined : GoesOn left left old new
-  goes_joined = record {
-    kept = joins.kept;
-    fewer = λ q h. h;
-    heads = λ q h. joins.heads q (λ t. lacks_not left q h (placed.apart.apart q t));
-  }
-
--- a neighbour is found
-module _ (left after : BTreeSet Key) (key other : Key) (waiting : List Key)
-    (updates : (q : Key) → contains by_key after q ≡ cond (is_at (by_key other) q) false (contains by_key left q)) (old new : Partition) (apart : IsApart left old) (keeps : KeepsKeys old new) where
-  -- before
-  pub finds_none : Lacks left other → Together (members_of old) other other → length after.keys + 0 ≡ length left.keys → Joins key other old new → Finds key other left after waiting waiting old new
-  finds_none lacks t fewer joins =
-      let takes = takes_none left after other waiting updates old lacks t fewer in
-      record {
-        goes = record {
-          kept = joins.kept;
-          fewer = takes.goes.fewer;
-          heads = λ q h. joins.heads q (λ u. lacks_not left q (takes.goes.fewer q h) (apart.apart q u));
-        };
-        placed = λ cs placed near. placed_joined cs after key other old new (takes.placed cs placed) near keeps joins;
-        joined = joins.joined;
-        parts = takes.parts;
-        first = takes.first;
-        later = takes.later;
-        count = takes.count;
-      }
-
-  -- now
-  module _ (head : Key) (has : Has left other) (own : members_of old head key) (puts : Puts head other old new) where
-    abbrev P : Members
-    P = members_of new
-
-    more : (k q : Key) → Together (members_of old) k q → Together P k q
-    more k q t = (t.0, (puts.adds t.0 k).1 (inl t.1), (puts.adds t.0 q).1 (inl t.2))
-
-    new_has : P head other
-    new_has = (puts.adds head other).1 (inr (refl, refl))
-
-    new_joined : Together P key other
-    new_joined = (head, (puts.adds head key).1 (inl own), new_has)
-
-    -- who stands together stood so, or is the new one, or stood with the key
-    new_cases : (k q : Key) → Together P k q → Together (members_of old) k q
-        ⊎ (((k ≡ other) × ((q ≡ other) ⊎ Together (members_of old) key q)) ⊎ ((q ≡ other) × Together (members_of old) k key))
-    new_cases k q t = elim ((puts.adds t.0 k).0 t.1) [
-      | inl first ↦ elim ((puts.adds t.0 q).0 t.2) [
-        | inl second ↦ inl (t.0, first, second)
-        | inr second ↦ inr (inr (second.1, (head, subst (λ (h : Key). members_of old h k) second.0 first, own)))
+      kept : (h q : Key) → IsUnder found h q → IsUnder after h q
+      kept h q u = elim (same_or_apart q key) [
+        | inl e ↦ absurd (under_none found h key none (subst (IsUnder found h) e u))
+        | inr n ↦ set_apart q n ∙ u
       ]
-      | inr first ↦ elim ((puts.adds t.0 q).0 t.2) [
-        | inl second ↦ inr (inl (first.1, inr (head, own, subst (λ (h : Key). members_of old h q) first.0 second)))
-        | inr second ↦ inr (inl (first.1, inl second.1))
+
+      later : (h q : Key) → IsUnder after h q → IsUnder found h q ⊎ ((h ≡ s.start) × (q ≡ key))
+      later h q u = elim (same_or_apart q key) [
+        | inl e ↦ inr (under_one after h s.start q u (here q e), e)
+        | inr n ↦ inl (sym (set_apart q n) ∙ u)
       ]
-    ]
 
-    own_cases : (q : Key) → Together P q q → Together (members_of old) q q ⊎ (q ≡ other)
-    own_cases q t = elim (new_cases q q t) [ inl o ↦ inl o | inr two ↦ elim two [ inl a ↦ inr a.0 | inr b ↦ inr b.0 ] ]
+      first : (q : Key) → Contains s.waiting.items q → Contains t.waiting.items q
+      first q c = subst (λ ks. Contains ks q) (sym waiting) (Contains-append_left s.waiting.items (key ∷ []) q c)
 
-    sound_more : (cs : Conductors) → IsPlaced cs left old → IsNeighbour (get cs) key other → (k q : Key) → Together P k q → InGroup cs k q
-    sound_more cs placed near k q t = elim (new_cases k q t) [
-      | inl o ↦ placed.sound k q o
-      | inr two ↦ elim two [
-        | inl first ↦ subst (λ (x : Key). InGroup cs x q) (sym first.0) (elim first.1 [
-          | inl e ↦ subst (InGroup cs other) (sym e) (group_itself cs other (placed.there other has))
-          | inr u ↦ group_trans cs other key q (group_once cs other key (near_turn (get cs) key other near)) (placed.sound key q u)
-        ])
-        | inr second ↦ subst (InGroup cs k) (sym second.0) (group_trans cs k key other (placed.sound k key second.1) (group_once cs key other near))
-      ]
-    ]
+      waits : (q : Key) → q ≡ key → Contains t.waiting.items q
+      waits q e = subst (λ ks. Contains ks q) (sym waiting) (subst (Contains (s.waiting.items ++ key ∷ [])) (sym e) (Contains-push s.waiting.items key))
 
-    pub finds_one : (now : List Key) → now ≡ waiting ++ other ∷ [] → length after.keys + 1 ≡ length left.keys → Finds key other left after waiting now old new
-    finds_one now are fewer = record {
-      goes = record {
-        kept = more;
-        fewer = less left after other waiting updates;
-        heads = λ q h. puts.heads q (λ e. lacks_not after q h (gone left after other waiting updates q e));
-      };
-      placed = λ cs placed near. record {
-        apart = record {
-          partition = puts.partition;
-          heads = λ q h. keeps q ∙ apart.heads q (less left after other waiting updates q h);
-          apart = λ q t. elim (own_cases q t) [
-            | inl o ↦ still_lacks left after other waiting updates q (apart.apart q o)
-            | inr e ↦ gone left after other waiting updates q e
-          ];
-        };
-        there = λ q h. placed.there q (less left after other waiting updates q h);
-        sound = sound_more cs placed near;
-        parts = λ q there. elim (placed.parts q there) [
-          | inl h ↦ elim (same_or_apart q other) [
-            | inl e ↦ inr (subst (λ x. Together P x x) (sym e) (head, new_has, new_has))
-            | inr differ ↦ inl (still left after other waiting updates q h differ)
-          ]
-          | inr t ↦ inr (more q q t)
-        ];
-      };
-      joined = new_joined;
-      parts = λ q h. elim (same_or_apart q other) [
-        | inl e ↦ inr (subst (λ ks. Contains ks q) (sym are) (subst (Contains (waiting ++ other ∷ [])) (sym e) (Contains-push waiting other)))
-        | inr differ ↦ inl (still left after other waiting updates q h differ)
+-- a search that has found nothing begins
+pub begins_search : (key : Key) (s t : Search) (found after : Heads) → s.start ≡ key → s.row.items ≡ [] → s.waiting.items ≡ [] → Looks (λ q. q ≡ key) false s t found after → Begins key t found after
+begins_search key s t found after start row waiting looks = record {
+  start = looks.start ∙ start;
+  kept = looks.kept;
+  later = λ h q u. elim (looks.later h q u) [ inl o ↦ inl o | inr both ↦ inr (both.0 ∙ start, both.1) ];
+  here =
+      let link = looks.links key refl in
+      elim link.2 [
+        | inl e ↦ subst (λ x. IsUnder after x key) (e ∙ start) link.1
+        | inr e ↦ absurd (cc)
       ];
-      first = λ q c. subst (λ ks. Contains ks q) (sym are) (Contains-append_left waiting (other ∷ []) q c);
-      later = λ q c. elim (Contains-push_cases waiting other q (subst (λ ks. Contains ks q) are c)) [ inl b ↦ inl b | inr e ↦ inr (sym e) ];
-      count = let long : length now ≡ length waiting + 1 = ap length are ∙ length_push waiting other in omega arith;
-    }
-
--- before a neighbour is put in
-module _ (left : BTreeSet Key) (key other head : Key) (old : Partition) (apart : IsApart left old) (has : Has left other) (is : heads_of old key ≡ Some head)
-    (found : Together (members_of old) key key) where
-  pub head_has : members_of old head key
-  head_has = key_in old apart.partition key found head is
-
-  pub head_own : members_of old head head
-  head_own = apart.partition.own head key head_has
-
-  pub is_free : (h : Key) → members_of old h other → h ≡ head
-  is_free h m = absurd (let own = apart.partition.own h other m in lacks_not left other has (apart.apart other (h, m, m)))
-
--- a query
-module _ (passed : Option Key) (cs : Conductors) (key : Key) where
-  pub asking_begins : (left : BTreeSet Key) (waiting : List Key) (p : Partition) → IsPlaced cs left p → IsAsking passed cs key [] left left waiting waiting p p
-  asking_begins left waiting p placed = record {
-    keys = λ k. refl;
-    asks = record {
-      goes = goes_nowhere left p;
-      placed = placed;
-      parts = λ q h. inl h;
-      first = λ q c. c;
-      later = λ q c. inl c;
-      links = λ q both. absurd (none_in q both.0);
-      count = refl;
-    };
-  }
-
-  module _ (near : List Key) (i : ℕ) (d : Key) (inside : i < length near) (left mid : BTreeSet Key) (waiting now : List Key) (old p : Partition)
-      (asking : IsAsking passed cs key (take i near) left mid waiting now old p) where
-    -- the next neighbour is passed over
-    pub asking_past : is_passed passed (get_or near i d) ≡ true → IsAsking passed cs key (take (i + 1) near) left mid waiting now old p
-    asking_past is = record {
-      keys = asking.keys;
-      asks = record {
-        goes = asking.asks.goes;
-        placed = asking.asks.placed;
-        parts = asking.asks.parts;
-        first = asking.asks.first;
-        later = asking.asks.later;
-        links = λ q both. elim (first_cases near i d inside q both.0) [
-          | inl b ↦ asking.asks.links q (b, both.1)
-          | inr e ↦ let p : true ≡ false = sym is ∙ ap (is_passed passed) (sym e) ∙ both.1 in absurd (cc)
-        ];
-        count = asking.asks.count;
-      };
-    }
-
-    -- the next neighbour is found
-    module _ (after : BTreeSet Key) (then : List Key) (new : Partition) (link : IsNeighbour (get cs) key (get_or near i d)) (keeps : KeepsKeys p new)
-        (finds : Finds key (get_or near i d) mid after now then p new) where
-      pub asking_more : IsAsking passed cs key (take (i + 1) near) left after waiting then old new
-      asking_more = record {
-        keys = λ k. keeps k ∙ asking.keys k;
-        asks = record {
-          goes = goes_on left mid after old p new asking.asks.goes finds.goes;
-          placed = finds.placed cs asking.asks.placed link;
-          parts = λ q h. elim (asking.asks.parts q h) [ inl m ↦ finds.parts q m | inr c ↦ inr (finds.first q c) ];
-          first = λ q c. finds.first q (asking.asks.first q c);
-          later = λ q c. elim (finds.later q c) [
-            | inl b ↦ elim (asking.asks.later q b) [ inl w ↦ inl w | inr t ↦ inr (finds.goes.kept key q t) ]
-            | inr e ↦ inr (subst (Together (members_of new) key) (sym e) finds.joined)
-          ];
-          links = λ q both. elim (first_cases near i d inside q both.0) [
-            | inl b ↦ finds.goes.kept key q (asking.asks.links q (b, both.1))
-            | inr e ↦ subst (Together (members_of new) key) (sym e) finds.joined
-          ];
-          count = let first = asking.asks.count in let second = finds.count in omega arith;
-        };
-      }
-
--- all neighbours were looked at
-pub asks_all : (passed : Option Key) (cs : Conductors) (key : Key) (near : List Key) (left after : BTreeSet Key) (waiting now : List Key) (old new : Partition)
-    → ((q : Key) → Contains near q ↔ IsNeighbour (get cs) key q) → IsAsking passed (passing passed cs) key near left after waiting now old new
-    → Asks (passing passed cs) key (IsNeighbour (get (passing passed cs)) key) left after waiting now old new
-asks_all passed cs key near left after waiting now old new all asking = record {
-  goes = asking.asks.goes;
-  placed = asking.asks.placed;
-  parts = asking.asks.parts;
-  first = asking.asks.first;
-  later = asking.asks.later;
-  links = λ q n. asking.asks.links q ((all q).1 (passing_near passed cs key q n), not_passed passed cs q (near_second (get (passing passed cs)) key q n));
-  count = asking.asks.count;
+  news = looks.news;
+  search = λ never. looks.search (record {
+    row = λ q. (
+      (λ c. absurd (none_in q (subst (λ ks. Contains ks q) row c))),
+      (λ u. absurd (never q (subst (λ x. IsUnder found x q) start u))),
+    );
+    waits = λ q c. absurd (none_in q (subst (λ ks. Contains ks q) waiting c));
+  });
 }
 
--- the next neighbour, which is not passed over
-module _ (passed : Option Key) (cs : Conductors) (key : Key) (near : List Key) (i : ℕ) (d : Key) (inside : i < length near) (left mid : BTreeSet Key) (waiting now : List Key) (old p : Partition)
-    (asking : IsAsking passed (passing passed cs) key (take i near) left mid waiting now old p) (found : Together (members_of old) key key) where
-  pub key_still : Together (members_of p) key key
-  key_still = asking.asks.goes.kept key key found
+-- a query
+looks_as : (P Q : Key → Type 0) (met : Bool) (s t : Search) (found after : Heads) → ((q : Key) → P q → Q q) → ((q : Key) → Q q → P q) → Looks P met s t found after → Looks Q met s t found after
+looks_as P Q met s t found after to from looks = record {
+  start = looks.start;
+  kept = looks.kept;
+  later = λ h q u. elim (looks.later h q u) [ inl o ↦ inl o | inr both ↦ inr (both.0, to q both.1) ];
+  first = looks.first;
+  news = looks.news;
+  search = looks.search;
+  links = λ q n. looks.links q (from q n);
+  meets = λ m. let w = looks.meets m in (w.0, to w.0 w.1, w.2, w.3, w.4);
+}
 
-  pub next_link : ((q : Key) → Contains near q ↔ IsNeighbour (get cs) key q) → is_passed passed (get_or near i d) ≡ false → IsNeighbour (get (passing passed cs)) key (get_or near i d)
-  next_link all is = passed_near passed cs key (get_or near i d) (not_passed passed cs key (asking.asks.placed.sound key key key_still).0) is
-      ((all (get_or near i d)).0 (Contains-get_or near i d inside))
+or_cases : (a b : Bool) → (a || b) ≡ true → (a ≡ true) ⊎ (b ≡ true)
+or_cases true b e = inl refl
+or_cases false b e = inr e
 
-  pub next_left : ((q : Key) → Contains near q ↔ IsNeighbour (get cs) key q) → is_passed passed (get_or near i d) ≡ false → Has mid (get_or near i d) ⊎ Together (members_of p) (get_or near i d) (get_or near i d)
-  next_left all is = asking.asks.placed.parts (get_or near i d) (near_second (get (passing passed cs)) key (get_or near i d) (next_link all is))
+or_first : (a b : Bool) → a ≡ true → (a || b) ≡ true
+or_first true b e = refl
+or_first false b e = absurd (cc)
+
+or_second : (a b : Bool) → b ≡ true → (a || b) ≡ true
+or_second true b e = refl
+or_second false b e = e
+
+looks_then : (P : Key → Type 0) (x : Key) (met once : Bool) (s t u : Search) (found mid after : Heads)
+    → Looks P met s t found mid → Looks (λ q. q ≡ x) once t u mid after → Looks (λ q. P q ⊎ (q ≡ x)) (met || once) s u found after
+looks_then P x met once s t u found mid after first second = record {
+  start = second.start ∙ first.start;
+  kept = λ h q v. second.kept h q (first.kept h q v);
+  later = λ h q v. elim (second.later h q v) [
+    | inl m ↦ elim (first.later h q m) [ inl o ↦ inl o | inr b ↦ inr (b.0, inl b.1) ]
+    | inr b ↦ inr (b.0 ∙ first.start, inr b.1)
+  ];
+  first = λ q c. second.first q (first.first q c);
+  news = λ q f. elim (second.news q f) [
+    | inl m ↦ elim (first.news q m) [ inl o ↦ inl o | inr c ↦ inr (second.first q c) ]
+    | inr c ↦ inr c
+  ];
+  search = λ was. second.search (first.search was);
+  links = λ q n. elim n [
+    | inl p ↦
+        let link = first.links q p in
+        (link.0, second.kept link.0 q link.1, elim link.2 [ inl e ↦ inl e | inr m ↦ inr (or_first met once m) ])
+    | inr e ↦
+        let link = second.links q e in
+        (link.0, link.1, elim link.2 [ inl v ↦ inl (v ∙ first.start) | inr m ↦ inr (or_second met once m) ])
+  ];
+  meets = λ m. elim (or_cases met once m) [
+    | inl b ↦
+        let w = first.meets b in
+        (w.0, inl w.1, w.2, second.kept w.2 w.0 w.3, w.4)
+    | inr b ↦
+        let w = second.meets b in
+        (w.0, inr w.1, w.2, w.3, (λ e. w.4 (e ∙ sym first.start)))
+  ];
+}
+
+pub asking_begins : (passed : Option Key) (s : Search) (found : Heads) → IsAsking passed [] false s s found found
+asking_begins passed s found = record {
+  grows = grows_nowhere (λ q. Contains [] q × (is_that passed q ≡ false)) found;
+  looks = record {
+    start = refl;
+    kept = λ h q u. u;
+    later = λ h q u. inl u;
+    first = λ q c. c;
+    news = λ q f. inl f;
+    search = λ was. was;
+    links = λ q both. absurd (none_in q both.0);
+    meets = λ m. absurd (cc);
+  };
+  count = omega arith;
+}
+
+module _ (passed : Option Key) (near : List Key) (i : ℕ) (d : Key) (inside : i < length near) (met : Bool) (s t : Search) (found mid : Heads)
+    (asking : IsAsking passed (take i near) met s t found mid) where
+  abbrev Few : Key → Type 0
+  Few q = Contains (take i near) q × (is_that passed q ≡ false)
+
+  abbrev More : Key → Type 0
+  More q = Contains (take (i + 1) near) q × (is_that passed q ≡ false)
+
+  few_more : (q : Key) → Few q → More q
+  few_more q both = (first_more near i d inside q (inl both.0), both.1)
+
+  -- the next neighbour is passed over
+  pub asking_past : is_that passed (get_or near i d) ≡ true → IsAsking passed (take (i + 1) near) met s t found mid
+  asking_past is = record {
+    grows = grows_more Few More found mid few_more asking.grows;
+    looks = looks_as Few More met s t found mid few_more back asking.looks;
+    count = asking.count;
+  }
+    where
+      back : (q : Key) → More q → Few q
+      back q both = elim (first_cases near i d inside q both.0) [
+        | inl b ↦ (b, both.1)
+        | inr e ↦ let p : true ≡ false = sym is ∙ ap (is_that passed) (sym e) ∙ both.1 in absurd (cc)
+      ]
+
+  -- the next neighbour is found
+  pub asking_more : (once : Bool) (u : Search) (after : Heads) → is_that passed (get_or near i d) ≡ false
+      → Grows (λ q. q ≡ get_or near i d) mid after → Looks (λ q. q ≡ get_or near i d) once t u mid after → length u.waiting.items + length mid ≤ length t.waiting.items + length after
+      → IsAsking passed (take (i + 1) near) (met || once) s u found after
+  asking_more once u after is grows looks few = record {
+    grows = grows_then Few (λ q. q ≡ get_or near i d) More found mid after few_more next_more asking.grows grows;
+    looks = looks_as (λ q. Few q ⊎ (q ≡ get_or near i d)) More (met || once) s u found after
+        (λ q e. elim e [ inl f ↦ few_more q f | inr x ↦ next_more q x ])
+        (λ q m. elim (first_cases near i d inside q m.0) [ inl b ↦ inl (b, m.1) | inr e ↦ inr e ])
+        (looks_then Few (get_or near i d) met once s t u found mid after asking.looks looks);
+    count = let was = asking.count in omega arith;
+  }
+    where
+      next_more : (q : Key) → q ≡ get_or near i d → More q
+      next_more q e = (first_more near i d inside q (inr e), ap (is_that passed) e ∙ is)
+
+-- all neighbours were looked at
+module _ (passed : Option Key) (cs : Conductors) (key : Key) (near : List Key) (all : (q : Key) → Contains near q ↔ IsNeighbour (get cs) key q) (there : IsSome (get (passing passed cs) key)) where
+  -- an early neighbour that is not passed over
+  pub near_one : (q : Key) → Contains near q → is_that passed q ≡ false → IsNeighbour (get (passing passed cs)) key q
+  near_one q c is = passed_near passed cs key q (not_passed passed cs key there) is ((all q).0 c)
+
+  pub asks_grow : (few : List Key) (found mid : Heads) → ((q : Key) → Contains few q → Contains near q) → Grows (λ q. Contains few q × (is_that passed q ≡ false)) found mid
+      → Grows (IsNeighbour (get (passing passed cs)) key) found mid
+  asks_grow few found mid inside grows = grows_more (λ q. Contains few q × (is_that passed q ≡ false)) (IsNeighbour (get (passing passed cs)) key) found mid (λ q both. near_one q (inside q both.0) both.1) grows
+
+  first_near : (i : ℕ) (q : Key) → Contains (take i near) q → Contains near q
+  first_near i q c = subst (λ ks. Contains ks q) (take-append-drop i near) (Contains-append_left (take i near) (drop i near) q c)
+
+  -- the next neighbour is looked at
+  pub asks_next : (i : ℕ) (d : Key) (found mid after : Heads) → i < length near → is_that passed (get_or near i d) ≡ false → Grows (λ q. Contains (take i near) q × (is_that passed q ≡ false)) found mid
+      → Grows (λ q. q ≡ get_or near i d) mid after → Grows (IsNeighbour (get (passing passed cs)) key) found after
+  asks_next i d found mid after inside is first second =
+      grows_then (IsNeighbour (get (passing passed cs)) key) (λ q. q ≡ get_or near i d) (IsNeighbour (get (passing passed cs)) key) found mid after (λ q n. n)
+      (λ q e. subst (IsNeighbour (get (passing passed cs)) key) (sym e) (near_one (get_or near i d) (Contains-get_or near i d inside) is))
+      (asks_grow (take i near) found mid (first_near i) first) second
+
+  pub asks_all : (met : Bool) (s t : Search) (found after : Heads) → IsAsking passed near met s t found after → Looks (IsNeighbour (get (passing passed cs)) key) met s t found after
+  asks_all met s t found after asking = looks_as (λ q. Contains near q × (is_that passed q ≡ false)) (IsNeighbour (get (passing passed cs)) key) met s t found after
+      (λ q both. near_one q both.0 both.1)
+      (λ q n. ((all q).1 (passing_near passed cs key q n), not_passed passed cs q (near_second (get (passing passed cs)) key q n)))
+      asking.looks
+
+-- keys are put under another head
+pub moving_begins : (head : Key) (found : Heads) → IsMoving head [] found found
+moving_begins head found = record {
+  grows = grows_nowhere (λ q. ⊥) found;
+  moves = record { moved = λ q c. absurd (none_in q c); kept = λ q n. refl };
+}
+
+pub moving_more : (keys : List Key) (i : ℕ) (d : Key) (head : Key) (found mid after : Heads) → i < length keys → ((q : Key) → Contains keys q → IsFound found q) → IsMoving head (take i keys) found mid
+    → ((q : Key) → head_at after q ≡ cond (is_same_key (get_or keys i d) q) (Some head) (head_at mid q)) → AreUnique after → length mid ≤ length after → IsMoving head (take (i + 1) keys) found after
+moving_more keys i d head found mid after inside there moving updates unique more = record {
+  grows = record {
+    later = λ q f. elim (same_or_apart q (get_or keys i d)) [
+      | inl e ↦ inl (there q (subst (Contains keys) (sym e) (Contains-get_or keys i d inside)))
+      | inr n ↦ moving.grows.later q (ap is_some (sym (set_apart mid after (get_or keys i d) head updates q n)) ∙ f)
+    ];
+    unique = λ u. unique;
+    more = let a = moving.grows.more in omega arith;
+  };
+  moves = record {
+    moved = λ q c. elim (same_or_apart q (get_or keys i d)) [
+      | inl e ↦ set_here mid after (get_or keys i d) head updates q e
+      | inr n ↦ set_apart mid after (get_or keys i d) head updates q n ∙ moving.moves.moved q (elim (first_cases keys i d inside q c) [ inl b ↦ b | inr e ↦ absurd (n e) ])
+    ];
+    kept = λ q never. set_apart mid after (get_or keys i d) head updates q (λ e. never (first_more keys i d inside q (inr e)))
+        ∙ moving.moves.kept q (λ c. never (first_more keys i d inside q (inl c)));
+  };
+}
+
+-- one search takes over another one
+module _ (large small last : Search) (found after : Heads) (apart : small.start ≢ large.start) (large_row : IsRow large found) (small_row : IsRow small found)
+    (moves : Moves large.start small.row.items found after) (start : last.start ≡ large.start) (row : last.row.items ≡ large.row.items ++ small.row.items)
+    (waiting : last.waiting.items ≡ large.waiting.items ++ small.waiting.items) where
+  under_small : (q : Key) → IsUnder found small.start q → IsUnder after large.start q
+  under_small q u = moves.moved q ((small_row q).1 u)
+
+  under_other : (h q : Key) → IsUnder found h q → h ≢ small.start → IsUnder after h q
+  under_other h q u n = moves.kept q (λ c. n (under_one found h small.start q u ((small_row q).0 c))) ∙ u
+
+  under_large : (q : Key) → IsUnder found large.start q → IsUnder after large.start q
+  under_large q u = under_other large.start q u (λ e. apart (sym e))
+
+  under_cases : (h q : Key) → IsUnder after h q → ((h ≡ large.start) × IsUnder found small.start q) ⊎ (IsUnder found h q × (h ≢ small.start))
+  under_cases h q u = elim (head_or_none (head_at found q)) [
+    | inl at ↦ elim (same_or_apart at.0 small.start) [
+      | inl e ↦
+          let was : IsUnder found small.start q = subst (λ x. IsUnder found x q) e at.1 in
+          inl (under_one after h large.start q u (under_small q was), was)
+      | inr n ↦
+          let same : h ≡ at.0 = under_one after h at.0 q u (under_other at.0 q at.1 n) in
+          inr (subst (λ x. IsUnder found x q) (sym same) at.1, (λ e. n (sym same ∙ e)))
+    ]
+    | inr none ↦ absurd (under_none after h q (moves.kept q (λ c. under_none found small.start q none ((small_row q).0 c)) ∙ none) u)
+  ]
+
+  pub absorbs : Absorbs large small last found after
+  absorbs = record {
+    start = start;
+    joined = λ q either. elim either [ inl u ↦ under_large q u | inr u ↦ under_small q u ];
+    kept = under_other;
+    later = under_cases;
+    row = λ q. (
+      (λ c. subst (λ x. IsUnder after x q) (sym start) (elim (Contains-append_cases large.row.items small.row.items q (subst (λ ks. Contains ks q) row c)) [
+        | inl b ↦ under_large q ((large_row q).0 b)
+        | inr b ↦ under_small q ((small_row q).0 b)
+      ])),
+      (λ u. subst (λ ks. Contains ks q) (sym row) (elim (under_cases large.start q (subst (λ x. IsUnder after x q) start u)) [
+        | inl both ↦ Contains-append_right large.row.items small.row.items q ((small_row q).1 both.1)
+        | inr both ↦ Contains-append_left large.row.items small.row.items q ((large_row q).1 both.0)
+      ])),
+    );
+    waiting = waiting;
+  }
+
+-- the second of two searches is put to the first
+pub meets_first : (first second last : Search) (found after : Heads) → Absorbs first second last found after → Meets first second last found after
+meets_first first second last found after absorbed = record {
+  start = inl absorbed.start;
+  joined = λ q either. subst (λ x. IsUnder after x q) (sym absorbed.start) (absorbed.joined q either);
+  kept = λ h q u one two. absorbed.kept h q u two;
+  later = λ h q u. elim (absorbed.later h q u) [
+    | inl both ↦ inl (both.0 ∙ sym absorbed.start, inr both.1)
+    | inr both ↦ elim (same_or_apart h first.start) [
+      | inl e ↦ inl (e ∙ sym absorbed.start, inl (subst (λ x. IsUnder found x q) e both.0))
+      | inr n ↦ inr (both.0, (n, both.1))
+    ]
+  ];
+  row = absorbed.row;
+  waiting = absorbed.waiting;
+}
+
+-- the first of two searches is put to the second, but waits first
+pub meets_second : (first second large small last : Search) (found after : Heads) → large.start ≡ second.start → small.start ≡ first.start → large.waiting.items ≡ first.waiting.items → small.waiting.items ≡ second.waiting.items
+    → Absorbs large small last found after → Meets first second last found after
+meets_second first second large small last found after one two wait_one wait_two absorbed = record {
+  start = inr (absorbed.start ∙ one);
+  joined = λ q either. subst (λ x. IsUnder after x q) (sym absorbed.start) (absorbed.joined q (elim either [
+    | inl u ↦ inr (subst (λ x. IsUnder found x q) (sym two) u)
+    | inr u ↦ inl (subst (λ x. IsUnder found x q) (sym one) u)
+  ]));
+  kept = λ h q u n m. absorbed.kept h q u (λ e. n (e ∙ two));
+  later = λ h q u. elim (absorbed.later h q u) [
+    | inl both ↦ inl (both.0 ∙ sym absorbed.start, inl (subst (λ x. IsUnder found x q) two both.1))
+    | inr both ↦ elim (same_or_apart h large.start) [
+      | inl e ↦ inl (e ∙ sym absorbed.start, inr (subst (λ x. IsUnder found x q) (e ∙ one) both.0))
+      | inr n ↦ inr (both.0, ((λ e. both.1 (e ∙ sym two)), (λ e. n (e ∙ sym one))))
+    ]
+  ];
+  row = absorbed.row;
+  waiting = absorbed.waiting ∙ ap (λ ks. ks ++ small.waiting.items) wait_one ∙ ap (λ ks. first.waiting.items ++ ks) wait_two;
+}
 
 pub no_keys : (ks : List Key) → length ks ≡ 0 → ks ≡ []
 no_keys [] e = refl
 no_keys (k ∷ ks) e = absurd (omega arith)
 
 -- two searches in turn
-module _ (cs : Conductors) (before now : IndexData) (left mid : BTreeSet Key) (first second : Search) (old p : Partition) (most : ℕ)
-    (racing : IsRacing cs before now left mid first second old p most) where
+module _ (cs : Conductors) (before now : IndexData) (first second : Search) (found mid : Heads) (most : ℕ) (racing : IsRacing cs before now first second found mid most) where
   -- the first one has ended
-  pub racing_ends : first.waiting.items ≡ [] → Races cs left mid second old p
+  pub racing_ends : first.waiting.items ≡ [] → Races cs second found mid
   racing_ends none = record {
-    goes = racing.goes;
     placed = racing.placed;
-    linked = λ k q n. elim (racing.linked k q n) [
-      | inl h ↦ inl h
-      | inr o ↦ elim o [
-        | inl w ↦ elim w [ inl c ↦ absurd (none_in k (subst (λ ks. Contains ks k) none c)) | inr c ↦ inr (inl c) ]
-        | inr t ↦ inr (inr t)
-      ]
+    linked = λ k q n f. elim (racing.linked k q n f) [
+      | inl w ↦ elim w [ inl c ↦ absurd (none_in k (subst (λ ks. Contains ks k) none c)) | inr c ↦ inl c ]
+      | inr t ↦ inr t
     ];
     search = racing.search_second;
-  }
-
-  -- the second one has met the first
-  pub racing_meets : (last : Search) → last.start ≡ second.start → last.waiting.items ≡ second.waiting.items ++ first.waiting.items
-      → Together (members_of p) second.start first.start → Races cs left mid last old p
-  racing_meets last start are met = record {
-    goes = racing.goes;
-    placed = racing.placed;
-    linked = λ k q n. elim (racing.linked k q n) [
-      | inl h ↦ inl h
-      | inr o ↦ elim o [
-        | inl w ↦ inr (inl (subst (λ ks. Contains ks k) (sym are) (elim w [
-          | inl c ↦ Contains-append_right second.waiting.items first.waiting.items k c
-          | inr c ↦ Contains-append_left second.waiting.items first.waiting.items k c
-        ])))
-        | inr t ↦ inr (inr t)
-      ]
-    ];
-    search = λ q c. subst (λ x. Together (members_of p) x q) (sym start) (elim (Contains-append_cases second.waiting.items first.waiting.items q (subst (λ ks. Contains ks q) are c)) [
-      | inl b ↦ racing.search_second q b
-      | inr b ↦ together_trans (heads_of p) (members_of p) racing.placed.apart.partition second.start first.start q met (racing.search_first q b)
-    ]);
+    there = racing.second_there;
+    kept = racing.kept;
   }
 
   module _ (key : Key) (rest : List Key) (are : first.waiting.items ≡ key ∷ rest) where
-    key_waits : Contains first.waiting.items key
-    key_waits = subst (λ ks. Contains ks key) (sym are) (0, omega arith, refl)
+    key_under : IsUnder mid first.start key
+    key_under = racing.search_first.waits key (subst (λ ks. Contains ks key) (sym are) (0, omega arith, refl))
 
-    with_key : Together (members_of p) first.start key
-    with_key = racing.search_first key key_waits
-
-    pub key_found : Together (members_of p) key key
-    key_found = (with_key.0, with_key.2, with_key.2)
-
-    pub start_found : Together (members_of p) first.start first.start
-    start_found = (with_key.0, with_key.1, with_key.1)
+    -- the next key is there
+    pub key_there : IsSome (get cs key)
+    key_there = group_end cs first.start key (racing.placed.sound first.start key key_under)
 
     waits_cases : (q : Key) → Contains first.waiting.items q → (q ≡ key) ⊎ Contains rest q
     waits_cases q c = elim (Contains-append_cases (key ∷ []) rest q (subst (λ ks. Contains ks q) are c)) [
@@ -457,123 +454,392 @@ module _ (cs : Conductors) (before now : IndexData) (left mid : BTreeSet Key) (f
       | inr b ↦ inr b
     ]
 
-    rest_waits : (q : Key) → Contains rest q → Contains first.waiting.items q
-    rest_waits q c = subst (λ ks. Contains ks q) (sym are) (Contains-append_right (key ∷ []) rest q c)
+    -- its neighbours are found
+    module _ (after : Heads) (grows : Grows (IsNeighbour (get cs) key) mid after) where
+      -- what was found is there
+      pub asked_there : (q : Key) → IsFound after q → IsSome (get cs q)
+      asked_there q f = elim (grows.later q f) [
+        | inl m ↦ let at = head_of (head_at mid q) m in group_end cs at.0 q (racing.placed.sound at.0 q at.1)
+        | inr n ↦ near_second (get cs) key q n
+      ]
 
-    -- the first one has asked, and the second one is next
-    pub racing_more : (then : IndexData) (after : BTreeSet Key) (third : Search) (new : Partition) → then.conductors ≡ now.conductors → KeepsKeys p new
-        → Asks cs key (IsNeighbour (get cs) key) mid after rest third.waiting.items p new → third.start ≡ first.start
-        → then.asked + length after.keys + length third.waiting.items ≤ now.asked + length mid.keys + length rest + 1
-        → IsRacing cs before then left after second third old new most
-    racing_more then after third new same keeps asks start few = record {
-      same = same ∙ racing.same;
-      keys = λ k. keeps k ∙ racing.keys k;
-      goes = goes_on left mid after old p new racing.goes asks.goes;
-      placed = asks.placed;
-      linked = λ k q n. elim (racing.linked k q n) [
-        | inl h ↦ elim (asks.parts k h) [ inl a ↦ inl a | inr c ↦ inr (inl (inr c)) ]
-        | inr o ↦ elim o [
-          | inl w ↦ elim w [
-            | inl c ↦ elim (waits_cases k c) [
-              | inl e ↦ inr (inr (subst (λ x. Together (members_of new) x q) (sym e) (asks.links q (subst (λ x. IsNeighbour (get cs) x q) e n))))
-              | inr r ↦ inr (inl (inr (asks.first k r)))
+      pub asked_grows : Grows (Reaches cs found) found after
+      asked_grows = record {
+        later = λ q f. elim (grows.later q f) [
+          | inl m ↦ racing.grows.later q m
+          | inr n ↦ inr (elim (racing.grows.later key (is_found mid first.start key key_under)) [
+            | inl o ↦ (key, o, group_once cs key q n)
+            | inr r ↦ (r.0, r.1, group_trans cs r.0 key q r.2 (group_once cs key q n))
+          ])
+        ];
+        unique = λ u. grows.unique (racing.grows.unique u);
+        more = let a = racing.grows.more in let b = grows.more in omega arith;
+      }
+
+      module _ (popped third : Search) (met : Bool) (looks : Looks (IsNeighbour (get cs) key) met popped third mid after) (same_start : popped.start ≡ first.start) (same_row : popped.row.items ≡ first.row.items)
+          (same_rest : popped.waiting.items ≡ rest) where
+        start_third : third.start ≡ first.start
+        start_third = looks.start ∙ same_start
+
+        popped_search : IsSearch popped mid
+        popped_search = record {
+          row = λ q. (
+            (λ c. subst (λ x. IsUnder mid x q) (sym same_start) ((racing.search_first.row q).0 (subst (λ ks. Contains ks q) same_row c))),
+            (λ u. subst (λ ks. Contains ks q) (sym same_row) ((racing.search_first.row q).1 (subst (λ x. IsUnder mid x q) same_start u))),
+          );
+          waits = λ q c. subst (λ x. IsUnder mid x q) (sym same_start)
+              (racing.search_first.waits q (subst (λ ks. Contains ks q) (sym are) (Contains-append_right (key ∷ []) rest q (subst (λ ks. Contains ks q) same_rest c))));
+        }
+
+        pub third_search : IsSearch third after
+        third_search = looks.search popped_search
+
+        pub second_search : IsSearch second after
+        second_search = record {
+          row = λ q. (
+            (λ c. looks.kept second.start q ((racing.search_second.row q).0 c)),
+            (λ u. elim (looks.later second.start q u) [
+              | inl o ↦ (racing.search_second.row q).1 o
+              | inr both ↦ absurd (racing.apart (both.0 ∙ same_start))
+            ]),
+          );
+          waits = λ q c. looks.kept second.start q (racing.search_second.waits q c);
+        }
+
+        pub third_apart : second.start ≢ third.start
+        third_apart e = racing.apart (e ∙ start_third)
+
+        third_there : IsUnder after third.start third.start
+        third_there = subst (λ x. IsUnder after x x) (sym start_third) (looks.kept first.start first.start racing.first_there)
+
+        second_there : IsUnder after second.start second.start
+        second_there = looks.kept second.start second.start racing.second_there
+
+        key_third : IsUnder after third.start key
+        key_third = subst (λ x. IsUnder after x key) (sym start_third) (looks.kept first.start key key_under)
+
+        placed_after : IsPlaced cs after
+        placed_after = record {
+          own = λ h q u. elim (looks.later h q u) [
+            | inl o ↦ looks.kept h h (racing.placed.own h q o)
+            | inr both ↦ subst (λ x. IsUnder after x x) (sym (both.0 ∙ same_start)) (looks.kept first.start first.start racing.first_there)
+          ];
+          sound = λ h q u. elim (looks.later h q u) [
+            | inl o ↦ racing.placed.sound h q o
+            | inr both ↦ subst (λ x. InGroup cs x q) (sym (both.0 ∙ same_start)) (group_trans cs first.start key q (racing.placed.sound first.start key key_under) (group_once cs key q both.1))
+          ];
+        }
+
+        kept_after : (q : Key) → IsFound found q → IsFound after q
+        kept_after q f =
+            let at = head_of (head_at mid q) (racing.kept q f) in
+            is_found after at.0 q (looks.kept at.0 q at.1)
+
+        linked_after : (k q : Key) → IsNeighbour (get cs) k q → IsFound after k → (Contains third.waiting.items k ⊎ Contains second.waiting.items k) ⊎ (AreUnder after k q ⊎ (k ≡ key))
+        linked_after k q n f = elim (looks.news k f) [
+          | inl o ↦ elim (racing.linked k q n o) [
+            | inl w ↦ elim w [
+              | inl c ↦ elim (waits_cases k c) [
+                | inl e ↦ inr (inr e)
+                | inr r ↦ inl (inl (looks.first k (subst (λ ks. Contains ks k) (sym same_rest) r)))
+              ]
+              | inr c ↦ inl (inr c)
             ]
-            | inr c ↦ inr (inl (inl c))
+            | inr t ↦ inr (inl (t.0, looks.kept t.0 k t.1, looks.kept t.0 q t.2))
           ]
-          | inr t ↦ inr (inr (asks.goes.kept k q t))
+          | inr c ↦ inl (inl c)
         ]
-      ];
-      search_first = λ q c. asks.goes.kept second.start q (racing.search_second q c);
-      search_second = λ q c. subst (λ x. Together (members_of new) x q) (sym start) (elim (asks.later q c) [
-        | inl r ↦ asks.goes.kept first.start q (racing.search_first q (rest_waits q r))
-        | inr t ↦ together_trans (heads_of new) (members_of new) asks.placed.apart.partition first.start key q (asks.goes.kept first.start key with_key) t
-      ]);
-      there =
-          let t = asks.goes.kept first.start key with_key in
-          subst (λ x. Together (members_of new) x x) (sym start) (t.0, t.1, t.1);
-      count = let long : length first.waiting.items ≡ suc (length rest) = ap length are in let was = racing.count in omega arith;
-    }
 
--- searches from some keys
-module _ (cs : Conductors) where
-  pub searching_begins : (before : IndexData) (left : BTreeSet Key) (last : Search) (p : Partition) → IsPlaced cs left p → AreLinked cs left (λ q. ⊥) p → last.waiting.items ≡ []
-      → IsSearching cs before before [] left left last p p
-  searching_begins before left last p placed linked none = record {
-    same = refl;
-    keys = λ k. refl;
-    races = record {
-      goes = goes_nowhere left p;
-      placed = placed;
-      linked = λ k q n. elim (linked k q n) [ inl h ↦ inl h | inr o ↦ elim o [ inl w ↦ absurd w | inr t ↦ inr (inr t) ] ];
-      search = λ q c. absurd (none_in q (subst (λ ks. Contains ks q) none c));
-    };
-    starts = λ q c. absurd (none_in q c);
-    count = let long : length last.waiting.items ≡ 0 = ap length none in omega arith;
+        -- it has met no other search, and the second one is next
+        pub racing_more : (then : IndexData) → then.conductors ≡ now.conductors → AreUnique after → met ≡ false
+            → then.asked ≤ now.asked + 1 → length third.waiting.items + length mid ≤ length rest + length after
+            → IsRacing cs before then second third found after most
+        racing_more then same unique none once few = record {
+          same = same ∙ racing.same;
+          unique = unique;
+          grows = asked_grows;
+          placed = placed_after;
+          linked = λ k q n f. elim (linked_after k q n f) [
+            | inl w ↦ inl (elim w [ inl c ↦ inr c | inr c ↦ inl c ])
+            | inr either ↦ inr (elim either [
+              | inl t ↦ t
+              | inr e ↦
+                  let link = looks.links q (subst (λ x. IsNeighbour (get cs) x q) e n) in
+                  elim link.2 [
+                    | inl s ↦ (third.start, subst (IsUnder after third.start) (sym e) key_third, subst (λ x. IsUnder after x q) (s ∙ sym looks.start) link.1)
+                    | inr m ↦ absurd (let p : true ≡ false = sym m ∙ none in cc)
+                  ]
+            ])
+          ];
+          search_first = second_search;
+          search_second = third_search;
+          first_there = second_there;
+          second_there = third_there;
+          apart = λ e. third_apart (sym e);
+          kept = kept_after;
+          count = let long : length first.waiting.items ≡ suc (length rest) = ap length are in let was = racing.count in omega arith;
+        }
+
+        -- who touches the key was found by one of both
+        touches : (h q : Key) → IsNeighbour (get cs) key q → IsUnder after h q → (h ≡ third.start) ⊎ (h ≡ second.start)
+        touches h q n u = elim (same_or_apart h first.start) [
+          | inl e ↦ inl (e ∙ sym start_third)
+          | inr other ↦ elim (looks.later h q u) [
+            | inl o ↦ elim (racing.linked q key (near_turn (get cs) key q n) (is_found mid h q o)) [
+              | inl w ↦ elim w [
+                | inl c ↦ absurd (other (under_one mid h first.start q o (racing.search_first.waits q c)))
+                | inr c ↦ inr (under_one mid h second.start q o (racing.search_second.waits q c))
+              ]
+              | inr t ↦ absurd (other (under_one mid h t.0 q o t.1 ∙ under_one mid t.0 first.start key t.2 key_under))
+            ]
+            | inr both ↦ absurd (other (both.0 ∙ same_start))
+          ]
+        ]
+
+        both_under : (q : Key) → IsNeighbour (get cs) key q → IsUnder after third.start q ⊎ IsUnder after second.start q
+        both_under q n =
+            let link = looks.links q n in
+            elim (touches link.0 q n link.1) [
+              | inl e ↦ inl (subst (λ x. IsUnder after x q) e link.1)
+              | inr e ↦ inr (subst (λ x. IsUnder after x q) e link.1)
+            ]
+
+        -- it has met the second one
+        module _ (is_met : met ≡ true) (last : Search) (end : Heads) (meets : Meets third second last after end) where
+          chain : InGroup cs third.start second.start
+          chain =
+              let w = looks.meets is_met in
+              let under : IsUnder after second.start w.0 = elim (touches w.2 w.0 w.1 w.3) [
+                | inl e ↦ absurd (w.4 (e ∙ looks.start))
+                | inr e ↦ subst (λ x. IsUnder after x w.0) e w.3
+              ] in
+              group_trans cs third.start w.0 second.start
+              (group_trans cs third.start key w.0 (placed_after.sound third.start key key_third) (group_once cs key w.0 w.1))
+              (group_turn cs second.start w.0 (placed_after.sound second.start w.0 under))
+
+          to_third : InGroup cs last.start third.start
+          to_third = elim meets.start [
+            | inl e ↦ subst (λ x. InGroup cs x third.start) (sym e) (group_itself cs third.start chain.0)
+            | inr e ↦ subst (λ x. InGroup cs x third.start) (sym e) (group_turn cs third.start second.start chain)
+          ]
+
+          last_there : IsUnder end last.start last.start
+          last_there = meets.joined last.start (elim meets.start [
+            | inl e ↦ inl (subst (IsUnder after third.start) (sym e) third_there)
+            | inr e ↦ inr (subst (IsUnder after second.start) (sym e) second_there)
+          ])
+
+          kept_end : (h k q : Key) → IsUnder after h k → IsUnder after h q → AreUnder end k q
+          kept_end h k q one two = elim (same_or_apart h third.start) [
+            | inl e ↦ (last.start, meets.joined k (inl (subst (λ x. IsUnder after x k) e one)), meets.joined q (inl (subst (λ x. IsUnder after x q) e two)))
+            | inr n ↦ elim (same_or_apart h second.start) [
+              | inl e ↦ (last.start, meets.joined k (inr (subst (λ x. IsUnder after x k) e one)), meets.joined q (inr (subst (λ x. IsUnder after x q) e two)))
+              | inr m ↦ (h, meets.kept h k one n m, meets.kept h q two n m)
+            ]
+          ]
+
+          found_before : (q : Key) → IsFound end q → IsFound after q
+          found_before q f =
+              let at = head_of (head_at end q) f in
+              elim (meets.later at.0 q at.1) [
+                | inl both ↦ elim both.1 [ inl u ↦ is_found after third.start q u | inr u ↦ is_found after second.start q u ]
+                | inr both ↦ is_found after at.0 q both.0
+              ]
+
+          pub racing_meets : Races cs last found end
+          racing_meets = record {
+            placed = record {
+              own = λ h q u. elim (meets.later h q u) [
+                | inl both ↦ subst (λ x. IsUnder end x x) (sym both.0) last_there
+                | inr both ↦ meets.kept h h (placed_after.own h q both.0) both.1.0 both.1.1
+              ];
+              sound = λ h q u. elim (meets.later h q u) [
+                | inl both ↦ subst (λ x. InGroup cs x q) (sym both.0) (elim both.1 [
+                  | inl v ↦ group_trans cs last.start third.start q to_third (placed_after.sound third.start q v)
+                  | inr v ↦ group_trans cs last.start third.start q to_third (group_trans cs third.start second.start q chain (placed_after.sound second.start q v))
+                ])
+                | inr both ↦ placed_after.sound h q both.0
+              ];
+            };
+            linked = λ k q n f. elim (linked_after k q n (found_before k f)) [
+              | inl w ↦ inl (subst (λ ks. Contains ks k) (sym meets.waiting) (elim w [
+                | inl c ↦ Contains-append_left third.waiting.items second.waiting.items k c
+                | inr c ↦ Contains-append_right third.waiting.items second.waiting.items k c
+              ]))
+              | inr either ↦ inr (elim either [
+                | inl t ↦ kept_end t.0 k q t.1 t.2
+                | inr e ↦ (
+                  last.start,
+                  meets.joined k (inl (subst (IsUnder after third.start) (sym e) key_third)),
+                  meets.joined q (both_under q (subst (λ x. IsNeighbour (get cs) x q) e n)),
+                )
+              ])
+            ];
+            search = record {
+              row = meets.row;
+              waits = λ q c. meets.joined q (elim (Contains-append_cases third.waiting.items second.waiting.items q (subst (λ ks. Contains ks q) meets.waiting c)) [
+                | inl b ↦ inl (third_search.waits q b)
+                | inr b ↦ inr (second_search.waits q b)
+              ]);
+            };
+            there = last_there;
+            kept = λ q f.
+                let at = head_of (head_at after q) (kept_after q f) in
+                let t = kept_end at.0 q q at.1 at.1 in
+                is_found end t.0 q t.1;
+          }
+
+          pub met_count : (then : IndexData) → Grows (λ q. ⊥) after end → then.asked ≤ now.asked + 1 → length third.waiting.items + length mid ≤ length rest + length after
+              → then.asked + length last.waiting.items + length found ≤ most + length end
+          met_count then more once few =
+              let long : length first.waiting.items ≡ suc (length rest) = ap length are in
+              let all : length last.waiting.items ≡ length third.waiting.items + length second.waiting.items = ap length meets.waiting ∙ length-append third.waiting.items second.waiting.items in
+              let was = racing.count in
+              let grown = more.more in
+              omega arith
+
+-- a search begins
+module _ (cs : Conductors) (key : Key) (next : Search) (found after : Heads) (begins : Begins key next found after) (placed : IsPlaced cs found) (there : IsSome (get cs key)) (none : head_at found key ≡ None) where
+  pub placed_begun : IsPlaced cs after
+  placed_begun = record {
+    own = λ h q u. elim (begins.later h q u) [
+      | inl o ↦ begins.kept h h (placed.own h q o)
+      | inr both ↦ subst (λ x. IsUnder after x x) (sym both.0) begins.here
+    ];
+    sound = λ h q u. elim (begins.later h q u) [
+      | inl o ↦ placed.sound h q o
+      | inr both ↦ subst (InGroup cs h) (both.0 ∙ sym both.1) (group_itself cs h (ap (λ x. is_some (get cs x)) both.0 ∙ there))
+    ];
   }
 
-  module _ (near : List Key) (i : ℕ) (d : Key) (inside : i < length near) (before now : IndexData) (left mid : BTreeSet Key) (last : Search) (old p : Partition)
-      (searching : IsSearching cs before now (take i near) left mid last old p) where
+  pub search_begun : IsSearch next after
+  search_begun = begins.search (λ q u. under_none found key key none (placed.own key q u))
+
+  pub there_begun : IsUnder after next.start next.start
+  there_begun = subst (λ x. IsUnder after x x) (sym begins.start) begins.here
+
+  module _ (last : Search) (search : IsSearch last found) (last_there : IsUnder found last.start last.start) where
+    pub start_apart : next.start ≢ last.start
+    start_apart e = under_none found last.start last.start (ap (head_at found) (sym e ∙ begins.start) ∙ none) last_there
+
+    pub search_last : IsSearch last after
+    search_last = record {
+      row = λ q. (
+        (λ c. begins.kept last.start q ((search.row q).0 c)),
+        (λ u. elim (begins.later last.start q u) [
+          | inl o ↦ (search.row q).1 o
+          | inr both ↦ absurd (start_apart (begins.start ∙ sym both.0))
+        ]),
+      );
+      waits = λ q c. begins.kept last.start q (search.waits q c);
+    }
+
+    pub linked_begun : AreLinked cs (Contains last.waiting.items) found → AreLinked cs (λ q. Contains last.waiting.items q ⊎ Contains next.waiting.items q) after
+    linked_begun linked k q n f = elim (begins.news k f) [
+      | inl o ↦ elim (linked k q n o) [ inl c ↦ inl (inl c) | inr t ↦ inr (t.0, begins.kept t.0 k t.1, begins.kept t.0 q t.2) ]
+      | inr c ↦ inl (inr c)
+    ]
+
+pub placed_none : (cs : Conductors) (found : Heads) → found ≡ [] → IsPlaced cs found
+placed_none cs found none = record { own = λ h q u. absurd (never h q u); sound = λ h q u. absurd (never h q u) }
+  where
+    never : (h q : Key) → IsUnder found h q → ⊥
+    never h q u = under_none found h q (ap (λ es. head_at es q) none) u
+
+pub unique_none : (found : Heads) → found ≡ [] → AreUnique found
+unfolding IsDistinct
+unique_none found none = subst (λ (es : Heads). IsDistinct is_same_key (keys_of es)) (sym none) tt
+
+pub none_found : (found : Heads) (q : Key) → is_some (head_at found q) ≡ false → head_at found q ≡ None
+none_found found q e = go (head_at found q) e
+  where
+    go : (o : Option Key) → is_some o ≡ false → o ≡ None
+    go None f = refl
+    go (Some h) f = absurd (cc)
+
+pub first_in : (ks : List Key) (k : Key) → Some k ≡ slice_get ks 0 → Contains ks k
+first_in [] k e = let p : Some k ≡ None = e in absurd (cc)
+first_in (x ∷ ks) k e = (0, omega arith, sym (ap (λ o. unwrap_or o k) e))
+
+-- searches from some keys
+module _ (cs : Conductors) (near : List Key) where
+  pub searching_begins : (before : IndexData) (key : Key) (last : Search) (found mid : Heads) → found ≡ [] → Contains near key → IsSome (get cs key) → AreUnique mid → Grows (λ q. q ≡ key) found mid → Begins key last found mid
+      → length last.waiting.items + length found ≤ length mid → IsSearching cs before before near [] last mid
+  searching_begins before key last found mid none here there unique grows begins few = record {
+    same = refl;
+    unique = unique;
+    reached = λ q f. elim (grows.later q f) [
+      | inl o ↦ absurd (never q o)
+      | inr e ↦ (key, here, subst (InGroup cs key) (sym e) (group_itself cs key there))
+    ];
+    placed = placed_begun cs key last found mid begins (placed_none cs found none) there at_key;
+    linked = λ k q n f. elim (begins.news k f) [ inl o ↦ absurd (never k o) | inr c ↦ inl c ];
+    search = search_begun cs key last found mid begins (placed_none cs found none) there at_key;
+    there = there_begun cs key last found mid begins (placed_none cs found none) there at_key;
+    starts = λ q c. absurd (none_in q c);
+    count = omega arith;
+  }
+    where
+      at_key : head_at found key ≡ None
+      at_key = ap (λ es. head_at es key) none
+
+      never : (q : Key) → IsFound found q → ⊥
+      never q f = let at = head_of (head_at found q) f in under_none found at.0 q (ap (λ es. head_at es q) none) at.1
+
+  module _ (i : ℕ) (d : Key) (inside : i < length near) (before now : IndexData) (last : Search) (mid : Heads) (searching : IsSearching cs before now near (take i near) last mid) where
     -- the next key was found before
-    pub searching_past : Lacks mid (get_or near i d) → IsSearching cs before now (take (i + 1) near) left mid last old p
-    searching_past lacks = record {
+    pub searching_past : IsFound mid (get_or near i d) → IsSearching cs before now near (take (i + 1) near) last mid
+    searching_past f = record {
       same = searching.same;
-      keys = searching.keys;
-      races = searching.races;
-      starts = λ q c. elim (first_cases near i d inside q c) [ inl b ↦ searching.starts q b | inr e ↦ subst (Lacks mid) (sym e) lacks ];
+      unique = searching.unique;
+      reached = searching.reached;
+      placed = searching.placed;
+      linked = searching.linked;
+      search = searching.search;
+      there = searching.there;
+      starts = λ q c. elim (first_cases near i d inside q c) [ inl b ↦ searching.starts q b | inr e ↦ subst (IsFound mid) (sym e) f ];
       count = searching.count;
     }
 
     -- a search begins at the next key
-    module _ (mid1 : BTreeSet Key) (p1 : Partition) (next : Search) (takes : Takes (get_or near i d) mid mid1 [] next.waiting.items p p1) (start : next.start ≡ get_or near i d) where
+    module _ (one : Heads) (grows : Grows (λ q. q ≡ get_or near i d) mid one) (there : IsSome (get cs (get_or near i d))) where
       abbrev begin : Key
       begin = get_or near i d
 
-      pub next_linked : AreLinked cs mid1 (λ q. Contains last.waiting.items q ⊎ Contains next.waiting.items q) p1
-      next_linked k q n = elim (searching.races.linked k q n) [
-        | inl h ↦ elim (takes.parts k h) [ inl a ↦ inl a | inr c ↦ inr (inl (inr c)) ]
-        | inr o ↦ elim o [ inl c ↦ inr (inl (inl c)) | inr t ↦ inr (inr (takes.goes.kept k q t)) ]
+      pub begun_reached : (q : Key) → IsFound one q → IsReached cs near q
+      begun_reached q f = elim (grows.later q f) [
+        | inl o ↦ searching.reached q o
+        | inr e ↦ (begin, Contains-get_or near i d inside, subst (InGroup cs begin) (sym e) (group_itself cs begin there))
       ]
 
-      pub last_search : IsSearch last p1
-      last_search q c = takes.goes.kept last.start q (searching.races.search q c)
+      pub raced_reached : (new : Heads) → Grows (Reaches cs one) one new → (q : Key) → IsFound new q → IsReached cs near q
+      raced_reached new more q f = elim (more.later q f) [
+        | inl o ↦ begun_reached q o
+        | inr r ↦ let from = begun_reached r.0 r.1 in (from.0, from.1, group_trans cs from.0 r.0 q from.2 r.2)
+      ]
 
-      pub next_search : IsSearch next p1
-      next_search q c = subst (λ y. Together (members_of p1) y q) (sym start) (elim (takes.later q c) [
-        | inl n ↦ absurd (none_in q n)
-        | inr e ↦ subst (Together (members_of p1) begin) (sym e) takes.found
-      ])
-
-      pub next_there : Together (members_of p1) next.start next.start
-      next_there = subst (λ y. Together (members_of p1) y y) (sym start) takes.found
-
-      pub searching_more : (then : IndexData) (after : BTreeSet Key) (best : Search) (new : Partition) → then.conductors ≡ now.conductors → KeepsKeys p p1 → KeepsKeys p1 new
-          → Races cs mid1 after best p1 new
-          → then.asked + length after.keys + length best.waiting.items ≤ now.asked + length mid1.keys + (length last.waiting.items + length next.waiting.items)
-          → IsSearching cs before then (take (i + 1) near) left after best old new
-      searching_more then after best new same keep1 keep2 races few = record {
+      pub searching_more : (next : Search) (then : IndexData) (best : Search) (new : Heads) → Begins begin next mid one → then.conductors ≡ now.conductors → Grows (Reaches cs one) one new → Races cs best one new
+          → length next.waiting.items + length mid ≤ length one
+          → then.asked + length best.waiting.items + length one ≤ now.asked + (length last.waiting.items + length next.waiting.items) + length new
+          → IsSearching cs before then near (take (i + 1) near) best new
+      searching_more next then best new begins same more races few count = record {
         same = same ∙ searching.same;
-        keys = λ k. keep2 k ∙ keep1 k ∙ searching.keys k;
-        races = record {
-          goes = goes_on left mid after old p new searching.races.goes (goes_on mid mid1 after p p1 new takes.goes races.goes);
-          placed = races.placed;
-          linked = races.linked;
-          search = races.search;
-        };
-        starts = λ q c. elim (first_cases near i d inside q c) [
-          | inl b ↦ not_lacks after q (λ h. lacks_not mid q (takes.goes.fewer q (races.goes.fewer q h)) (searching.starts q b))
-          | inr e ↦ races.placed.apart.apart q (subst (λ y. Together (members_of new) y y) (sym e) (races.goes.kept begin begin takes.found))
-        ];
-        count = let was = searching.count in let took = takes.count in let none : length {A = Key} [] ≡ 0 = refl in omega arith;
+        unique = more.unique (grows.unique searching.unique);
+        reached = raced_reached new more;
+        placed = races.placed;
+        linked = races.linked;
+        search = races.search;
+        there = races.there;
+        starts = λ q c. races.kept q (elim (first_cases near i d inside q c) [
+          | inl b ↦ let at = head_of (head_at mid q) (searching.starts q b) in is_found one at.0 q (begins.kept at.0 q at.1)
+          | inr e ↦ subst (IsFound one) (sym e) (is_found one begin begin begins.here)
+        ]);
+        count = let was = searching.count in omega arith;
       }
 
-  pub searching_ends : (near : List Key) (before now : IndexData) (left mid : BTreeSet Key) (last : Search) (old p : Partition)
-      → IsSearching cs before now near left mid last old p → Searches cs near left mid last.start old p
-  searching_ends near before now left mid last old p searching = record {
-    goes = searching.races.goes;
-    placed = searching.races.placed;
-    linked = λ k q n. elim (searching.races.linked k q n) [
-      | inl h ↦ inl h
-      | inr o ↦ elim o [ inl c ↦ inr (inl (searching.races.search k c)) | inr t ↦ inr (inr t) ]
-    ];
+  pub searching_ends : (before now : IndexData) (last : Search) (found : Heads) → IsSearching cs before now near near last found → Searches cs near (Some last.start) found
+  searching_ends before now last found searching = record {
+    placed = searching.placed;
+    linked = λ k q n f. elim (searching.linked k q n f) [ inl c ↦ inl (searching.search.waits k c) | inr t ↦ inr t ];
     starts = searching.starts;
   }

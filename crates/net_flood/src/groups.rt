@@ -10,6 +10,7 @@ use crate::partition::{Partition, listed};
 use crate::search::search_from;
 use geda_geom::Key;
 use std::alloc::{AllocError, Global};
+use std::collections::HashMap;
 use std::marker::Model;
 use touch_index::{Sealed, TouchIndex};
 
@@ -72,7 +73,7 @@ fn join_in(
 /// make without it. It makes at most one neighbour query for each member.
 ///
 /// It searches from some of the key's neighbours, to which the others are joined without it, and
-/// stops as soon as all of them are known to be joined or parted.
+/// stops as soon as all of them are known to be joined or parted. What is parted alone moves.
 fn split(
     alloc: Global,
     index: &mut TouchIndex,
@@ -94,11 +95,13 @@ fn split(
     ensures later { index.old.asked ≤ index.new.asked }
 {
     let near = index.spanning_neighbours(key)?;
+    let mut found = HashMap::new(alloc);
+    let start = search_from(alloc, index, Some(key), &mut found, &near)?;
     let head = partition.head(key).unwrap();
     let mut left = partition.take(key);
     left.remove(&key);
-    let start = search_from(alloc, index, Some(key), partition, &mut left, &near)?;
-    partition.put_rest(alloc, head, left, start)
+    partition.put_found(alloc, &mut left, &found, start)?;
+    partition.put_left(alloc, head, left)
 }
 
 /// Puts all keys into the groups of their conductors. It makes at most one neighbour query for
@@ -121,8 +124,9 @@ fn group_all(
 {
     let mut left = partition.keys(alloc)?;
     let all = listed(alloc, &left)?;
-    search_from(alloc, index, None, partition, &mut left, &all)?;
-    Ok(())
+    let mut found = HashMap::new(alloc);
+    search_from(alloc, index, None, &mut found, &all)?;
+    partition.put_found(alloc, &mut left, &found, None)
 }
 
 /// The conductors of one sheet with their groups: two are in one group where a chain of conductors

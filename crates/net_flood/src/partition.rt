@@ -3,9 +3,11 @@ ghost use Rattle.std.specs.Prelude.{◌≡◌, ◌≢◌, ◌↔◌, IsSome, IsT
 ghost use Rattle.std.specs.List.Sorted.{IsStrictlySortedBy};
 ghost use Rattle.geda_geom.specs.declared.conductor.Key.{Key};
 ghost use Rattle.geda_geom.specs.Keys.{by_key};
-ghost use Rattle.net_flood.specs.steps.Partition.{AddsAll, AddsMember, Has, IsMember, IsPartition, IsSizeOf, Joins, KeepsHeads, KeepsKeys, Lacks, IsLeastOf, LosesHead, MovesTo, Puts, PutsSet, SetsHead, TakesOut, Together, heads_of, members_of};
-ghost use Rattle.net_flood.specs.steps.Search.{PutsRest};
+ghost use Rattle.net_flood.specs.steps.Partition.{AddsAll, AddsMember, Has, IsMember, IsPartition, IsSizeOf, Joins, KeepsKeys, Lacks, IsLeastOf, LosesHead, MovesTo, Puts, PutsLeft, PutsSet, SetsHead, TakesOut, Together, heads_of, members_of};
+ghost use Rattle.net_flood.specs.steps.Search.{IsFound, IsUnder};
+ghost use Rattle.net_flood.specs.steps.Found.{PutsFound};
 
+use crate::search::is_that;
 use geda_geom::Key;
 use std::alloc::{AllocError, Global};
 use std::collections::{BTreeSet, HashMap};
@@ -88,7 +90,6 @@ impl Partition {
         ensures partition { OnOk result (IsPartition (heads_of self.new) (members_of self.new)) }
         ensures adds { OnOk result
             (AddsAll head keys.now (members_of self.old) (members_of self.new)) }
-        ensures heads { OnOk result (KeepsHeads (Contains keys.now) self.old self.new) }
     {
         for key in keys {
             self.put(alloc, head, *key)?;
@@ -105,7 +106,6 @@ impl Partition {
         ensures keys { KeepsKeys self.old self.new }
         ensures partition { OnOk result (IsPartition (heads_of self.new) (members_of self.new)) }
         ensures moves { OnOk result (MovesTo from to (members_of self.old) (members_of self.new)) }
-        ensures heads { OnOk result (KeepsHeads (members_of self.old from) self.old self.new) }
     {
         let row = self.rows.remove(&from).unwrap();
         let keys = listed(alloc, &row)?;
@@ -132,18 +132,8 @@ impl Partition {
         self.move_row(alloc, second, first)
     }
 
-    /// Whether the groups of two keys are one. It takes no memory.
-    pub fn are_together(&self, a: Key, b: Key) -> bool
-        requires partition { IsPartition (heads_of self.now) (members_of self.now) }
-        requires first { Together (members_of self.now) a a }
-        requires second { Together (members_of self.now) b b }
-        ensures { IsTrue result ↔ Together (members_of self.now) a b }
-    {
-        self.head(a).unwrap() == self.head(b).unwrap()
-    }
-
-    /// Puts the keys of a set, which are in no group and have one head, into one group. It takes
-    /// time by the size of the set only where the head is none of them.
+    /// Puts the keys of a set, of which one is given, into one group. Under their head it is put as
+    /// it is, where that is one of them.
     fn put_set(
         &mut self,
         alloc: Global,
@@ -168,27 +158,54 @@ impl Partition {
         self.put_all(alloc, any, &list)
     }
 
-    /// Puts the keys of a set, which are in no group and have one head, into the group of a key.
-    pub fn put_rest(
+    /// Puts the keys of a set, which are in no group and have one head, into one group, if there
+    /// are any. It takes time by the size of the set only where the head is none of them.
+    pub fn put_left(
         &mut self,
         alloc: Global,
         head: Key,
         left: BTreeSet<Key>,
-        start: Key,
     ) -> Result<(), AllocError>
         requires partition { IsPartition (heads_of self.old) (members_of self.old) }
         requires alike { (q : Key) → Has left q → heads_of self.old q ≡ Some head }
         requires free { (h q : Key) → members_of self.old h q → Lacks left q }
-        requires start { (q : Key) → Has left q → Together (members_of self.old) start start }
         ensures keys { KeepsKeys self.old self.new }
-        ensures puts { OnOk result (PutsRest left start self.old self.new) }
+        ensures partition { OnOk result (IsPartition (heads_of self.new) (members_of self.new)) }
+        ensures puts { OnOk result (PutsLeft left (members_of self.old) (members_of self.new)) }
     {
         // The last key, as conductors leave by rising key.
         let Some(any) = left.last().copied() else {
             return Ok(());
         };
-        self.put_set(alloc, head, any, left)?;
-        self.join(alloc, start, any)
+        self.put_set(alloc, head, any, left)
+    }
+
+    /// Moves what was found from the keys that are left into groups under its heads, all but what
+    /// stands under the head that may be named.
+    pub fn put_found(
+        &mut self,
+        alloc: Global,
+        left: &mut BTreeSet<Key>,
+        found: &HashMap<Key, Key>,
+        start: Option<Key>,
+    ) -> Result<(), AllocError>
+        requires partition { IsPartition (heads_of self.old) (members_of self.old) }
+        requires own { (h q : Key) → IsUnder found.now.entries h q
+            → IsUnder found.now.entries h h }
+        requires there { (q : Key) → IsFound found.now.entries q → IsSome (heads_of self.old q) }
+        requires free { (h q : Key) → IsFound found.now.entries q → ¬ (members_of self.old h q) }
+        ensures keys { KeepsKeys self.old self.new }
+        ensures puts { OnOk result
+            (PutsFound start found.now.entries left.old left.new self.old self.new) }
+    {
+        for (key, head) in found {
+            if !is_that(start, *head) {
+                left.remove(key);
+                self.put(alloc, *head, *head)?;
+                self.put(alloc, *head, *key)?;
+            }
+        }
+        Ok(())
     }
 
     /// Adds a key that has no head and is in no group.

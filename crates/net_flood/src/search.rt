@@ -1,159 +1,207 @@
-// Searches from neighbour to neighbour, which join the groups of the keys that they find.
-ghost use Rattle.std.specs.Prelude.{◌≡◌, ◌⊎◌, ◌≤◌, ◌+◌, IsSome, IfOk, OnOk, Contains, length};
+// Searches from neighbour to neighbour, which meet, or end with a group of their own.
+ghost use Rattle.std.specs.Prelude.{◌≡◌, ◌≢◌, ◌⊎◌, ◌≤◌, ◌+◌, [], Bool, false, None, IsSome, IfOk, OnOk, Contains, length};
 ghost use Rattle.std.specs.FinMap.{get};
 ghost use Rattle.geda_geom.specs.declared.conductor.Key.{Key};
 ghost use Rattle.touch_index.specs.Index.{IsNeighbour};
-ghost use Rattle.net_flood.specs.steps.Partition.{Has, KeepsKeys, Together, members_of};
-ghost use Rattle.net_flood.specs.steps.Search.{AreLinked, Asks, Finds, IsApart, IsPlaced, IsSearch, Races, Searches, Takes, is_passed, passing};
+ghost use Rattle.net_flood.specs.steps.Partition.{head_at};
+ghost use Rattle.net_flood.specs.steps.Search.{Absorbs, AreLinked, AreUnique, Begins, Grows, IsFound, IsPlaced, IsReached, IsRow, IsSearch, IsUnder, Looks, Meets, Moves, Races, Reaches, Searches, is_that, passing};
 
-use crate::partition::Partition;
 use geda_geom::Key;
 use std::alloc::{AllocError, Global};
-use std::collections::{BTreeSet, VecDeque};
+use std::collections::{HashMap, VecDeque};
 use std::mem;
 use touch_index::TouchIndex;
 
-/// A search: where it began, and the keys that it has found and not asked about yet.
+/// A search: where it began, the keys that it has found, and those of them that it has not asked
+/// about yet. All that it has found stand under its start, their head.
 #[derive(Drop)]
 pub(crate) struct Search {
     pub start: Key,
+    pub row: Vec<Key>,
     pub waiting: VecDeque<Key>,
 }
 
-fn is_passed(passed: Option<Key>, key: Key) -> bool
-    ensures { result ≡ is_passed passed key }
+/// Whether a key is the one that may be named.
+pub(crate) fn is_that(that: Option<Key>, key: Key) -> bool
+    ensures { result ≡ is_that that key }
 {
-    match passed {
+    match that {
         Some(other) => other == key,
         None => false,
     }
 }
 
-/// Puts a key that was left into a group of its own, and lets it wait. A key that was found before
-/// stays where it was.
-fn take_in(
-    alloc: Global,
-    partition: &mut Partition,
-    left: &mut BTreeSet<Key>,
-    other: Key,
-    waiting: &mut VecDeque<Key>,
-) -> Result<(), AllocError>
-    requires apart { IsApart left.old partition.old }
-    requires there { Has left.old other ⊎ Together (members_of partition.old) other other }
-    ensures keys { KeepsKeys partition.old partition.new }
-    ensures takes { OnOk result (Takes other left.old left.new waiting.old.items waiting.new.items
-        partition.old partition.new) }
-    ensures fewer { length left.new.keys + length waiting.new.items
-        ≤ length left.old.keys + length waiting.old.items }
+/// Puts a key that was not found yet under the start of a search, and lets it wait.
+fn put(found: &mut HashMap<Key, Key>, search: &mut Search, key: Key) -> Result<(), AllocError>
+    requires is_new { head_at found.old.entries key ≡ None }
+    ensures grows { Grows (λ q. q ≡ key) found.old.entries found.new.entries }
+    ensures few { length search.new.waiting.items + length found.old.entries
+        ≤ length search.old.waiting.items + length found.new.entries }
+    ensures looks { OnOk result (Looks (λ q. q ≡ key) false search.old search.new
+        found.old.entries found.new.entries) }
 {
-    if left.remove(&other) {
-        partition.put(alloc, other, other)?;
-        waiting.push_back(other)?;
-    }
+    found.insert(key, search.start)?;
+    search.row.push(key)?;
+    search.waiting.push_back(key)?;
     Ok(())
 }
 
-/// Puts a neighbour of a key that was found into the key's group. One that was left waits then.
-fn find(
-    alloc: Global,
-    partition: &mut Partition,
-    left: &mut BTreeSet<Key>,
-    key: Key,
-    other: Key,
-    waiting: &mut VecDeque<Key>,
-) -> Result<(), AllocError>
-    requires apart { IsApart left.old partition.old }
-    requires found { Together (members_of partition.old) key key }
-    requires there { Has left.old other ⊎ Together (members_of partition.old) other other }
-    ensures keys { KeepsKeys partition.old partition.new }
-    ensures finds { OnOk result (Finds key other left.old left.new waiting.old.items
-        waiting.new.items partition.old partition.new) }
-    ensures fewer { length left.new.keys + length waiting.new.items
-        ≤ length left.old.keys + length waiting.old.items }
+/// A search that begins at a key that was not found yet.
+fn begin(alloc: Global, found: &mut HashMap<Key, Key>, start: Key) -> Result<Search, AllocError>
+    requires is_new { head_at found.old.entries start ≡ None }
+    ensures grows { Grows (λ q. q ≡ start) found.old.entries found.new.entries }
+    ensures few { IfOk result (λ search. length search.waiting.items + length found.old.entries
+        ≤ length found.new.entries) }
+    ensures begins { IfOk result (λ search. Begins start search
+        found.old.entries found.new.entries) }
 {
-    if left.remove(&other) {
-        let head = partition.head(key).unwrap();
-        partition.put(alloc, head, other)?;
-        waiting.push_back(other)?;
-        return Ok(());
-    }
-    partition.join(alloc, key, other)
+    let mut search = Search {
+        start,
+        row: Vec::new(alloc),
+        waiting: VecDeque::new(alloc),
+    };
+    put(found, &mut search, start)?;
+    Ok(search)
 }
 
-/// Asks for the neighbours of a key that was found. All but the one that is passed over are found,
-/// and in its group.
+/// Finds a neighbour of a key that a search has found. Whether another search had found it is
+/// answered.
+fn find(found: &mut HashMap<Key, Key>, search: &mut Search, other: Key) -> Result<bool, AllocError>
+    ensures grows { Grows (λ q. q ≡ other) found.old.entries found.new.entries }
+    ensures few { length search.new.waiting.items + length found.old.entries
+        ≤ length search.old.waiting.items + length found.new.entries }
+    ensures looks { IfOk result (λ met. Looks (λ q. q ≡ other) met search.old search.new
+        found.old.entries found.new.entries) }
+{
+    if let Some(head) = found.get(&other).copied() {
+        return Ok(head != search.start);
+    }
+    put(found, search, other)?;
+    Ok(false)
+}
+
+/// Asks for the neighbours of a key, and finds all but the one that is passed over. Whether
+/// another search had found one of them is answered.
 fn ask(
-    alloc: Global,
     index: &mut TouchIndex,
     passed: Option<Key>,
-    partition: &mut Partition,
-    left: &mut BTreeSet<Key>,
+    found: &mut HashMap<Key, Key>,
+    search: &mut Search,
     key: Key,
-    waiting: &mut VecDeque<Key>,
-) -> Result<(), AllocError>
-    requires placed { IsPlaced (passing passed index.old.conductors) left.old partition.old }
-    requires found { Together (members_of partition.old) key key }
-    ensures keys { KeepsKeys partition.old partition.new }
-    ensures asks { OnOk result (Asks (passing passed index.old.conductors) key
-        (IsNeighbour (get (passing passed index.old.conductors)) key)
-        left.old left.new waiting.old.items waiting.new.items partition.old partition.new) }
+) -> Result<bool, AllocError>
+    requires there { IsSome (get (passing passed index.old.conductors) key) }
+    ensures grows { Grows (IsNeighbour (get (passing passed index.old.conductors)) key)
+        found.old.entries found.new.entries }
+    ensures looks { IfOk result (λ met. Looks
+        (IsNeighbour (get (passing passed index.old.conductors)) key) met search.old search.new
+        found.old.entries found.new.entries) }
     ensures conductors { index.new.conductors ≡ index.old.conductors }
-    ensures steps { index.new.asked + length left.new.keys + length waiting.new.items
-        ≤ index.old.asked + length left.old.keys + length waiting.old.items + 1 }
+    ensures few { length search.new.waiting.items + length found.old.entries
+        ≤ length search.old.waiting.items + length found.new.entries }
+    ensures steps { index.new.asked ≤ index.old.asked + 1 }
     ensures later { index.old.asked ≤ index.new.asked }
 {
     let near = index.neighbours(key)?;
+    let mut met = false;
     for other in &near {
-        if !is_passed(passed, *other) {
-            find(alloc, partition, left, key, *other, waiting)?;
+        if !is_that(passed, *other) {
+            met |= find(found, search, *other)?;
         }
     }
+    Ok(met)
+}
+
+/// Puts keys that were found under another head.
+fn put_under(found: &mut HashMap<Key, Key>, head: Key, keys: &[Key]) -> Result<(), AllocError>
+    requires there { (q : Key) → Contains keys.now q → IsFound found.old.entries q }
+    ensures grows { Grows (λ q. ⊥) found.old.entries found.new.entries }
+    ensures moves { OnOk result (Moves head keys.now found.old.entries found.new.entries) }
+{
+    for key in keys {
+        found.insert(*key, head)?;
+    }
     Ok(())
+}
+
+/// Puts all that one search has found to what another has found.
+fn absorb(found: &mut HashMap<Key, Key>, large: Search, small: Search) -> Result<Search, AllocError>
+    requires apart { small.start ≢ large.start }
+    requires large { IsRow large found.old.entries }
+    requires small { IsRow small found.old.entries }
+    ensures grows { Grows (λ q. ⊥) found.old.entries found.new.entries }
+    ensures absorbs { IfOk result (λ last. Absorbs large small last
+        found.old.entries found.new.entries) }
+{
+    let mut large = large;
+    let mut small = small;
+    put_under(found, large.start, &small.row)?;
+    large.row.append(&mut small.row)?;
+    large.waiting.append(&mut small.waiting)?;
+    Ok(large)
+}
+
+/// One search of two that have met. The first one's keys wait first.
+fn meet(found: &mut HashMap<Key, Key>, first: Search, second: Search) -> Result<Search, AllocError>
+    requires apart { second.start ≢ first.start }
+    requires first { IsSearch first found.old.entries }
+    requires second { IsSearch second found.old.entries }
+    ensures grows { Grows (λ q. ⊥) found.old.entries found.new.entries }
+    ensures meets { IfOk result (λ last. Meets first second last
+        found.old.entries found.new.entries) }
+{
+    // The smaller one moves, so that no key moves more than some 17 times of 100,000.
+    if first.row.len() < second.row.len() {
+        let large = Search {
+            start: second.start,
+            row: second.row,
+            waiting: first.waiting,
+        };
+        let small = Search {
+            start: first.start,
+            row: first.row,
+            waiting: second.waiting,
+        };
+        return absorb(found, large, small);
+    }
+    absorb(found, first, second)
 }
 
 /// Two searches in turn, until they meet or one of them ends. The one that goes on is answered.
 fn race(
-    alloc: Global,
     index: &mut TouchIndex,
     passed: Option<Key>,
-    partition: &mut Partition,
-    left: &mut BTreeSet<Key>,
+    found: &mut HashMap<Key, Key>,
     first: Search,
     second: Search,
 ) -> Result<Search, AllocError>
-    requires placed { IsPlaced (passing passed index.old.conductors) left.old partition.old }
-    requires linked { AreLinked (passing passed index.old.conductors) left.old
-        (λ q. Contains first.waiting.items q ⊎ Contains second.waiting.items q) partition.old }
-    requires first { IsSearch first partition.old }
-    requires second { IsSearch second partition.old }
-    requires there { Together (members_of partition.old) second.start second.start }
-    ensures keys { KeepsKeys partition.old partition.new }
-    ensures races { IfOk result (λ last. Races (passing passed index.old.conductors)
-        left.old left.new last partition.old partition.new) }
+    requires unique { AreUnique found.old.entries }
+    requires placed { IsPlaced (passing passed index.old.conductors) found.old.entries }
+    requires linked { AreLinked (passing passed index.old.conductors)
+        (λ q. Contains first.waiting.items q ⊎ Contains second.waiting.items q)
+        found.old.entries }
+    requires first { IsSearch first found.old.entries }
+    requires second { IsSearch second found.old.entries }
+    requires first_there { IsUnder found.old.entries first.start first.start }
+    requires second_there { IsUnder found.old.entries second.start second.start }
+    requires apart { second.start ≢ first.start }
+    ensures grows { Grows (Reaches (passing passed index.old.conductors) found.old.entries)
+        found.old.entries found.new.entries }
+    ensures races { IfOk result (λ last. Races (passing passed index.old.conductors) last
+        found.old.entries found.new.entries) }
     ensures conductors { index.new.conductors ≡ index.old.conductors }
     ensures count { IfOk result (λ last.
-        index.new.asked + length left.new.keys + length last.waiting.items
-        ≤ index.old.asked + length left.old.keys
-        + (length first.waiting.items + length second.waiting.items)) }
-    ensures steps { index.new.asked ≤ index.old.asked + length left.old.keys
-        + (length first.waiting.items + length second.waiting.items) }
+        index.new.asked + length last.waiting.items + length found.old.entries
+        ≤ index.old.asked + (length first.waiting.items + length second.waiting.items)
+        + length found.new.entries) }
+    ensures steps { index.new.asked + length found.old.entries ≤ index.old.asked
+        + (length first.waiting.items + length second.waiting.items) + length found.new.entries }
     ensures later { index.old.asked ≤ index.new.asked }
 {
     let mut first = first;
     let mut second = second;
     while let Some(key) = first.waiting.pop_front() {
-        ask(
-            alloc,
-            index,
-            passed,
-            partition,
-            left,
-            key,
-            &mut first.waiting,
-        )?;
-        if partition.are_together(first.start, second.start) {
-            first.waiting.append(&mut second.waiting)?;
-            return Ok(first);
+        if ask(index, passed, found, &mut first, key)? {
+            return meet(found, first, second);
         }
         mem::swap(&mut first, &mut second);
     }
@@ -162,39 +210,35 @@ fn race(
 
 /// Searches from each of some keys in turn, two at a time, until all of them are found, and those
 /// that are joined are known to be. It asks for no key twice. What it has not found has no
-/// neighbour in a group but that of the answered key.
+/// neighbour under a head but the answered one.
 pub(crate) fn search_from(
     alloc: Global,
     index: &mut TouchIndex,
     passed: Option<Key>,
-    partition: &mut Partition,
-    left: &mut BTreeSet<Key>,
+    found: &mut HashMap<Key, Key>,
     near: &[Key],
-) -> Result<Key, AllocError>
-    requires placed { IsPlaced (passing passed index.old.conductors) left.old partition.old }
-    requires linked { AreLinked (passing passed index.old.conductors) left.old (λ q. ⊥)
-        partition.old }
-    ensures keys { KeepsKeys partition.old partition.new }
-    ensures searches { IfOk result (λ start. Searches (passing passed index.old.conductors) near.now
-        left.old left.new start partition.old partition.new) }
+) -> Result<Option<Key>, AllocError>
+    requires none { found.old.entries ≡ [] }
+    requires there { (q : Key) → Contains near.now q
+        → IsSome (get (passing passed index.old.conductors) q) }
+    ensures unique { AreUnique found.new.entries }
+    ensures reached { (q : Key) → IsFound found.new.entries q
+        → IsReached (passing passed index.old.conductors) near.now q }
+    ensures searches { IfOk result (λ start. Searches (passing passed index.old.conductors)
+        near.now start found.new.entries) }
     ensures conductors { index.new.conductors ≡ index.old.conductors }
-    ensures steps { index.new.asked ≤ index.old.asked + length left.old.keys }
+    ensures steps { index.new.asked ≤ index.old.asked + length found.new.entries }
     ensures later { index.old.asked ≤ index.new.asked }
 {
-    let mut last = Search {
-        start: Key { id: 0, place: 0 },
-        waiting: VecDeque::new(alloc),
+    let Some(first) = near.first() else {
+        return Ok(None);
     };
+    let mut last = begin(alloc, found, *first)?;
     for start in near {
-        if left.contains(start) {
-            let mut waiting = VecDeque::new(alloc);
-            take_in(alloc, partition, left, *start, &mut waiting)?;
-            let next = Search {
-                start: *start,
-                waiting,
-            };
-            last = race(alloc, index, passed, partition, left, last, next)?;
+        if !found.contains_key(start) {
+            let next = begin(alloc, found, *start)?;
+            last = race(index, passed, found, last, next)?;
         }
     }
-    Ok(last.start)
+    Ok(Some(last.start))
 }

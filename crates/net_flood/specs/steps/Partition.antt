@@ -96,6 +96,12 @@ pub record PutsSet (keys : BTreeSet Key) (M N : Members) : Type 0 where
   pub has : Has keys head
   pub adds : AddsAll head keys.keys M N
 
+-- the keys of a set, which were in no group, are in one
+pub record PutsLeft (left : BTreeSet Key) (M N : Members) : Type 0 where
+  pub kept : (k q : Key) → Together M k q → Together N k q
+  pub rest : (k q : Key) → Has left k → Has left q → Together N k q
+  pub sound : (k q : Key) → Together N k q → Together M k q ⊎ (Has left k × Has left q)
+
 -- all members under one head are under another one
 abbrev pub MovesTo : Key → Key → Members → Members → Type 0
 MovesTo from to M N = (i q : Key) → N i q ↔ ((M i q × (i ≢ from)) ⊎ ((i ≡ to) × M from q))
@@ -105,7 +111,6 @@ pub record Joins (a b : Key) (old new : Partition) : Type 0 where
   pub partition : IsPartition (heads_of new) (members_of new)
   pub kept : (k q : Key) → Together (members_of old) k q → Together (members_of new) k q
   pub joined : Together (members_of new) a b
-  pub heads : KeepsHeads (λ q. Together (members_of old) q q) old new
   pub sound : (k q : Key) → Together (members_of new) k q → Together (members_of old) k q
       ⊎ ((Together (members_of old) k a × Together (members_of old) b q)
       ⊎ (Together (members_of old) k b × Together (members_of old) a q))
@@ -134,4 +139,3 @@ pub record IsPutting (h : Key) (keys : List Key) (old new : Partition) : Type 0 
   pub kept : KeepsKeys old new
   pub partition : IsPartition (heads_of new) (members_of new)
   pub adds : AddsAll h keys (members_of old) (members_of new)
-  pub heads : KeepsHeads (Contains keys) old new

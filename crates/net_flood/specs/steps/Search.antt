@@ -1,145 +1,186 @@
 -- Steps of the code; no public clause cites them.
--- Searches from neighbour to neighbour, which join the groups of the keys that they find (own).
-use Rattle.std.specs.Prelude.{◌≡◌, ◌⊎◌, ◌+◌, ◌≤◌, ℕ, Bool, false, List, Contains, length, Option, None, Some, IsSome}
-use Rattle.std.specs.BTreeSet.{BTreeSet}
+-- Searches from neighbour to neighbour, which meet, or end with a group of their own (own).
+use Rattle.std.specs.Prelude.{◌≡◌, ◌≢◌, ◌⊎◌, ◌↔◌, ◌+◌, ◌++◌, ◌≤◌, ℕ, Bool, true, false, List, Contains, length, Option, None, Some, IsSome}
 use Rattle.std.specs.FinMap.{get, remove}
+use Rattle.std.specs.List.{IsDistinct}
+use Rattle.std.specs.Map.{keys_of}
 use Rattle.geda_geom.specs.declared.conductor.Key.{Key}
 use Rattle.touch_index.specs.Index.{IndexData, IsNeighbour}
 use Rattle.touch_index.specs.steps.Sifting.{is_same_key}
 use Rattle.net_flood.specs.Grouping.{Conductors, InGroup}
-use Rattle.net_flood.specs.declared.partition.Partition.{Partition}
 use Rattle.net_flood.specs.declared.search.Search.{Search}
-use Rattle.net_flood.specs.steps.Partition.{Has, IsPartition, KeepsKeys, Lacks, Together, heads_of, members_of}
+use Rattle.net_flood.specs.steps.Partition.{Heads, head_at}
 
--- the key is the one that is passed over
-abbrev pub is_passed : Option Key → Key → Bool
-is_passed None q = false
-is_passed (Some key) q = is_same_key key q
+-- the key is the one that may be named
+abbrev pub is_that : Option Key → Key → Bool
+is_that None q = false
+is_that (Some key) q = is_same_key key q
 
 -- the conductors without the one that is passed over
 abbrev pub passing : Option Key → Conductors → Conductors
 passing None cs = cs
 passing (Some key) cs = remove cs key
 
--- keys that are left have heads, and are in no group
-pub record IsApart (left : BTreeSet Key) (p : Partition) : Type 0 where
-  pub partition : IsPartition (heads_of p) (members_of p)
-  pub heads : (q : Key) → Has left q → IsSome (heads_of p q)
-  pub apart : (q : Key) → Together (members_of p) q q → Lacks left q
+-- a key was found, under this head
+abbrev pub IsUnder : Heads → Key → Key → Type 0
+IsUnder found h q = head_at found q ≡ Some h
 
--- keys that are left are in no group, and the other keys are in groups of touching
-pub record IsPlaced (cs : Conductors) (left : BTreeSet Key) (p : Partition) : Type 0 where
-  pub apart : IsApart left p
-  pub there : (q : Key) → Has left q → IsSome (get cs q)
-  pub sound : (k q : Key) → Together (members_of p) k q → InGroup cs k q
-  pub parts : (q : Key) → IsSome (get cs q) → Has left q ⊎ Together (members_of p) q q
+-- a key was found
+abbrev pub IsFound : Heads → Key → Type 0
+IsFound found q = IsSome (head_at found q)
 
--- neighbours are in one group, unless the first is left, or waits
-abbrev pub AreLinked : Conductors → BTreeSet Key → (Key → Type 0) → Partition → Type 0
-AreLinked cs left Waits p = (k q : Key) → IsNeighbour (get cs) k q
-    → Has left k ⊎ (Waits k ⊎ Together (members_of p) k q)
+-- a key was found, under another head than the one that may be named
+abbrev pub IsParted : Option Key → Heads → Key → Type 0
+IsParted start found q = (h : Key) × IsUnder found h q × (is_that start h ≡ false)
 
--- fewer keys are left, and groups have grown
-pub record GoesOn (left after : BTreeSet Key) (old new : Partition) : Type 0 where
-  pub kept : (k q : Key) → Together (members_of old) k q → Together (members_of new) k q
-  pub fewer : (q : Key) → Has after q → Has left q
-  pub heads : (q : Key) → Has after q → heads_of new q ≡ heads_of old q
+-- no key was found twice
+abbrev pub AreUnique : Heads → Type 0
+AreUnique found = IsDistinct is_same_key (keys_of found)
 
--- a key that was left is in a group of its own, and waits; another stays where it was
-pub record Takes (other : Key) (left after : BTreeSet Key) (waiting now : List Key)
-    (old new : Partition) : Type 0 where
-  pub goes : GoesOn left after old new
-  pub placed : (cs : Conductors) → IsPlaced cs left old → IsPlaced cs after new
-  pub found : Together (members_of new) other other
-  pub parts : (q : Key) → Has left q → Has after q ⊎ Contains now q
-  pub first : (q : Key) → Contains waiting q → Contains now q
-  pub later : (q : Key) → Contains now q → Contains waiting q ⊎ (q ≡ other)
-  pub count : length after.keys + length now ≡ length left.keys + length waiting
+-- each head is under itself, and a chain leads from it to each key under it
+pub record IsPlaced (cs : Conductors) (found : Heads) : Type 0 where
+  pub own : (h q : Key) → IsUnder found h q → IsUnder found h h
+  pub sound : (h q : Key) → IsUnder found h q → InGroup cs h q
 
--- a key is in one group with another one that touches it; one that was left waits
-pub record Finds (key other : Key) (left after : BTreeSet Key) (waiting now : List Key)
-    (old new : Partition) : Type 0 where
-  pub goes : GoesOn left after old new
-  pub placed : (cs : Conductors) → IsPlaced cs left old → IsNeighbour (get cs) key other
-      → IsPlaced cs after new
-  pub joined : Together (members_of new) key other
-  pub parts : (q : Key) → Has left q → Has after q ⊎ Contains now q
-  pub first : (q : Key) → Contains waiting q → Contains now q
-  pub later : (q : Key) → Contains now q → Contains waiting q ⊎ (q ≡ other)
-  pub count : length after.keys + length now ≡ length left.keys + length waiting
+-- both were found, under one head
+abbrev pub AreUnder : Heads → Key → Key → Type 0
+AreUnder found k q = (h : Key) × IsUnder found h k × IsUnder found h q
 
--- some keys are in one group with a key; those that were left wait
-pub record Asks (cs : Conductors) (key : Key) (Near : Key → Type 0) (left after : BTreeSet Key)
-    (waiting now : List Key) (old new : Partition) : Type 0 where
-  pub goes : GoesOn left after old new
-  pub placed : IsPlaced cs after new
-  pub parts : (q : Key) → Has left q → Has after q ⊎ Contains now q
-  pub first : (q : Key) → Contains waiting q → Contains now q
-  pub later : (q : Key) → Contains now q → Contains waiting q ⊎ Together (members_of new) key q
-  pub links : (q : Key) → Near q → Together (members_of new) key q
-  pub count : length after.keys + length now ≡ length left.keys + length waiting
+-- a neighbour of a key that was found is under its head, unless the key waits
+abbrev pub AreLinked : Conductors → (Key → Type 0) → Heads → Type 0
+AreLinked cs Waits found = (k q : Key) → IsNeighbour (get cs) k q → IsFound found k
+    → Waits k ⊎ AreUnder found k q
+
+-- more keys were found, which are some of these
+pub record Grows (New : Key → Type 0) (found after : Heads) : Type 0 where
+  pub later : (q : Key) → IsFound after q → IsFound found q ⊎ New q
+  pub unique : AreUnique found → AreUnique after
+  pub more : length found ≤ length after
+
+-- what a search has found is what stands under its start
+abbrev pub IsRow : Search → Heads → Type 0
+IsRow s found = (q : Key) → Contains s.row.items q ↔ IsUnder found s.start q
+
+-- and what waits is among it
+pub record IsSearch (s : Search) (found : Heads) : Type 0 where
+  pub row : IsRow s found
+  pub waits : (q : Key) → Contains s.waiting.items q → IsUnder found s.start q
+
+-- a search has looked at some keys: those that were not found are under its start now, and wait;
+-- it has met another search where one of them was found by that
+pub record Looks (Near : Key → Type 0) (met : Bool) (s t : Search) (found after : Heads)
+    : Type 0 where
+  pub start : t.start ≡ s.start
+  pub kept : (h q : Key) → IsUnder found h q → IsUnder after h q
+  pub later : (h q : Key) → IsUnder after h q → IsUnder found h q ⊎ ((h ≡ s.start) × Near q)
+  pub first : (q : Key) → Contains s.waiting.items q → Contains t.waiting.items q
+  pub news : (q : Key) → IsFound after q → IsFound found q ⊎ Contains t.waiting.items q
+  pub search : IsSearch s found → IsSearch t after
+  pub links : (q : Key) → Near q
+      → (h : Key) × IsUnder after h q × ((h ≡ s.start) ⊎ (met ≡ true))
+  pub meets : met ≡ true → (q : Key) × Near q × (h : Key) × IsUnder after h q × (h ≢ s.start)
+
+-- a search has begun at a key
+pub record Begins (key : Key) (s : Search) (found after : Heads) : Type 0 where
+  pub start : s.start ≡ key
+  pub kept : (h q : Key) → IsUnder found h q → IsUnder after h q
+  pub later : (h q : Key) → IsUnder after h q → IsUnder found h q ⊎ ((h ≡ key) × (q ≡ key))
+  pub here : IsUnder after key key
+  pub news : (q : Key) → IsFound after q → IsFound found q ⊎ Contains s.waiting.items q
+  pub search : ((q : Key) → ¬ (IsUnder found key q)) → IsSearch s after
+
+-- some keys are under one head now
+pub record Moves (head : Key) (keys : List Key) (found after : Heads) : Type 0 where
+  pub moved : (q : Key) → Contains keys q → IsUnder after head q
+  pub kept : (q : Key) → ¬ (Contains keys q) → head_at after q ≡ head_at found q
+
+-- the first few keys are under one head now
+pub record IsMoving (head : Key) (keys : List Key) (found mid : Heads) : Type 0 where
+  pub grows : Grows (λ q. ⊥) found mid
+  pub moves : Moves head keys found mid
+
+-- all that one search has found is put to what another has found
+pub record Absorbs (large small last : Search) (found after : Heads) : Type 0 where
+  pub start : last.start ≡ large.start
+  pub joined : (q : Key) → IsUnder found large.start q ⊎ IsUnder found small.start q
+      → IsUnder after large.start q
+  pub kept : (h q : Key) → IsUnder found h q → h ≢ small.start → IsUnder after h q
+  pub later : (h q : Key) → IsUnder after h q → ((h ≡ large.start) × IsUnder found small.start q)
+      ⊎ (IsUnder found h q × (h ≢ small.start))
+  pub row : IsRow last after
+  pub waiting : last.waiting.items ≡ large.waiting.items ++ small.waiting.items
+
+-- two searches are one, under the start of either
+pub record Meets (first second last : Search) (found after : Heads) : Type 0 where
+  pub start : (last.start ≡ first.start) ⊎ (last.start ≡ second.start)
+  pub joined : (q : Key) → IsUnder found first.start q ⊎ IsUnder found second.start q
+      → IsUnder after last.start q
+  pub kept : (h q : Key) → IsUnder found h q → h ≢ first.start → h ≢ second.start
+      → IsUnder after h q
+  pub later : (h q : Key) → IsUnder after h q
+      → ((h ≡ last.start) × (IsUnder found first.start q ⊎ IsUnder found second.start q))
+      ⊎ (IsUnder found h q × ((h ≢ first.start) × (h ≢ second.start)))
+  pub row : IsRow last after
+  pub waiting : last.waiting.items ≡ first.waiting.items ++ second.waiting.items
+
+-- a chain leads to a key from one that was found
+abbrev pub Reaches : Conductors → Heads → Key → Type 0
+Reaches cs found q = (s : Key) × IsFound found s × InGroup cs s q
+
+-- a chain leads to a key from one of a list
+abbrev pub IsReached : Conductors → List Key → Key → Type 0
+IsReached cs near q = (s : Key) × Contains near s × InGroup cs s q
 
 -- those of the first few neighbours that are not passed over were looked at
-pub record IsAsking (passed : Option Key) (cs : Conductors) (key : Key) (few : List Key)
-    (left mid : BTreeSet Key) (waiting now : List Key) (old new : Partition) : Type 0 where
-  pub keys : KeepsKeys old new
-  pub asks : Asks cs key (λ q. Contains few q × (is_passed passed q ≡ false)) left mid waiting now
-      old new
+pub record IsAsking (passed : Option Key) (few : List Key) (met : Bool) (s t : Search)
+    (found mid : Heads) : Type 0 where
+  pub grows : Grows (λ q. Contains few q × (is_that passed q ≡ false)) found mid
+  pub looks : Looks (λ q. Contains few q × (is_that passed q ≡ false)) met s t found mid
+  pub count : length t.waiting.items + length found ≤ length s.waiting.items + length mid
 
--- the keys that wait are in the group of the start
-abbrev pub IsSearch : Search → Partition → Type 0
-IsSearch s p = (q : Key) → Contains s.waiting.items q → Together (members_of p) s.start q
-
--- two searches were joined, or one of them has ended
-pub record Races (cs : Conductors) (left after : BTreeSet Key) (last : Search) (old new : Partition)
-    : Type 0 where
-  pub goes : GoesOn left after old new
-  pub placed : IsPlaced cs after new
-  pub linked : AreLinked cs after (Contains last.waiting.items) new
-  pub search : IsSearch last new
+-- two searches have met, or one of them has ended
+pub record Races (cs : Conductors) (last : Search) (found after : Heads) : Type 0 where
+  pub placed : IsPlaced cs after
+  pub linked : AreLinked cs (Contains last.waiting.items) after
+  pub search : IsSearch last after
+  pub there : IsUnder after last.start last.start
+  pub kept : (q : Key) → IsFound found q → IsFound after q
 
 -- two searches in turn, before the next query, which the first one makes
-pub record IsRacing (cs : Conductors) (before now : IndexData) (left mid : BTreeSet Key)
-    (first second : Search) (old new : Partition) (most : ℕ) : Type 0 where
+pub record IsRacing (cs : Conductors) (before now : IndexData) (first second : Search)
+    (found mid : Heads) (most : ℕ) : Type 0 where
   pub same : now.conductors ≡ before.conductors
-  pub keys : KeepsKeys old new
-  pub goes : GoesOn left mid old new
-  pub placed : IsPlaced cs mid new
-  pub linked : AreLinked cs mid
-      (λ q. Contains first.waiting.items q ⊎ Contains second.waiting.items q) new
-  pub search_first : IsSearch first new
-  pub search_second : IsSearch second new
-  pub there : Together (members_of new) second.start second.start
-  pub count : now.asked + length mid.keys
-      + (length first.waiting.items + length second.waiting.items) ≤ most
+  pub unique : AreUnique mid
+  pub grows : Grows (Reaches cs found) found mid
+  pub placed : IsPlaced cs mid
+  pub linked : AreLinked cs
+      (λ q. Contains first.waiting.items q ⊎ Contains second.waiting.items q) mid
+  pub search_first : IsSearch first mid
+  pub search_second : IsSearch second mid
+  pub first_there : IsUnder mid first.start first.start
+  pub second_there : IsUnder mid second.start second.start
+  pub apart : second.start ≢ first.start
+  pub kept : (q : Key) → IsFound found q → IsFound mid q
+  pub count : now.asked + (length first.waiting.items + length second.waiting.items)
+      + length found ≤ most + length mid
 
 -- searches from the first few keys, of which the last goes on
-pub record IsSearching (cs : Conductors) (before now : IndexData) (few : List Key)
-    (left mid : BTreeSet Key) (last : Search) (old new : Partition) : Type 0 where
+pub record IsSearching (cs : Conductors) (before now : IndexData) (near few : List Key)
+    (last : Search) (mid : Heads) : Type 0 where
   pub same : now.conductors ≡ before.conductors
-  pub keys : KeepsKeys old new
-  pub races : Races cs left mid last old new
-  pub starts : (q : Key) → Contains few q → Lacks mid q
-  pub count : now.asked + length mid.keys + length last.waiting.items
-      ≤ before.asked + length left.keys
+  pub unique : AreUnique mid
+  pub reached : (q : Key) → IsFound mid q → IsReached cs near q
+  pub placed : IsPlaced cs mid
+  pub linked : AreLinked cs (Contains last.waiting.items) mid
+  pub search : IsSearch last mid
+  pub there : IsUnder mid last.start last.start
+  pub starts : (q : Key) → Contains few q → IsFound mid q
+  pub count : now.asked + length last.waiting.items ≤ before.asked + length mid
 
--- all keys of a list were found; what was found is in one group with its neighbours, unless it is
--- in the group of one key
-pub record Searches (cs : Conductors) (near : List Key) (left after : BTreeSet Key) (start : Key)
-    (old new : Partition) : Type 0 where
-  pub goes : GoesOn left after old new
-  pub placed : IsPlaced cs after new
-  pub linked : AreLinked cs after (Together (members_of new) start) new
-  pub starts : (q : Key) → Contains near q → Lacks after q
-
--- on one side of two groups that are one now: what was left, or was with the start
-abbrev pub IsBeside : BTreeSet Key → Key → Partition → Key → Type 0
-IsBeside left start p q = Has left q ⊎ Together (members_of p) start q
-
--- the keys that are left are in one group with a key
-pub record PutsRest (left : BTreeSet Key) (start : Key) (old new : Partition) : Type 0 where
-  pub partition : IsPartition (heads_of new) (members_of new)
-  pub kept : (k q : Key) → Together (members_of old) k q → Together (members_of new) k q
-  pub rest : (q : Key) → Has left q → Together (members_of new) start q
-  pub sound : (k q : Key) → Together (members_of new) k q → Together (members_of old) k q
-      ⊎ (IsBeside left start old k × IsBeside left start old q)
+-- all keys of a list were found; what was found is under one head with its neighbours, unless it
+-- is under the one that may be named
+pub record Searches (cs : Conductors) (near : List Key) (start : Option Key) (found : Heads)
+    : Type 0 where
+  pub placed : IsPlaced cs found
+  pub linked : AreLinked cs (λ k. head_at found k ≡ start) found
+  pub starts : (q : Key) → Contains near q → IsFound found q

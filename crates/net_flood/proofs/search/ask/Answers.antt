@@ -1,55 +1,58 @@
-use Rattle.std.proofs.Common.{◌≤◌, ◌↔◌, List, length, Contains, rules, sym, subst, ◌∙◌}
+use Rattle.std.proofs.Common.{◌≤◌, ◌↔◌, List, length, Contains, take, rules, sym, subst, ◌∙◌}
 use Rattle.std.specs.FinMap.{get}
 use Rattle.std.proofs.lemmas.List.{take_all}
 use Rattle.geda_geom.specs.declared.conductor.Key.{Key}
 use Rattle.touch_index.specs.Index.{IsNeighbour}
-use Rattle.net_flood.specs.steps.Search.{IsAsking, passing}
-use Rattle.net_flood.proofs.SearchLemmas.{asking_more, asking_past, asks_all, next_left, next_link, passing_there}
+use Rattle.net_flood.specs.steps.Search.{IsAsking}
+use Rattle.net_flood.proofs.SearchLemmas.{asking_begins, asking_more, asking_past, asks_all, asks_grow, asks_next, passing_there}
 use Rattle.net_flood.proofs.search.ask.Goals as goal
-use Rattle.net_flood.proofs.search.ask.Goals.{then-not-is_passed+in_ok-find, else-not-is_passed}
+use Rattle.net_flood.proofs.search.ask.Goals.{then-not-is_that+in_ok-met, else-not-is_that}
 
 pub neighbours-requires : goal.neighbours-requires
-neighbours-requires c = record {
-  is_there = passing_there c.args.passed c.args.index.now.conductors c.args.key (c.requires.placed.sound c.args.key c.args.key c.requires.found).0;
-}
+neighbours-requires c = record { is_there = passing_there c.args.passed c.args.index.now.conductors c.args.key c.requires.there }
 
-pub find-requires-clause-found : goal.find-requires-clause-found
-find-requires-clause-found c = c.loop-other.invariant.asks.goes.kept c.args.key c.args.key c.requires.found
-
-pub find-requires-clause-there : goal.find-requires-clause-there
-find-requires-clause-there c =
-    let near = c.deref-other-items.result.now in
-    let d : Key = record { id = 0; place = 0 } in
-    let all = λ (q : Key). subst (λ (ks : List Key). Contains ks q ↔ IsNeighbour (get c.args.index.now.conductors) c.args.key q) (sym c.deref-other-items.ensures.value) (c.in_ok-near.ensures.same q) in
-    next_left c.args.passed c.args.index.now.conductors c.args.key near c.loop-other.other-index d c.loop-other-test.true c.args.left.now c.loop-other.left
-    c.args.waiting.now.items c.loop-other.waiting.items c.args.partition.now c.loop-other.partition c.loop-other.invariant c.requires.found all (sym c.is_passed.ensures ∙ c.if-not-is_passed.true)
+pub loop-other-init : goal.loop-other-init
+loop-other-init c = asking_begins c.args.passed c.args.search.now c.args.found.now.entries
 
 pub loop-other-preserved : goal.loop-other-preserved
 loop-other-preserved c =
-    let cs = passing c.args.passed c.args.index.now.conductors in
     let near = c.deref-other-items.result.now in
     let d : Key = record { id = 0; place = 0 } in
-    let all = λ (q : Key). subst (λ (ks : List Key). Contains ks q ↔ IsNeighbour (get c.args.index.now.conductors) c.args.key q) (sym c.deref-other-items.ensures.value) (c.in_ok-near.ensures.same q) in
-    elim c.if-not-is_passed.branch [
-      | then-not-is_passed+in_ok-find w ↦
-          let link = next_link c.args.passed c.args.index.now.conductors c.args.key near c.loop-other.other-index d c.loop-other-test.true c.args.left.now c.loop-other.left
-          c.args.waiting.now.items c.loop-other.waiting.items c.args.partition.now c.loop-other.partition c.loop-other.invariant c.requires.found all (sym c.is_passed.ensures ∙ w.if-not-is_passed.true) in
-          rw (w.partition-is, w.left-is, w.waiting-is)
-          (asking_more c.args.passed cs c.args.key near c.loop-other.other-index d c.loop-other-test.true c.args.left.now c.loop-other.left
-          c.args.waiting.now.items c.loop-other.waiting.items c.args.partition.now c.loop-other.partition c.loop-other.invariant
-          w.find.new.left w.find.new.waiting.items w.find.new.partition link w.find.ensures.keys w.in_ok-find.ensures.finds)
-      | else-not-is_passed w ↦
-          rw (w.partition-is, w.left-is, w.waiting-is)
-          (asking_past c.args.passed cs c.args.key near c.loop-other.other-index d c.loop-other-test.true c.args.left.now c.loop-other.left
-          c.args.waiting.now.items c.loop-other.waiting.items c.args.partition.now c.loop-other.partition c.loop-other.invariant (sym c.is_passed.ensures ∙ w.if-not-is_passed.false))
+    elim c.if-not-is_that.branch [
+      | then-not-is_that+in_ok-met w ↦
+          rw (w.found-is, w.search-is, w.met-is)
+          (asking_more c.args.passed near c.loop-other.other-index d c.loop-other-test.true c.loop-other.met c.args.search.now c.loop-other.search c.args.found.now.entries c.loop-other.found.entries
+          c.loop-other.invariant w.in_ok-met.field-0 w.find.new.search w.find.new.found.entries (sym c.is_that.ensures ∙ w.if-not-is_that.true) w.find.ensures.grows w.in_ok-met.ensures.looks w.find.ensures.few)
+      | else-not-is_that w ↦
+          rw (w.found-is, w.search-is, w.met-is)
+          (asking_past c.args.passed near c.loop-other.other-index d c.loop-other-test.true c.loop-other.met c.args.search.now c.loop-other.search c.args.found.now.entries c.loop-other.found.entries
+          c.loop-other.invariant (sym c.is_that.ensures ∙ w.if-not-is_that.false))
     ]
 
-pub returns-clause-asks : goal.returns-clause-asks
-returns-clause-asks c =
-    let cs = passing c.args.passed c.args.index.now.conductors in
+pub returns-in_err-met-clause-grows : goal.returns-in_err-met-clause-grows
+returns-in_err-met-clause-grows c =
+    let near = c.deref-other-items.result.now in
+    let d : Key = record { id = 0; place = 0 } in
+    asks_next c.args.passed c.args.index.now.conductors c.args.key near
+    (λ q. subst (λ (ks : List Key). Contains ks q ↔ IsNeighbour (get c.args.index.now.conductors) c.args.key q) (sym c.deref-other-items.ensures.value) (c.in_ok-near.ensures.same q))
+    c.requires.there c.loop-other.other-index d c.args.found.now.entries c.loop-other.found.entries c.find.new.found.entries c.loop-other-test.true (sym c.is_that.ensures ∙ c.if-not-is_that.true)
+    c.loop-other.invariant.grows c.find.ensures.grows
+
+pub returns-clause-grows : goal.returns-clause-grows
+returns-clause-grows c =
     let near = c.deref-other-items.result.now in
     let past : length near ≤ c.loop-other.other-index = search rules in
-    asks_all c.args.passed c.args.index.now.conductors c.args.key near c.args.left.now c.loop-other.left c.args.waiting.now.items c.loop-other.waiting.items c.args.partition.now c.loop-other.partition
+    asks_grow c.args.passed c.args.index.now.conductors c.args.key near
     (λ q. subst (λ (ks : List Key). Contains ks q ↔ IsNeighbour (get c.args.index.now.conductors) c.args.key q) (sym c.deref-other-items.ensures.value) (c.in_ok-near.ensures.same q))
-    (subst (λ (ks : List Key). IsAsking c.args.passed cs c.args.key ks c.args.left.now c.loop-other.left c.args.waiting.now.items c.loop-other.waiting.items c.args.partition.now c.loop-other.partition)
+    c.requires.there (take c.loop-other.other-index near) c.args.found.now.entries c.loop-other.found.entries
+    (λ q h. subst (λ ks. Contains ks q) (take_all c.loop-other.other-index near past) h) c.loop-other.invariant.grows
+
+pub returns-clause-looks : goal.returns-clause-looks
+returns-clause-looks c =
+    let near = c.deref-other-items.result.now in
+    let past : length near ≤ c.loop-other.other-index = search rules in
+    asks_all c.args.passed c.args.index.now.conductors c.args.key near
+    (λ q. subst (λ (ks : List Key). Contains ks q ↔ IsNeighbour (get c.args.index.now.conductors) c.args.key q) (sym c.deref-other-items.ensures.value) (c.in_ok-near.ensures.same q))
+    c.requires.there c.loop-other.met c.args.search.now c.loop-other.search c.args.found.now.entries c.loop-other.found.entries
+    (subst (λ (ks : List Key). IsAsking c.args.passed ks c.loop-other.met c.args.search.now c.loop-other.search c.args.found.now.entries c.loop-other.found.entries)
     (take_all c.loop-other.other-index near past) c.loop-other.invariant)
