@@ -16,4 +16,4 @@ mod texts;
 
 pub use laws::{object_again, sheet_again, symbol_again};
 pub use sizes::{object_size, symbol_size};
-pub use texts::{head_text, object_text, sheet_text, symbol_text};
+pub use texts::{head_text, object_text, put_object_text, sheet_text, symbol_text};

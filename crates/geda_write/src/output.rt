@@ -1,7 +1,6 @@
 // Where a text goes: a text that grows, or a count of its bytes.
 ghost use Rattle.std.specs.Prelude.{◌≡◌, ◌<◌, ◌-◌, ◌^◌, length};
 ghost use Rattle.std.specs.Fmt.{decimal};
-ghost use Rattle.std.specs.String.{string_bytes};
 ghost use Rattle.geda_write.specs.steps.Output.{Adds, Got, Spare, Written};
 
 use itoa::Buffer;
@@ -21,20 +20,20 @@ pub(crate) trait Output {
         ensures { Adds result (got self.old) (got self.new) (decimal number) };
 }
 
-impl Output for String {
+impl Output for Vec<u8> {
     type Fault = AllocError;
 
-    ghost got = { λ s. Written (string_bytes s) };
+    ghost got = { λ v. Written v.items };
 
     #[tactic(auto, unfolding(crate::specs::steps::Output::more))]
     fn piece(&mut self, piece: &str) -> Result<(), AllocError> {
-        self.push_str(piece)?;
+        self.extend_from_slice(piece.as_bytes())?;
         Ok(())
     }
 
     #[tactic(auto, unfolding(crate::specs::steps::Output::more))]
     fn digits(&mut self, number: u32) -> Result<(), AllocError> {
-        self.push_str(Buffer::new().format(number))?;
+        self.extend_from_slice(Buffer::new().format(number).as_bytes())?;
         Ok(())
     }
 }

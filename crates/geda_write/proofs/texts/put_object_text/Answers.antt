@@ -1,7 +1,7 @@
 use Rattle.std.proofs.Common.{rules, append_assoc}
 use Rattle.geda_write.proofs.Canonical.{object}
 use Rattle.geda_write.proofs.Outputs.{written}
-use Rattle.geda_write.proofs.texts.object_text.Goals as goal
+use Rattle.geda_write.proofs.texts.put_object_text.Goals as goal
 
 pub returns : goal.returns
 returns c =
