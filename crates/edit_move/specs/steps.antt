@@ -1,2 +1,3 @@
 -- What steps of the code promise.
 pub mod Walks
+pub mod Points

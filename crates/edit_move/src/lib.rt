@@ -9,6 +9,7 @@ mod fault;
 mod kinds;
 mod motion;
 mod moving;
+mod points;
 mod shapes;
 mod texts;
 

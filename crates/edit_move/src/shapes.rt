@@ -7,6 +7,7 @@ ghost use Rattle.edit_move.specs.steps.Walks.{Comes};
 
 use crate::fault::MoveFault;
 use crate::motion::{Motion, ends_after, point_after};
+use crate::points::{put_first, put_second};
 use crate::texts::{text_after, texts_after};
 use geda_geom::Point;
 use geda_model::{Part, Parts, Shape};
@@ -21,186 +22,29 @@ pub(crate) fn shape_after(motion: Motion, shape: &Shape) -> Result<Shape, MoveFa
     ensures range { IfOk result ShapeIsInRange }
 {
     match shape {
-        Shape::Straight {
-            x1,
-            y1,
-            x2,
-            y2,
-            color,
-            stroke,
-        } => {
-            let (from, to) = ends_after(
-                motion,
-                Point { x: *x1, y: *y1 },
-                Point { x: *x2, y: *y2 },
-            )?;
-            Ok(Shape::Straight {
-                x1: from.x,
-                y1: from.y,
-                x2: to.x,
-                y2: to.y,
-                color: *color,
-                stroke: *stroke,
-            })
+        Shape::Straight { x1, y1, x2, y2, .. }
+        | Shape::Net { x1, y1, x2, y2, .. }
+        | Shape::Bus { x1, y1, x2, y2, .. }
+        | Shape::Pin { x1, y1, x2, y2, .. } => {
+            let from = Point { x: *x1, y: *y1 };
+            let to = Point { x: *x2, y: *y2 };
+            let (from, to) = ends_after(motion, from, to)?;
+            let mut after = shape.clone()?;
+            put_first(&mut after, from);
+            put_second(&mut after, to);
+            Ok(after)
         }
-        Shape::Picture {
-            x,
-            y,
-            width,
-            height,
-            angle,
-            mirrored,
-            file,
-            embedded,
-        } => {
+        Shape::Picture { x, y, .. }
+        | Shape::Rect { x, y, .. }
+        | Shape::Circle { x, y, .. }
+        | Shape::Arc { x, y, .. } => {
             let point = point_after(motion, Point { x: *x, y: *y })?;
-            Ok(Shape::Picture {
-                x: point.x,
-                y: point.y,
-                width: *width,
-                height: *height,
-                angle: *angle,
-                mirrored: *mirrored,
-                file: file.clone()?,
-                embedded: embedded.clone()?,
-            })
-        }
-        Shape::Rect {
-            x,
-            y,
-            width,
-            height,
-            color,
-            stroke,
-            fill,
-        } => {
-            let point = point_after(motion, Point { x: *x, y: *y })?;
-            Ok(Shape::Rect {
-                x: point.x,
-                y: point.y,
-                width: *width,
-                height: *height,
-                color: *color,
-                stroke: *stroke,
-                fill: *fill,
-            })
-        }
-        Shape::Circle {
-            x,
-            y,
-            radius,
-            color,
-            stroke,
-            fill,
-        } => {
-            let point = point_after(motion, Point { x: *x, y: *y })?;
-            Ok(Shape::Circle {
-                x: point.x,
-                y: point.y,
-                radius: *radius,
-                color: *color,
-                stroke: *stroke,
-                fill: *fill,
-            })
-        }
-        Shape::Arc {
-            x,
-            y,
-            radius,
-            start,
-            sweep,
-            color,
-            stroke,
-        } => {
-            let point = point_after(motion, Point { x: *x, y: *y })?;
-            Ok(Shape::Arc {
-                x: point.x,
-                y: point.y,
-                radius: *radius,
-                start: *start,
-                sweep: *sweep,
-                color: *color,
-                stroke: *stroke,
-            })
+            let mut after = shape.clone()?;
+            put_first(&mut after, point);
+            Ok(after)
         }
         Shape::Text(text) => Ok(Shape::Text(text_after(motion, text)?)),
-        Shape::Net {
-            x1,
-            y1,
-            x2,
-            y2,
-            color,
-        } => {
-            let (from, to) = ends_after(
-                motion,
-                Point { x: *x1, y: *y1 },
-                Point { x: *x2, y: *y2 },
-            )?;
-            Ok(Shape::Net {
-                x1: from.x,
-                y1: from.y,
-                x2: to.x,
-                y2: to.y,
-                color: *color,
-            })
-        }
-        Shape::Bus {
-            x1,
-            y1,
-            x2,
-            y2,
-            color,
-            ripper,
-        } => {
-            let (from, to) = ends_after(
-                motion,
-                Point { x: *x1, y: *y1 },
-                Point { x: *x2, y: *y2 },
-            )?;
-            Ok(Shape::Bus {
-                x1: from.x,
-                y1: from.y,
-                x2: to.x,
-                y2: to.y,
-                color: *color,
-                ripper: *ripper,
-            })
-        }
-        Shape::Pin {
-            x1,
-            y1,
-            x2,
-            y2,
-            color,
-            bus,
-            whichend,
-        } => {
-            let (from, to) = ends_after(
-                motion,
-                Point { x: *x1, y: *y1 },
-                Point { x: *x2, y: *y2 },
-            )?;
-            Ok(Shape::Pin {
-                x1: from.x,
-                y1: from.y,
-                x2: to.x,
-                y2: to.y,
-                color: *color,
-                bus: *bus,
-                whichend: *whichend,
-            })
-        }
-        Shape::Path {
-            color,
-            stroke,
-            fill,
-            content,
-        } => Ok(Shape::Path {
-            color: *color,
-            stroke: *stroke,
-            fill: *fill,
-            content: content.clone()?,
-        }),
+        Shape::Path { .. } => Ok(shape.clone()?),
     }
 }
 
