@@ -1,21 +1,28 @@
 // Cells: which count, which can't be set, and what they set.
-ghost use Rattle.std.specs.Prelude.{◌≡◌, ◌+◌, ◌≤◌, ◌&&◌, None, false, true, IfOk, OnOk};
-ghost use Rattle.std.specs.Prelude.{is_some, length, not, zip};
+ghost use Rattle.std.specs.Prelude.{◌≡◌, ◌+◌, ◌≤◌, ◌&&◌, ◌++◌, ◌∷◌, [], None, false, true, IfOk, OnOk};
+ghost use Rattle.std.specs.Prelude.{◌<◌, get_or, is_some, length, nat_lt, not};
 ghost use Rattle.std.specs.List.{filter, fold, list_all, list_any};
-ghost use Rattle.std.specs.String.{string_bytes};
+ghost use Rattle.std.specs.Str.{is_utf8};
+ghost use Rattle.csv.specs.Records.{fields_of};
 ghost use Rattle.geda_geom.specs.Placing.{IsOnSheet};
+ghost use Rattle.geda_model.specs.Limits.{most_lines};
+ghost use Rattle.geda_model.specs.Ranges.{line_feeds};
 ghost use Rattle.attr_rules.specs.Attributes.{value_if};
-ghost use Rattle.attr_rules.specs.Splits.{split_of};
+ghost use Rattle.attr_rules.specs.Splits.{split_of, starts_well};
 ghost use Rattle.edit_attr.specs.Attributes.{attr_line, place_of};
 ghost use Rattle.edit_attr.specs.FirstPoints.{first_point};
-ghost use Rattle.attr_table.specs.Cells.{can_be_attr, can_be_set, counts, is_bad_cell, is_cr};
+ghost use Rattle.attr_table.specs.Cells.{can_be_set, cells_of, counts, is_bad_cell, is_cr};
 ghost use Rattle.attr_table.specs.Cells.{set_cell};
-ghost use Rattle.attr_table.specs.TableFaults.{first_column, second_column};
+ghost use Rattle.attr_table.specs.Filling.{Answers};
 ghost use Rattle.attr_table.specs.steps.LentTexts.{texts};
 ghost use Rattle.attr_table.specs.steps.Places.{ArePlaces, text_set, texts_set};
+ghost use Rattle.attr_table.specs.steps.Rows.{bad_value_of};
 
+use crate::fault::TableFault;
+use crate::fields::text_at;
+use crate::names::is_misspelled;
 use crate::places::value_of;
-use attr_rules::split_attr;
+use csv::ByteRecord;
 use edit_attr::{first_point, put_attr};
 use geda_geom::Point;
 use geda_model::{MOST_LINES, Object, Text, Texts, line_feeds};
@@ -38,28 +45,6 @@ impl<'a> Model for Cell<'a> {
     ghost view = { λ c. (c.name.now, c.value.now) };
 }
 
-/// The cells of fields, by the names of their columns.
-pub fn cells_of<'a>(
-    alloc: Global,
-    names: &[&'a str],
-    fields: &[&'a str],
-) -> Result<Vec<Cell<'a>>, AllocError>
-    ensures { IfOk result (λ cells. cells.items ≡ zip (texts names.now) (texts fields.now)) }
-{
-    let mut cells = Vec::with_capacity(alloc, names.len())?;
-    let mut names = names;
-    let mut fields = fields;
-    while let [name, later_names @ ..] = names {
-        let [value, later_fields @ ..] = fields else {
-            return Ok(cells);
-        };
-        cells.push(Cell { name, value })?;
-        names = later_names;
-        fields = later_fields;
-    }
-    Ok(cells)
-}
-
 /// Whether a cell counts: it is not empty, and differs from the present value of its name. It takes
 /// no memory.
 fn counts(object: &Object, firsts: &BTreeMap<&str, usize>, cell: &Cell<'_>) -> bool
@@ -72,95 +57,120 @@ fn counts(object: &Object, firsts: &BTreeMap<&str, usize>, cell: &Cell<'_>) -> b
     value_of(object.attrs.as_slice(), firsts, cell.name) != Some(cell.value)
 }
 
-/// The cells that count, where the places of the object's names are known.
+fn starts_well(value: &str) -> bool
+    ensures { result ≡ starts_well value.now }
+{
+    match value.as_bytes() {
+        [] => false,
+        [first, ..] => *first != b' ',
+    }
+}
+
+/// Whether `name=value` is an attribute of this name. It takes no memory.
+fn is_attr(name: &str, value: &str) -> bool
+    ensures { result
+        ≡ is_some (value_if name.now (split_of (attr_line name.now value.now))) }
+{
+    if is_misspelled(name) {
+        return false;
+    }
+    starts_well(value)
+}
+
+fn has_cr(text: &str) -> bool
+    ensures { result ≡ list_any is_cr text.now }
+{
+    text.as_bytes().iter().any(|byte| *byte == b'\r')
+}
+
+fn line_has_cr(name: &str, value: &str) -> bool
+    ensures { result ≡ list_any is_cr (attr_line name.now value.now) }
+{
+    if has_cr(name) {
+        return true;
+    }
+    has_cr(value)
+}
+
+/// Whether `name=value` has at most 10,000 lines. It takes no memory.
+#[tactic(auto, using(crate::proofs::LineLemmas::few_lines))]
+fn has_few_lines(name: &str, value: &str) -> bool
+    ensures { result ≡ nat_lt (line_feeds (attr_line name.now value.now)) most_lines }
+{
+    line_feeds(name).saturating_add(line_feeds(value)) < MOST_LINES
+}
+
+/// Whether a cell can be set. It takes no memory.
+fn can_be_set(cell: &Cell<'_>) -> bool
+    ensures { result ≡ can_be_set cell.now }
+{
+    is_attr(cell.name, cell.value)
+        && !line_has_cr(cell.name, cell.value)
+        && has_few_lines(cell.name, cell.value)
+}
+
+/// The cell of a record of texts in the column of a name.
+fn cell_at<'a>(names: &[&'a str], source: &'a ByteRecord, place: usize) -> Cell<'a>
+    requires place { place < length names.now }
+    requires texts { list_all is_utf8 (fields_of source.now) ≡ true }
+    ensures { result
+        ≡ (get_or (texts names.now) place [], get_or (fields_of source.now) (place + 1) []) }
+{
+    Cell {
+        name: names[place],
+        value: text_at(source, place + 1),
+    }
+}
+
+/// Puts a cell behind others, if it counts. Gives whether it doesn't, or can be set.
+fn put_counting<'a>(
+    object: &Object,
+    firsts: &BTreeMap<&str, usize>,
+    counting: &mut Vec<Cell<'a>>,
+    cell: Cell<'a>,
+) -> Result<bool, AllocError>
+    requires places { ArePlaces object.now.attrs firsts.now }
+    ensures good { IfOk result (λ good. good ≡ not (is_bad_cell object.now cell.entry)) }
+    ensures cells { IfOk result (λ good. good ≡ true → counting.new.items
+        ≡ counting.old.items ++ filter (counts object.now) (cell.entry ∷ [])) }
+{
+    if !counts(object, firsts, &cell) {
+        return Ok(true);
+    }
+    if !can_be_set(&cell) {
+        return Ok(false);
+    }
+    counting.push(cell)?;
+    Ok(true)
+}
+
+/// The cells of a record that count, where the places of the object's names are known. `BadValue`
+/// exactly where one that counts can't be set, with the least such column.
 pub fn counting<'a>(
     alloc: Global,
     object: &Object,
     firsts: &BTreeMap<&str, usize>,
-    cells: &[Cell<'a>],
-) -> Result<Vec<Cell<'a>>, AllocError>
-    requires { ArePlaces object.now.attrs firsts.now }
-    ensures { IfOk result (λ counting. counting.items ≡ filter (counts object.now) cells.now) }
+    names: &[&'a str],
+    source: &'a ByteRecord,
+    row: u32,
+) -> Result<Vec<Cell<'a>>, TableFault>
+    requires places { ArePlaces object.now.attrs firsts.now }
+    requires few { length names.now + 1 ≤ 4294967295 }
+    requires texts { list_all is_utf8 (fields_of source.now) ≡ true }
+    requires width { length (fields_of source.now) ≡ length names.now + 1 }
+    ensures { Answers (λ v. v.items) result
+        (bad_value_of row object.now (cells_of (texts names.now) (fields_of source.now)))
+        (filter (counts object.now) (cells_of (texts names.now) (fields_of source.now))) }
 {
     let mut counting = Vec::new(alloc);
-    for cell in cells {
-        if counts(object, firsts, cell) {
-            let Cell { name, value } = *cell;
-            counting.push(Cell { name, value })?;
+    for place in 0..names.len() {
+        let cell = cell_at(names, source, place);
+        if !put_counting(object, firsts, &mut counting, cell)? {
+            let column = place as u32 + 2;
+            return Err(TableFault::BadValue { row, column });
         }
     }
     Ok(counting)
-}
-
-fn attr_line(alloc: Global, name: &str, value: &str) -> Result<String, AllocError>
-    ensures { IfOk result (λ line. string_bytes line ≡ attr_line name.now value.now) }
-{
-    format!(in alloc; "{name}={value}")
-}
-
-fn is_named(line: &str, name: &str) -> bool
-    ensures { result ≡ is_some (value_if name.now (split_of line.now)) }
-{
-    match split_attr(line) {
-        Some((own, _)) => own == name,
-        None => false,
-    }
-}
-
-fn has_cr(line: &str) -> bool
-    ensures { result ≡ list_any is_cr line.now }
-{
-    line.as_bytes().iter().any(|byte| *byte == b'\r')
-}
-
-fn can_be_attr(name: &str, line: &str) -> bool
-    ensures { result ≡ can_be_attr name.now line.now }
-{
-    is_named(line, name) && !has_cr(line) && line_feeds(line) < MOST_LINES
-}
-
-fn can_be_set(alloc: Global, cell: &Cell<'_>) -> Result<bool, AllocError>
-    ensures { IfOk result (λ b. b ≡ can_be_set cell.now) }
-{
-    let line = attr_line(alloc, cell.name, cell.value)?;
-    Ok(can_be_attr(cell.name, line.as_str()))
-}
-
-fn is_bad_cell(
-    alloc: Global,
-    object: &Object,
-    firsts: &BTreeMap<&str, usize>,
-    cell: &Cell<'_>,
-) -> Result<bool, AllocError>
-    requires { ArePlaces object.now.attrs firsts.now }
-    ensures { IfOk result (λ b. b ≡ is_bad_cell object.now cell.now) }
-{
-    if !counts(object, firsts, cell) {
-        return Ok(false);
-    }
-    Ok(!can_be_set(alloc, cell)?)
-}
-
-/// The least column with a cell that counts and can't be set.
-pub fn bad_value_column(
-    alloc: Global,
-    object: &Object,
-    firsts: &BTreeMap<&str, usize>,
-    cells: &[Cell<'_>],
-) -> Result<Option<u32>, AllocError>
-    requires places { ArePlaces object.now.attrs firsts.now }
-    requires few { length cells.now + 1 ≤ 4294967295 }
-    ensures { IfOk result
-        (λ column. column ≡ first_column (is_bad_cell object.now) second_column cells.now) }
-{
-    let mut column = 1;
-    for cell in cells {
-        column += 1;
-        if is_bad_cell(alloc, object, firsts, cell)? {
-            return Ok(Some(column));
-        }
-    }
-    Ok(None)
 }
 
 /// Puts a value that can be set into the text at the place of its name, or behind the others.

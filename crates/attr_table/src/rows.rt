@@ -1,8 +1,10 @@
 // The records behind the first.
-ghost use Rattle.std.specs.Prelude.{◌≡◌, ◌+◌, ◌≤◌, ◌||◌, ◌∷◌, ◌++◌, [], ℕ, OnOk, length};
+ghost use Rattle.std.specs.Prelude.{◌≡◌, ◌+◌, ◌≤◌, ◌||◌, ◌∷◌, ◌++◌, [], ℕ, true, OnOk, length};
 ghost use Rattle.std.specs.Prelude.{option_to_list};
-ghost use Rattle.std.specs.List.{filter_map};
+ghost use Rattle.std.specs.List.{filter_map, list_all};
+ghost use Rattle.std.specs.Str.{is_utf8};
 ghost use Rattle.csv.specs.Records.{fields_of};
+ghost use Rattle.attr_table.specs.Cells.{cells_of};
 ghost use Rattle.attr_table.specs.Filling.{Answers, filled_by, if_counts};
 ghost use Rattle.attr_table.specs.TableFaults.{first_fault, names_id};
 ghost use Rattle.attr_table.specs.Records.{first_field};
@@ -11,9 +13,9 @@ ghost use Rattle.attr_table.specs.steps.LentTexts.{texts};
 ghost use Rattle.attr_table.specs.steps.Rows.{bad_value_of, faults_after, field_faults_if, has_id};
 ghost use Rattle.attr_table.specs.steps.Rows.{is_refused_id, records_now, row_faults_if};
 
-use crate::cells::{Cell, bad_value_column, cells_of, counting, set_cells};
+use crate::cells::{counting, set_cells};
 use crate::fault::TableFault;
-use crate::fields::texts_of;
+use crate::fields::{are_texts, text_at};
 use crate::ids::take_component;
 use crate::places::places_of;
 use csv::ByteRecord;
@@ -22,59 +24,61 @@ use project_model::Project;
 use std::alloc::Global;
 use std::collections::BTreeSet;
 
-/// A component with its cells set, if one of them counts. `BadValue` exactly where one that counts
-/// can't be set.
-fn fill_component<'a>(
+/// A component with the cells of a record set, if one of them counts. `BadValue` exactly where one
+/// that counts can't be set.
+fn fill_component(
     alloc: Global,
     id: u32,
-    object: &'a Object,
-    cells: &[Cell<'a>],
+    object: &Object,
+    names: &[&str],
+    source: &ByteRecord,
     row: u32,
 ) -> Result<Option<(u32, Object)>, TableFault>
-    requires few { length cells.now + 1 ≤ 4294967295 }
-    ensures { Answers (λ o. o) result (bad_value_of row object.now cells.now)
-        (if_counts cells.now id object.now) }
+    requires few { length names.now + 1 ≤ 4294967295 }
+    requires texts { list_all is_utf8 (fields_of source.now) ≡ true }
+    requires width { length (fields_of source.now) ≡ length names.now + 1 }
+    ensures { Answers (λ o. o) result
+        (bad_value_of row object.now (cells_of (texts names.now) (fields_of source.now)))
+        (if_counts (cells_of (texts names.now) (fields_of source.now)) id object.now) }
 {
     let firsts = places_of(alloc, object.attrs.as_slice())?;
-    if let Some(column) = bad_value_column(alloc, object, &firsts, cells)? {
-        return Err(TableFault::BadValue { row, column });
+    match counting(alloc, object, &firsts, names, source, row) {
+        Ok(counting) => {
+            if counting.is_empty() {
+                return Ok(None);
+            }
+            let made = set_cells(alloc, object, firsts, counting.as_slice())?;
+            Ok(Some((id, made)))
+        }
+        Err(fault) => Err(fault),
     }
-    let counting = counting(alloc, object, &firsts, cells)?;
-    if counting.is_empty() {
-        return Ok(None);
-    }
-    let made = set_cells(alloc, object, firsts, counting.as_slice())?;
-    Ok(Some((id, made)))
 }
 
-/// What the fields of a record make of their component.
-fn fill_fields(
+/// What a record of texts makes of its component.
+fn fill_texts(
     alloc: Global,
     project: &Project,
     sheet: &Name,
     names: &[&str],
     seen: &mut BTreeSet<u32>,
-    fields: &[&str],
+    source: &ByteRecord,
     row: u32,
 ) -> Result<Option<(u32, Object)>, TableFault>
     requires few { length names.now + 1 ≤ 4294967295 }
+    requires texts { list_all is_utf8 (fields_of source.now) ≡ true }
     ensures answer { Answers (λ o. o) result
         (first_fault (field_faults_if project.now.contents sheet.now (texts names.now) row
-        (is_refused_id project.now.contents sheet.now seen.old (first_field (texts fields.now)))
-        (texts fields.now)))
-        (filled_by project.now.contents sheet.now (texts names.now) (texts fields.now)) }
+        (is_refused_id project.now.contents sheet.now seen.old (first_field (fields_of source.now)))
+        (fields_of source.now)))
+        (filled_by project.now.contents sheet.now (texts names.now) (fields_of source.now)) }
     ensures ids { OnOk result
-        ((q : ℕ) → has_id q seen.new ≡ (has_id q seen.old || names_id q (texts fields.now))) }
+        ((q : ℕ) → has_id q seen.new ≡ (has_id q seen.old || names_id q (fields_of source.now))) }
 {
-    let Some((field, later)) = fields.split_first() else {
-        return Err(TableFault::BadWidth { row });
-    };
-    if later.len() != names.len() {
+    if source.len() != names.len() + 1 {
         return Err(TableFault::BadWidth { row });
     }
-    let (id, object) = take_component(project, sheet, seen, field, row)?;
-    let cells = cells_of(alloc, names, later)?;
-    fill_component(alloc, id, object, cells.as_slice(), row)
+    let (id, object) = take_component(project, sheet, seen, text_at(source, 0), row)?;
+    fill_component(alloc, id, object, names, source, row)
 }
 
 /// What a record makes of its component.
@@ -96,8 +100,10 @@ fn fill_row(
     ensures ids { OnOk result
         ((q : ℕ) → has_id q seen.new ≡ (has_id q seen.old || names_id q (fields_of source.now))) }
 {
-    let fields = texts_of(alloc, source, row)?;
-    fill_fields(alloc, project, sheet, names, seen, fields.as_slice(), row)
+    if !are_texts(source) {
+        return Err(TableFault::NotUtf8 { row });
+    }
+    fill_texts(alloc, project, sheet, names, seen, source, row)
 }
 
 /// Puts what a record makes of its component behind the others.
