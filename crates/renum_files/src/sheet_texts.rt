@@ -1,8 +1,7 @@
 // The sheets of a project as files, and how much text the project has.
-ghost use Rattle.std.specs.Prelude.{◌≡◌, ◌++◌, ◌-◌, ◌^◌, IfOk, OnOk, map, min};
+ghost use Rattle.std.specs.Prelude.{◌≡◌, ◌-◌, ◌^◌, IfOk, OnOk, map, min};
 ghost use Rattle.std.specs.FinMap.{entries, get};
 ghost use Rattle.std.specs.List.{filter_map, sum_by};
-ghost use Rattle.geda_grammar.specs.Canonical.{object_text};
 ghost use Rattle.project_files.specs.Measures.{symbols_text};
 ghost use Rattle.project_files.specs.MemoryFolder.{files_in};
 ghost use Rattle.project_model.specs.Tables.{row_now};
@@ -12,7 +11,7 @@ ghost use Rattle.renum_files.specs.steps.Rows.{row_bytes};
 
 use crate::file_text::FileText;
 use geda_model::{MOST_PROJECT_TEXT, Name, Object};
-use geda_write::{head_text, object_size, object_text};
+use geda_write::{head_text, object_size, put_object_text};
 use project_model::{Placed, Project};
 use std::alloc::{AllocError, Global};
 use std::collections::{BTreeMap, BTreeSet};
@@ -51,31 +50,18 @@ fn head_texts(
     Ok(texts)
 }
 
-/// Puts the canonical text of an object behind another text.
-fn put_text(alloc: Global, text: &mut Vec<u8>, object: &Object) -> Result<(), AllocError>
-    ensures { OnOk result (text.new.items ≡ text.old.items ++ object_text object.now) }
-{
-    text.append(&mut object_text(alloc, object)?)?;
-    Ok(())
-}
-
 /// Puts the canonical text of an object behind that of its sheet, if the sheet is there.
-fn put_object(
-    alloc: Global,
-    texts: &mut BTreeMap<Name, Vec<u8>>,
-    placed: &Placed,
-) -> Result<(), AllocError>
+fn put_object(texts: &mut BTreeMap<Name, Vec<u8>>, placed: &Placed) -> Result<(), AllocError>
     ensures { OnOk result (files_in texts.new ≡ map (with_object placed.now) (files_in texts.old)) }
 {
     if let Some(text) = texts.get_mut(&placed.sheet) {
-        return put_text(alloc, text, &placed.object);
+        return put_object_text(text, &placed.object);
     }
     Ok(())
 }
 
 /// Puts the canonical texts of objects, each behind that of its sheet, if the sheet is there.
 fn put_objects(
-    alloc: Global,
     texts: &mut BTreeMap<Name, Vec<u8>>,
     rows: &[(u32, &Placed)],
 ) -> Result<(), AllocError>
@@ -83,7 +69,7 @@ fn put_objects(
         (files_in texts.new ≡ with_objects (map row_now rows.now) (files_in texts.old)) }
 {
     for row in rows {
-        put_object(alloc, texts, row.1)?;
+        put_object(texts, row.1)?;
     }
     Ok(())
 }
@@ -112,7 +98,7 @@ pub fn sheet_files(
         files.items ≡ filter_map (sheet_file project.now.contents) names.now.keys) }
 {
     let mut texts = head_texts(alloc, project, names)?;
-    put_objects(alloc, &mut texts, rows)?;
+    put_objects(&mut texts, rows)?;
     files_of(alloc, texts)
 }
 

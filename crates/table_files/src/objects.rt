@@ -11,7 +11,7 @@ ghost use Rattle.table_files.specs.steps.Objects.{objects_now, row_bytes, with_c
 ghost use Rattle.table_files.specs.steps.Room.{IsInItsRanges};
 
 use geda_model::{Head, MOST_FILE_BYTES, Name, Object};
-use geda_write::{head_text, object_text};
+use geda_write::{head_text, put_object_text};
 use project_files::object_bound;
 use project_model::Placed;
 use renum_files::FileText;
@@ -138,20 +138,13 @@ pub(crate) fn put_components<'a>(objects: &mut Vec<&'a Object>, components: &'a 
     }
 }
 
-/// Puts the canonical text of an object behind another text.
-fn put_text(alloc: Global, text: &mut Vec<u8>, object: &Object) -> Result<(), AllocError>
-    ensures { OnOk result (text.new.items ≡ text.old.items ++ object_text object.now) }
-{
-    text.append(&mut object_text(alloc, object)?)?;
-    Ok(())
-}
-
-fn put_texts(alloc: Global, text: &mut Vec<u8>, objects: &[&Object]) -> Result<(), AllocError>
+/// Puts the canonical texts of objects behind another text.
+fn put_texts(text: &mut Vec<u8>, objects: &[&Object]) -> Result<(), AllocError>
     ensures { OnOk result (text.new.items
         ≡ text.old.items ++ flat_map object_text (objects_now objects.now)) }
 {
     for object in objects {
-        put_text(alloc, text, object)?;
+        put_object_text(text, object)?;
     }
     Ok(())
 }
@@ -171,7 +164,7 @@ pub(crate) fn files_of(
         return Ok(files);
     };
     let mut text = head_text(alloc, head)?;
-    put_texts(alloc, &mut text, objects)?;
+    put_texts(&mut text, objects)?;
     let name = sheet.clone()?;
     files.push(FileText { name, text })?;
     Ok(files)

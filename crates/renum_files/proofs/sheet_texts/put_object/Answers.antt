@@ -9,11 +9,11 @@ use Rattle.renum_files.proofs.sheet_texts.put_object.Goals as goal
 pub returns-in-Some : goal.returns-in-Some
 returns-in-Some c =
     let es = c.args.texts.now.entries in
-    let text = c.put_text.new.text in
+    let text = c.put_object_text.new.text in
     let known : Some c.in-Some.text.now ≡ get by_bytes c.args.texts.now c.args.placed.now.sheet = c.in-Some.ensures.value in
     on_ok
     (λ made. ap (map seen) (c.get_mut.follows.holds text).0 ∙ one_grown c.args.placed.now es c.in-Some.text.now text c.get_mut.ensures.ordered known made)
-    c.put_text.result c.put_text.ensures
+    c.put_object_text.result c.put_object_text.ensures.text
 
 pub returns : goal.returns
 returns c =
