@@ -222,15 +222,7 @@ impl<K: Keeper, B: HallName, S: ShowsBoard<B>, R: Wait + Drop> Pen<K, B, S, R> {
                     front,
                 }
             }
-            Reply::Repeat {
-                serial,
-                first_id,
-                front,
-            } => Reply::Repeat {
-                serial,
-                first_id,
-                front,
-            },
+            repeat @ Reply::Repeat { .. } => repeat,
             Reply::Refused { fault, front } => Reply::Refused { fault, front },
             Reply::KeeperFault { front } => {
                 self.charge(&mut seat.allowance);

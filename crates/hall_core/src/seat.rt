@@ -130,8 +130,8 @@ impl<B: HallName, S: ShowsBoard<B>> Seat<B, S> {
         Some((front, answer))
     }
 
-    /// The prefix that is published, which holds all that this seat has seen. What it has seen stays.
-    /// It takes no lock, does not wait, and takes no memory.
+    /// The prefix that is published, which holds all that this seat has seen. What it has seen
+    /// stays. It takes no lock, does not wait, and takes no memory.
     ///
     /// `None` only where the count of refusals rose.
     pub fn published(&mut self) -> Option<Prefix<B>>
@@ -144,8 +144,8 @@ impl<B: HallName, S: ShowsBoard<B>> Seat<B, S> {
         Some(told)
     }
 
-    /// Sees what it is told, where that holds all that it had seen, and says whether it does. It takes
-    /// no lock and no memory.
+    /// Sees what it is told, where that holds all that it had seen, and says whether it does. It
+    /// takes no lock and no memory.
     ///
     /// False only where the count of refusals rose; what it has seen is then as before.
     pub fn learn(&mut self, told: &Prefix<B>) -> bool

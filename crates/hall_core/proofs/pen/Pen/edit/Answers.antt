@@ -23,7 +23,8 @@ returns-in-Repeat-clause-edits g c =
     let learned = c.if-not-learn.ensures.learned in
     let seen : c.learn.new.self.seen ≡ c.catch_up.new.self.history = search rules in
     let begins : IsPrefix c.args.seat.now.seen c.learn.new.self.seen = subst (λ (l : List EntryData). IsPrefix c.args.seat.now.seen l) (sym learned.0) learned.1 in
-    edits_repeat c.args.seat.now c.learn.new.self c.catch_up.new.self c.step.new.self c.args.entry seen begins c.in-Repeat.serial c.in-Repeat.first_id c.in-Repeat.front learned.2 c.in-Repeat.ensures
+    let is : c.step.result ≡ replies.Repeat c.in-Repeat.serial c.in-Repeat.first_id c.in-Repeat.front = search rules in
+    rw is (edits_repeat c.args.seat.now c.learn.new.self c.catch_up.new.self c.step.new.self c.args.entry seen begins c.in-Repeat.serial c.in-Repeat.first_id c.in-Repeat.front learned.2 c.in-Repeat.ensures)
 
 pub returns-in-Refused-clause-edits : goal.returns-in-Refused-clause-edits
 returns-in-Refused-clause-edits g c =
