@@ -2,9 +2,9 @@
 //! of those below them, `gafd drc FILE...` what the check finds on them, and `gafd export FILE` the
 //! canonical text of a schematic or of a symbol. `gafd table SHEET` prints the attributes of a
 //! schematic as a table. `gafd renumber FILE...` gives numbers to components without one, in the
-//! files, and `gafd fill SHEET TABLE` puts a table back. `gafd serve ADDRESS STORE` serves a history
-//! of edits over HTTP, whose rows are in a folder or in a database, and `gafd store STORE DB`
-//! copies one into a database.
+//! files, and `gafd fill SHEET TABLE` puts a table back. `gafd serve ADDRESS STORE` serves a
+//! history of edits over HTTP, whose rows are in a folder or in a database, and `gafd store STORE
+//! DB` copies one into a database.
 //!
 //! `gafd_run::run` is all of the program, over anything outside; `main` makes the real ones.
 #![tactic(auto)]

@@ -113,6 +113,13 @@ fn table_kind_name(kind: TableKind) -> &'static str
     }
 }
 
+/// The line of a file, of which something is said.
+fn file_line(alloc: Global, file: &str, said: &str) -> Result<CowStr<'static>, AllocError>
+    ensures { IfOk result (λ line. cow_str_bytes line ≡ codes "gafd: " ++ file.now ++ said.now) }
+{
+    Ok(CowStr::Owned(format!(in alloc; "gafd: {file}{said}")?))
+}
+
 /// The line of a sheet of which an edit is refused.
 fn edit_line(alloc: Global, file: &str, kind: &str) -> Result<String, AllocError>
     ensures { IfOk result (λ text. string_bytes text
@@ -161,10 +168,7 @@ fn error_line(alloc: Global, fault: &RunFault) -> Result<CowStr<'static>, AllocE
     ensures made { IsErr result → TakesMemory fault.now }
 {
     match fault {
-        RunFault::Missing { file } => {
-            let file = file.as_str();
-            Ok(CowStr::Owned(format!(in alloc; "gafd: {file}: missing\n")?))
-        }
+        RunFault::Missing { file } => file_line(alloc, file.as_str(), ": missing\n"),
         RunFault::Refused { file, line, kind } => {
             let text = refused_line(alloc, file.as_str(), *line, kind_name(*kind))?;
             Ok(CowStr::Owned(text))
@@ -177,14 +181,8 @@ fn error_line(alloc: Global, fault: &RunFault) -> Result<CowStr<'static>, AllocE
             let text = refused_line(alloc, file.as_str(), *row, table_kind_name(*kind))?;
             Ok(CowStr::Owned(text))
         }
-        RunFault::BadToml { file } => {
-            let file = file.as_str();
-            Ok(CowStr::Owned(format!(in alloc; "gafd: {file}: BadToml\n")?))
-        }
-        RunFault::BadRows { file } => {
-            let file = file.as_str();
-            Ok(CowStr::Owned(format!(in alloc; "gafd: {file}: BadRows\n")?))
-        }
+        RunFault::BadToml { file } => file_line(alloc, file.as_str(), ": BadToml\n"),
+        RunFault::BadRows { file } => file_line(alloc, file.as_str(), ": BadRows\n"),
         RunFault::TooManyObjects => Ok(CowStr::Borrowed("gafd: TooManyObjects\n")),
         RunFault::ProjectFull => Ok(CowStr::Borrowed("gafd: ProjectFull\n")),
         RunFault::TooManyInstances => Ok(CowStr::Borrowed("gafd: TooManyInstances\n")),

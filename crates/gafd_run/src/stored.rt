@@ -12,8 +12,8 @@ use sinks::Sink;
 use std::alloc::Global;
 use store_copy::store as copy_store;
 
-/// Copies a store into a database, and answers the status with which that ends. For a fault its line
-/// goes to `err`.
+/// Copies a store into a database, and answers the status with which that ends. For a fault its
+/// line goes to `err`.
 #[tactic(auto, using(crate::proofs::StoringLemmas::storing_reported))]
 pub fn stored<O: Sink, E: Sink, K: Keeper, D: Keeper>(
     alloc: Global,
