@@ -1,5 +1,5 @@
-// What a case asks: a command, the connections that come, the rows of the store and of the database,
-// the calls that fail, and the call of the keeper that waits:
+// What a case asks: a command, the connections that come, the rows of the store and of the
+// database, the calls that fail, and the call of the keeper that waits:
 // `serve here store with ann bob over rows failing keeper:4 holding 8 until bob 1`,
 // `store here there over rows into others failing database:2`.
 use crate::held_keeper::HeldCall;

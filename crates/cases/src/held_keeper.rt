@@ -1,5 +1,5 @@
-// A keeper in memory that notes the store which it is given, and of which one call waits. It tells no
-// rows.
+// A keeper in memory that notes the store which it is given, and of which one call waits. It tells
+// no rows.
 ghost use Rattle.std.specs.Prelude.{◌≡◌, None};
 ghost use Rattle.geda_defs.specs.Causes.{HasCause};
 
@@ -18,8 +18,8 @@ pub struct HeldCall {
     pub until: Milestone,
 }
 
-/// A keeper in memory that tells all when a call begins, and notes its store under its name. One call
-/// may wait then, and fails where it waits in vain.
+/// A keeper in memory that tells all when a call begins, and notes its store under its name. One
+/// call may wait then, and fails where it waits in vain.
 #[derive(Drop)]
 pub struct HeldKeeper<'a, W: Wait + Clock> {
     name: &'static str,

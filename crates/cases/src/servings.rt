@@ -109,32 +109,23 @@ fn links_of<'a, W: Wait + Clock>(
     Ok(links)
 }
 
-/// What a run has beside its folder and its outputs: connections, and a keeper whose steps stand at
-/// a place.
+/// What a run has beside its folder and its outputs: a gate, the keeper of its store and that of
+/// its database.
 #[derive(Drop)]
 struct Wires<'a, W: Wait + Clock> {
+    gate: NotedGate<'a, SharedLink<'a, W>, W>,
+    keeper: HeldKeeper<'a, W>,
+    database: HeldKeeper<'a, W>,
+}
+
+/// What a run has, with these connections, and with a keeper whose steps stand at a place.
+fn wires_of<'a, W: Wait + Clock>(
+    rt: &'a W,
     start: Start,
     links: Vec<SharedLink<'a, W>>,
     traces: &'a Mutex<Traces>,
     place: usize,
-}
-
-/// Runs the program, and answers its status. Nothing in it can fail, and what goes away is given to
-/// `drop`, which is proved once for a type.
-fn run_with<'a, W: Threads + Wait + Clock + Sync>(
-    rt: &'a W,
-    alloc: Global,
-    arguments: &[String],
-    folder: &mut MemoryFolder,
-    outputs: &mut Outputs,
-    wires: Wires<'a, W>,
-) -> u8 {
-    let Wires {
-        start,
-        links,
-        traces,
-        place,
-    } = wires;
+) -> Wires<'a, W> {
     let Start {
         keeper,
         database,
@@ -142,11 +133,30 @@ fn run_with<'a, W: Threads + Wait + Clock + Sync>(
         held,
     } = start;
     let gate = MemoryGate::new(rt, links, failing_binds);
-    let mut gate = NotedGate::new(gate, Progress::new(rt, traces));
-    let mut places = Places::new();
-    let keeper = HeldKeeper::new("keeper", keeper, Progress::new(rt, traces), place, held);
     let progress = Progress::new(rt, traces);
-    let database = HeldKeeper::new("database", database, progress, NO_PLACE, None);
+    Wires {
+        gate: NotedGate::new(gate, Progress::new(rt, traces)),
+        keeper: HeldKeeper::new("keeper", keeper, Progress::new(rt, traces), place, held),
+        database: HeldKeeper::new("database", database, progress, NO_PLACE, None),
+    }
+}
+
+/// Runs the program, and answers its status. Nothing in it can fail, and what goes away is given to
+/// `drop`, which is proved once for a type.
+fn run_with<W: Threads + Wait + Clock + Sync>(
+    rt: &W,
+    alloc: Global,
+    arguments: &[String],
+    folder: &mut MemoryFolder,
+    outputs: &mut Outputs,
+    wires: Wires<'_, W>,
+) -> u8 {
+    let Wires {
+        mut gate,
+        keeper,
+        database,
+    } = wires;
+    let mut places = Places::new();
     let status = run(
         rt,
         alloc,
@@ -174,17 +184,13 @@ pub fn status_in<W: Threads + Wait + Clock + Sync>(
     outputs: &mut Outputs,
 ) -> Result<u8, CaseFault> {
     let traces = traces_of(alloc, "")?;
-    let wires = Wires {
-        start: Start {
-            keeper: MemoryKeeper::new(Vec::new(alloc), Vec::new(alloc)),
-            database: MemoryKeeper::new(Vec::new(alloc), Vec::new(alloc)),
-            failing_binds: Vec::new(alloc),
-            held: None,
-        },
-        links: Vec::new(alloc),
-        traces: &traces,
-        place: 0,
+    let start = Start {
+        keeper: MemoryKeeper::new(Vec::new(alloc), Vec::new(alloc)),
+        database: MemoryKeeper::new(Vec::new(alloc), Vec::new(alloc)),
+        failing_binds: Vec::new(alloc),
+        held: None,
     };
+    let wires = wires_of(rt, start, Vec::new(alloc), &traces, 0);
     Ok(run_with(rt, alloc, arguments, folder, outputs, wires))
 }
 
@@ -200,12 +206,7 @@ fn status_of<W: Threads + Wait + Clock + Sync>(
     let arguments = arguments_of(alloc, case.words)?;
     let start = start_of(alloc, case, files)?;
     let links = links_of(rt, alloc, case.links, files, traces)?;
-    let wires = Wires {
-        start,
-        links,
-        traces,
-        place: name_count(case.links)?,
-    };
+    let wires = wires_of(rt, start, links, traces, name_count(case.links)?);
     let mut folder = MemoryFolder::new(BTreeMap::new(alloc), Vec::new(alloc));
     let status = run_with(rt, alloc, &arguments, &mut folder, outputs, wires);
     drop(folder);
