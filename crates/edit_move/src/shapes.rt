@@ -29,7 +29,7 @@ pub(crate) fn shape_after(motion: Motion, shape: &Shape) -> Result<Shape, MoveFa
             let from = Point { x: *x1, y: *y1 };
             let to = Point { x: *x2, y: *y2 };
             let (from, to) = ends_after(motion, from, to)?;
-            let mut after = shape.clone()?;
+            let mut after = shape.copy()?;
             put_first(&mut after, from);
             put_second(&mut after, to);
             Ok(after)
@@ -39,12 +39,12 @@ pub(crate) fn shape_after(motion: Motion, shape: &Shape) -> Result<Shape, MoveFa
         | Shape::Circle { x, y, .. }
         | Shape::Arc { x, y, .. } => {
             let point = point_after(motion, Point { x: *x, y: *y })?;
-            let mut after = shape.clone()?;
+            let mut after = shape.copy()?;
             put_first(&mut after, point);
             Ok(after)
         }
         Shape::Text(text) => Ok(Shape::Text(text_after(motion, text)?)),
-        Shape::Path { .. } => Ok(shape.clone()?),
+        Shape::Path { .. } => Ok(shape.copy()?),
     }
 }
 

@@ -68,7 +68,7 @@ impl Clone for Body {
 
     fn clone(&self) -> Result<Body, AllocError> {
         match self {
-            Body::Shape(shape) => Ok(Body::Shape(shape.clone()?)),
+            Body::Shape(shape) => Ok(Body::Shape(shape.copy()?)),
             Body::Component(component) => Ok(Body::Component(component.clone()?)),
         }
     }

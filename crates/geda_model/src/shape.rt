@@ -64,7 +64,7 @@ impl Model for Fill {
 
 /// What is drawn. Points are in mils, -200,000 to 200,000; every other number is -1,000,000 to
 /// 1,000,000 where nothing else is said.
-#[derive(Debug, Drop)]
+#[derive(Clone, Debug, Drop)]
 pub enum Shape {
     /// A line that joins nothing, letter `L`.
     Straight {
@@ -155,154 +155,14 @@ pub enum Shape {
     },
 }
 
-impl Clone for Shape {
-    ghost use Rattle.std.specs.Prelude.{◌≡◌};
+impl Shape {
+    ghost use Rattle.std.specs.Prelude.{◌≡◌, IfOk};
 
-    ghost is_clone = { λ x y. y ≡ x };
-
-    fn clone(&self) -> Result<Shape, AllocError> {
-        match self {
-            Shape::Straight {
-                x1,
-                y1,
-                x2,
-                y2,
-                color,
-                stroke,
-            } => Ok(Shape::Straight {
-                x1: *x1,
-                y1: *y1,
-                x2: *x2,
-                y2: *y2,
-                color: *color,
-                stroke: *stroke,
-            }),
-            Shape::Picture {
-                x,
-                y,
-                width,
-                height,
-                angle,
-                mirrored,
-                file,
-                embedded,
-            } => Ok(Shape::Picture {
-                x: *x,
-                y: *y,
-                width: *width,
-                height: *height,
-                angle: *angle,
-                mirrored: *mirrored,
-                file: file.clone()?,
-                embedded: embedded.clone()?,
-            }),
-            Shape::Rect {
-                x,
-                y,
-                width,
-                height,
-                color,
-                stroke,
-                fill,
-            } => Ok(Shape::Rect {
-                x: *x,
-                y: *y,
-                width: *width,
-                height: *height,
-                color: *color,
-                stroke: *stroke,
-                fill: *fill,
-            }),
-            Shape::Circle {
-                x,
-                y,
-                radius,
-                color,
-                stroke,
-                fill,
-            } => Ok(Shape::Circle {
-                x: *x,
-                y: *y,
-                radius: *radius,
-                color: *color,
-                stroke: *stroke,
-                fill: *fill,
-            }),
-            Shape::Arc {
-                x,
-                y,
-                radius,
-                start,
-                sweep,
-                color,
-                stroke,
-            } => Ok(Shape::Arc {
-                x: *x,
-                y: *y,
-                radius: *radius,
-                start: *start,
-                sweep: *sweep,
-                color: *color,
-                stroke: *stroke,
-            }),
-            Shape::Net {
-                x1,
-                y1,
-                x2,
-                y2,
-                color,
-            } => Ok(Shape::Net {
-                x1: *x1,
-                y1: *y1,
-                x2: *x2,
-                y2: *y2,
-                color: *color,
-            }),
-            Shape::Bus {
-                x1,
-                y1,
-                x2,
-                y2,
-                color,
-                ripper,
-            } => Ok(Shape::Bus {
-                x1: *x1,
-                y1: *y1,
-                x2: *x2,
-                y2: *y2,
-                color: *color,
-                ripper: *ripper,
-            }),
-            Shape::Pin {
-                x1,
-                y1,
-                x2,
-                y2,
-                color,
-                bus,
-                whichend,
-            } => Ok(Shape::Pin {
-                x1: *x1,
-                y1: *y1,
-                x2: *x2,
-                y2: *y2,
-                color: *color,
-                bus: *bus,
-                whichend: *whichend,
-            }),
-            Shape::Path {
-                color,
-                stroke,
-                fill,
-                content,
-            } => Ok(Shape::Path {
-                color: *color,
-                stroke: *stroke,
-                fill: *fill,
-                content: content.clone()?,
-            }),
-            Shape::Text(text) => Ok(Shape::Text(text.clone()?)),
-        }
+    /// An equal shape.
+    pub fn copy(&self) -> Result<Shape, AllocError>
+        ensures { IfOk result (λ shape. shape ≡ self.now) }
+    {
+        self.clone()
     }
 }
 
@@ -331,7 +191,7 @@ impl Clone for Part {
     ghost is_clone = { λ x y. y ≡ x };
 
     fn clone(&self) -> Result<Part, AllocError> {
-        let shape = self.shape.clone()?;
+        let shape = self.shape.copy()?;
         let attrs = self.attrs.clone()?;
         Ok(Part { shape, attrs })
     }

@@ -12,19 +12,18 @@ use std::marker::Model;
 /// UTF-8 text without LF. Lines are ordered by their bytes.
 #[derive(Debug, Drop)]
 pub struct Line {
-    text: String,
+    text: ShortText,
 }
 
 impl Model for Line {
     ghost use Rattle.std.specs.Prelude.{List, ℕ};
-    ghost use Rattle.std.specs.String.{string_bytes};
     ghost use Rattle.geda_model.specs.Names.{IsLine};
 
     ghost Value = { List ℕ };
 
-    ghost view = { λ w. string_bytes w.text };
+    ghost view = { λ w. w.text };
 
-    ghost invariant = { λ w. IsLine (string_bytes w.text) };
+    ghost invariant = { λ w. IsLine w.text };
 }
 
 fn are_line_bytes(bytes: &[u8]) -> bool
@@ -51,7 +50,7 @@ impl Line {
         if !is_line(text) {
             return Err(NameFault::NotAName);
         }
-        let text = String::from_str(alloc, text)?;
+        let text = ShortText::new(alloc, text)?;
         Ok(Line { text })
     }
 
