@@ -25,6 +25,7 @@ fn field<'a>(rest: &mut Fields<'a>) -> Result<&'a [u8], LineFault>
 }
 
 /// The next field as a number. It takes no memory.
+#[inline(always)]
 #[tactic(auto, unfolding(crate::specs::steps::Fields::whole_at))]
 fn any_number(rest: &mut Fields) -> Result<i32, LineFault>
     ensures { Gives (λ z. (z, rest.new)) result (whole_at rest.old) }
