@@ -1,5 +1,6 @@
 mod Outputs
 mod Contents
+mod ShapeColumns
 mod Canonical
 mod Heads
 pub mod CutLines

@@ -1,3 +1,4 @@
 -- Steps of the code; no public clause cites them.
 pub mod Output
 pub mod Texts
+pub mod Columns

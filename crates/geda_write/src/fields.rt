@@ -9,7 +9,7 @@ use crate::output::Output;
 use geda_model::{Fill, Stroke};
 
 #[tactic(auto, using(crate::proofs::Outputs::more_more))]
-fn put_number<O: Output>(out: &mut O, number: &i32) -> Result<(), O::Fault>
+pub(crate) fn put_number<O: Output>(out: &mut O, number: &i32) -> Result<(), O::Fault>
     ensures { Adds result (O.got out.old) (O.got out.new) (32 ∷ signed_decimal number.now) }
 {
     if *number < 0 {

@@ -1,18 +1,19 @@
-// Shapes: each by its line and the lines that follow it.
-ghost use Rattle.std.specs.Prelude.{◌≡◌, ◌++◌, ◌+◌, ◌<◌, pos};
+// Shapes: each by its letter, the columns of its line, and the lines that follow it.
+ghost use Rattle.std.specs.Prelude.{◌≡◌, ◌∷◌, ◌++◌, ◌+◌, ◌<◌, [], pos};
 ghost use Rattle.geda_defs.specs.Lines.{ended};
-ghost use Rattle.geda_grammar.specs.Rows.{fill_fields, stroke_fields};
+ghost use Rattle.geda_grammar.specs.Letters.{byte_of};
+ghost use Rattle.geda_grammar.specs.Rows.{letter_of_shape};
 ghost use Rattle.geda_grammar.specs.declared.row.Row.TheVariants.{Drawn};
 ghost use Rattle.geda_model.specs.Limits.{most_lines};
 ghost use Rattle.geda_model.specs.Ranges.{line_feeds};
 ghost use Rattle.geda_model.specs.Shapes.{IsEmbeddedData, ShapeIsInRange};
-ghost use Rattle.geda_model.specs.declared.shape.Shape.TheVariants as shapes;
+ghost use Rattle.geda_write.specs.steps.Columns.{color_fields, extent_fields, following_text, own_fields, place_fields, style_fields, text_own_fields};
 ghost use Rattle.geda_write.specs.steps.Output.{Adds};
-ghost use Rattle.geda_write.specs.steps.Texts.{data_text, fields_text, numbers_text, picture_line_text, row_text, shape_line_text, text_text};
+ghost use Rattle.geda_write.specs.steps.Texts.{data_text, fields_text, row_text, text_text};
 
-use crate::fields::{put_fill, put_numbers, put_stroke};
+use crate::fields::{put_fill, put_number, put_numbers, put_stroke};
 use crate::output::Output;
-use geda_model::{Block, Fill, Line, Shape, Stroke, Text, line_feeds};
+use geda_model::{Block, Shape, Text, line_feeds};
 
 #[tactic(auto, using(crate::proofs::Outputs::more_more))]
 pub(crate) fn put_line<O: Output>(out: &mut O, line: &str) -> Result<(), O::Fault>
@@ -22,50 +23,6 @@ pub(crate) fn put_line<O: Output>(out: &mut O, line: &str) -> Result<(), O::Faul
     out.piece("\n")
 }
 
-#[tactic(auto, using(crate::proofs::Outputs::more_more))]
-fn put_plain<O: Output>(out: &mut O, letter: &str, numbers: &[i32]) -> Result<(), O::Fault>
-    ensures { Adds result (O.got out.old) (O.got out.new)
-        (ended (letter.now ++ numbers_text numbers.now)) }
-{
-    out.piece(letter)?;
-    put_numbers(out, numbers)?;
-    out.piece("\n")
-}
-
-#[tactic(auto, using(crate::proofs::Outputs::more_more))]
-fn put_stroked<O: Output>(
-    out: &mut O,
-    letter: &str,
-    numbers: &[i32],
-    stroke: &Stroke,
-) -> Result<(), O::Fault>
-    ensures { Adds result (O.got out.old) (O.got out.new)
-        (ended (letter.now ++ numbers_text numbers.now ++ fields_text (stroke_fields stroke.now))) }
-{
-    out.piece(letter)?;
-    put_numbers(out, numbers)?;
-    put_stroke(out, stroke)?;
-    out.piece("\n")
-}
-
-#[tactic(auto, using(crate::proofs::Outputs::more_more))]
-fn put_filled<O: Output>(
-    out: &mut O,
-    letter: &str,
-    numbers: &[i32],
-    stroke: &Stroke,
-    fill: &Fill,
-) -> Result<(), O::Fault>
-    ensures { Adds result (O.got out.old) (O.got out.new)
-        (letter.now ++ numbers_text numbers.now ++ fields_text (stroke_fields stroke.now)
-        ++ fields_text (fill_fields fill.now)) }
-{
-    out.piece(letter)?;
-    put_numbers(out, numbers)?;
-    put_stroke(out, stroke)?;
-    put_fill(out, fill)
-}
-
 fn line_count(content: &str) -> i32
     requires { line_feeds content.now < most_lines }
     ensures { result ≡ pos (line_feeds content.now + 1) }
@@ -73,17 +30,13 @@ fn line_count(content: &str) -> i32
     line_feeds(content) as i32 + 1
 }
 
-fn put_text_line<O: Output>(out: &mut O, text: &Text) -> Result<(), O::Fault>
-    ensures { Adds result (O.got out.old) (O.got out.new)
-        (shape_line_text (shapes.Text text.now) (line_feeds text.now.content + 1)) }
+// The columns of a text that no other shape has.
+fn put_text_own<O: Output>(out: &mut O, text: &Text) -> Result<(), O::Fault>
+    ensures { Adds result (O.got out.old) (O.got out.new) (fields_text (text_own_fields text.now)) }
 {
-    put_plain(
+    put_numbers(
         out,
-        "T",
         &[
-            text.x,
-            text.y,
-            text.color,
             text.size,
             i32::from(text.visible),
             i32::from(text.show),
@@ -97,174 +50,142 @@ fn put_text_line<O: Output>(out: &mut O, text: &Text) -> Result<(), O::Fault>
 pub(crate) fn put_text<O: Output>(out: &mut O, text: &Text) -> Result<(), O::Fault>
     ensures { Adds result (O.got out.old) (O.got out.new) (text_text text.now) }
 {
-    put_text_line(out, text)?;
+    out.piece("T")?;
+    put_numbers(out, &[text.x, text.y, text.color])?;
+    put_text_own(out, text)?;
+    out.piece("\n")?;
     put_line(out, text.content.as_str())
 }
 
-fn put_path_line<O: Output>(
-    out: &mut O,
-    color: i32,
-    stroke: &Stroke,
-    fill: &Fill,
-    content: &str,
-) -> Result<(), O::Fault>
-    requires { line_feeds content.now < most_lines }
-    ensures { Adds result (O.got out.old) (O.got out.new)
-        (shape_line_text (shapes.Path color stroke.now fill.now content.now)
-        (line_feeds content.now + 1)) }
+fn shape_letter(shape: &Shape) -> &'static str
+    ensures { result.now ≡ byte_of (letter_of_shape shape.now) ∷ [] }
 {
-    put_filled(out, "H", &[color], stroke, fill)?;
-    put_plain(out, "", &[line_count(content)])
+    match shape {
+        Shape::Straight { .. } => "L",
+        Shape::Picture { .. } => "G",
+        Shape::Rect { .. } => "B",
+        Shape::Circle { .. } => "V",
+        Shape::Arc { .. } => "A",
+        Shape::Text(_) => "T",
+        Shape::Net { .. } => "N",
+        Shape::Bus { .. } => "U",
+        Shape::Pin { .. } => "P",
+        Shape::Path { .. } => "H",
+    }
 }
 
-fn put_path<O: Output>(
-    out: &mut O,
-    color: i32,
-    stroke: &Stroke,
-    fill: &Fill,
-    content: &str,
-) -> Result<(), O::Fault>
-    requires { line_feeds content.now < most_lines }
-    ensures { Adds result (O.got out.old) (O.got out.new)
-        (row_text (Drawn (shapes.Path color stroke.now fill.now content.now))) }
+// The point at which it stands, or its two ends.
+#[tactic(auto, using(crate::proofs::Outputs::more_nothing))]
+fn put_place<O: Output>(out: &mut O, shape: &Shape) -> Result<(), O::Fault>
+    ensures { Adds result (O.got out.old) (O.got out.new) (fields_text (place_fields shape.now)) }
 {
-    put_path_line(out, color, stroke, fill, content)?;
-    put_line(out, content)
+    match shape {
+        Shape::Straight { x1, y1, x2, y2, .. }
+        | Shape::Net { x1, y1, x2, y2, .. }
+        | Shape::Bus { x1, y1, x2, y2, .. }
+        | Shape::Pin { x1, y1, x2, y2, .. } => put_numbers(out, &[*x1, *y1, *x2, *y2]),
+        Shape::Picture { x, y, .. }
+        | Shape::Rect { x, y, .. }
+        | Shape::Circle { x, y, .. }
+        | Shape::Arc { x, y, .. } => put_numbers(out, &[*x, *y]),
+        Shape::Text(text) => put_numbers(out, &[text.x, text.y]),
+        Shape::Path { .. } => Ok(()),
+    }
 }
 
-fn put_straight<O: Output>(
-    out: &mut O,
-    x1: i32,
-    y1: i32,
-    x2: i32,
-    y2: i32,
-    color: i32,
-    stroke: &Stroke,
-) -> Result<(), O::Fault>
-    ensures { Adds result (O.got out.old) (O.got out.new)
-        (row_text (Drawn (shapes.Straight x1 y1 x2 y2 color stroke.now))) }
+// How far it reaches from there.
+#[tactic(auto, using(crate::proofs::Outputs::more_nothing))]
+fn put_extent<O: Output>(out: &mut O, shape: &Shape) -> Result<(), O::Fault>
+    ensures { Adds result (O.got out.old) (O.got out.new) (fields_text (extent_fields shape.now)) }
 {
-    put_stroked(out, "L", &[x1, y1, x2, y2, color], stroke)
+    match shape {
+        Shape::Picture { width, height, .. } | Shape::Rect { width, height, .. } => {
+            put_numbers(out, &[*width, *height])
+        }
+        Shape::Circle { radius, .. } => put_number(out, radius),
+        Shape::Arc {
+            radius,
+            start,
+            sweep,
+            ..
+        } => put_numbers(out, &[*radius, *start, *sweep]),
+        Shape::Straight { .. }
+        | Shape::Text(_)
+        | Shape::Net { .. }
+        | Shape::Bus { .. }
+        | Shape::Pin { .. }
+        | Shape::Path { .. } => Ok(()),
+    }
 }
 
-fn put_rect<O: Output>(
-    out: &mut O,
-    x: i32,
-    y: i32,
-    width: i32,
-    height: i32,
-    color: i32,
-    stroke: &Stroke,
-    fill: &Fill,
-) -> Result<(), O::Fault>
-    ensures { Adds result (O.got out.old) (O.got out.new)
-        (row_text (Drawn (shapes.Rect x y width height color stroke.now fill.now))) }
+#[tactic(auto, using(crate::proofs::Outputs::more_nothing))]
+fn put_color<O: Output>(out: &mut O, shape: &Shape) -> Result<(), O::Fault>
+    ensures { Adds result (O.got out.old) (O.got out.new) (fields_text (color_fields shape.now)) }
 {
-    put_filled(out, "B", &[x, y, width, height, color], stroke, fill)?;
-    out.piece("\n")
+    match shape {
+        Shape::Straight { color, .. }
+        | Shape::Rect { color, .. }
+        | Shape::Circle { color, .. }
+        | Shape::Arc { color, .. }
+        | Shape::Net { color, .. }
+        | Shape::Bus { color, .. }
+        | Shape::Pin { color, .. }
+        | Shape::Path { color, .. } => put_number(out, color),
+        Shape::Text(text) => put_number(out, &text.color),
+        Shape::Picture { .. } => Ok(()),
+    }
 }
 
-fn put_circle<O: Output>(
-    out: &mut O,
-    x: i32,
-    y: i32,
-    radius: i32,
-    color: i32,
-    stroke: &Stroke,
-    fill: &Fill,
-) -> Result<(), O::Fault>
-    ensures { Adds result (O.got out.old) (O.got out.new)
-        (row_text (Drawn (shapes.Circle x y radius color stroke.now fill.now))) }
+// How its line is drawn, and how its area is filled.
+#[tactic(auto, using(crate::proofs::Outputs::more_nothing))]
+fn put_style<O: Output>(out: &mut O, shape: &Shape) -> Result<(), O::Fault>
+    ensures { Adds result (O.got out.old) (O.got out.new) (fields_text (style_fields shape.now)) }
 {
-    put_filled(out, "V", &[x, y, radius, color], stroke, fill)?;
-    out.piece("\n")
+    match shape {
+        Shape::Straight { stroke, .. } | Shape::Arc { stroke, .. } => put_stroke(out, stroke),
+        Shape::Rect { stroke, fill, .. }
+        | Shape::Circle { stroke, fill, .. }
+        | Shape::Path { stroke, fill, .. } => {
+            put_stroke(out, stroke)?;
+            put_fill(out, fill)
+        }
+        Shape::Picture { .. }
+        | Shape::Text(_)
+        | Shape::Net { .. }
+        | Shape::Bus { .. }
+        | Shape::Pin { .. } => Ok(()),
+    }
 }
 
-fn put_arc<O: Output>(
-    out: &mut O,
-    x: i32,
-    y: i32,
-    radius: i32,
-    start: i32,
-    sweep: i32,
-    color: i32,
-    stroke: &Stroke,
-) -> Result<(), O::Fault>
-    ensures { Adds result (O.got out.old) (O.got out.new)
-        (row_text (Drawn (shapes.Arc x y radius start sweep color stroke.now))) }
+// The columns that no other shape has.
+#[tactic(auto, using(crate::proofs::Outputs::more_nothing))]
+fn put_own<O: Output>(out: &mut O, shape: &Shape) -> Result<(), O::Fault>
+    requires { ShapeIsInRange shape.now }
+    ensures { Adds result (O.got out.old) (O.got out.new) (fields_text (own_fields shape.now)) }
 {
-    put_stroked(out, "A", &[x, y, radius, start, sweep, color], stroke)
-}
-
-fn put_net<O: Output>(
-    out: &mut O,
-    x1: i32,
-    y1: i32,
-    x2: i32,
-    y2: i32,
-    color: i32,
-) -> Result<(), O::Fault>
-    ensures { Adds result (O.got out.old) (O.got out.new)
-        (row_text (Drawn (shapes.Net x1 y1 x2 y2 color))) }
-{
-    put_plain(out, "N", &[x1, y1, x2, y2, color])
-}
-
-fn put_bus<O: Output>(
-    out: &mut O,
-    x1: i32,
-    y1: i32,
-    x2: i32,
-    y2: i32,
-    color: i32,
-    ripper: i8,
-) -> Result<(), O::Fault>
-    ensures { Adds result (O.got out.old) (O.got out.new)
-        (row_text (Drawn (shapes.Bus x1 y1 x2 y2 color ripper))) }
-{
-    put_plain(out, "U", &[x1, y1, x2, y2, color, i32::from(ripper)])
-}
-
-fn put_pin<O: Output>(
-    out: &mut O,
-    x1: i32,
-    y1: i32,
-    x2: i32,
-    y2: i32,
-    color: i32,
-    bus: bool,
-    whichend: u8,
-) -> Result<(), O::Fault>
-    ensures { Adds result (O.got out.old) (O.got out.new)
-        (row_text (Drawn (shapes.Pin x1 y1 x2 y2 color bus whichend))) }
-{
-    let ends = [x1, y1, x2, y2, color, i32::from(bus), i32::from(whichend)];
-    put_plain(out, "P", &ends)
-}
-
-fn put_picture_line<O: Output>(
-    out: &mut O,
-    x: i32,
-    y: i32,
-    width: i32,
-    height: i32,
-    angle: u16,
-    mirrored: bool,
-    embedded: bool,
-) -> Result<(), O::Fault>
-    ensures { Adds result (O.got out.old) (O.got out.new)
-        (picture_line_text x y width height angle mirrored embedded) }
-{
-    let placed = [
-        x,
-        y,
-        width,
-        height,
-        i32::from(angle),
-        i32::from(mirrored),
-        i32::from(embedded),
-    ];
-    put_plain(out, "G", &placed)
+    match shape {
+        Shape::Picture {
+            angle,
+            mirrored,
+            embedded,
+            ..
+        } => {
+            let has_data = embedded.is_some();
+            let flags = [i32::from(*angle), i32::from(*mirrored), i32::from(has_data)];
+            put_numbers(out, &flags)
+        }
+        Shape::Text(text) => put_text_own(out, text),
+        Shape::Bus { ripper, .. } => put_number(out, &i32::from(*ripper)),
+        Shape::Pin { bus, whichend, .. } => {
+            put_numbers(out, &[i32::from(*bus), i32::from(*whichend)])
+        }
+        Shape::Path { content, .. } => put_number(out, &line_count(content.as_str())),
+        Shape::Straight { .. }
+        | Shape::Rect { .. }
+        | Shape::Circle { .. }
+        | Shape::Arc { .. }
+        | Shape::Net { .. } => Ok(()),
+    }
 }
 
 fn put_data<O: Output>(out: &mut O, picture: &Option<Block>) -> Result<(), O::Fault>
@@ -280,109 +201,39 @@ fn put_data<O: Output>(out: &mut O, picture: &Option<Block>) -> Result<(), O::Fa
     }
 }
 
-fn put_picture<O: Output>(
-    out: &mut O,
-    x: i32,
-    y: i32,
-    width: i32,
-    height: i32,
-    angle: u16,
-    mirrored: bool,
-    file: &Line,
-    embedded: &Option<Block>,
-) -> Result<(), O::Fault>
-    requires { IsEmbeddedData embedded.now }
-    ensures { Adds result (O.got out.old) (O.got out.new)
-        (row_text (Drawn
-        (shapes.Picture x y width height angle mirrored file.now embedded.now))) }
+// The lines that follow its line.
+#[tactic(auto, using(crate::proofs::Outputs::more_nothing, crate::proofs::Outputs::more_more))]
+fn put_following<O: Output>(out: &mut O, shape: &Shape) -> Result<(), O::Fault>
+    requires { ShapeIsInRange shape.now }
+    ensures { Adds result (O.got out.old) (O.got out.new) (following_text shape.now) }
 {
-    let has_data = embedded.is_some();
-    put_picture_line(out, x, y, width, height, angle, mirrored, has_data)?;
-    put_line(out, file.as_str())?;
-    put_data(out, embedded)
+    match shape {
+        Shape::Text(text) => put_line(out, text.content.as_str()),
+        Shape::Path { content, .. } => put_line(out, content.as_str()),
+        Shape::Picture { file, embedded, .. } => {
+            put_line(out, file.as_str())?;
+            put_data(out, embedded)
+        }
+        Shape::Straight { .. }
+        | Shape::Rect { .. }
+        | Shape::Circle { .. }
+        | Shape::Arc { .. }
+        | Shape::Net { .. }
+        | Shape::Bus { .. }
+        | Shape::Pin { .. } => Ok(()),
+    }
 }
 
 pub(crate) fn put_shape<O: Output>(out: &mut O, shape: &Shape) -> Result<(), O::Fault>
     requires { ShapeIsInRange shape.now }
     ensures { Adds result (O.got out.old) (O.got out.new) (row_text (Drawn shape.now)) }
 {
-    match shape {
-        Shape::Straight {
-            x1,
-            y1,
-            x2,
-            y2,
-            color,
-            stroke,
-        } => put_straight(out, *x1, *y1, *x2, *y2, *color, stroke),
-        Shape::Picture {
-            x,
-            y,
-            width,
-            height,
-            angle,
-            mirrored,
-            file,
-            embedded,
-        } => put_picture(
-            out, *x, *y, *width, *height, *angle, *mirrored, file, embedded,
-        ),
-        Shape::Rect {
-            x,
-            y,
-            width,
-            height,
-            color,
-            stroke,
-            fill,
-        } => put_rect(out, *x, *y, *width, *height, *color, stroke, fill),
-        Shape::Circle {
-            x,
-            y,
-            radius,
-            color,
-            stroke,
-            fill,
-        } => put_circle(out, *x, *y, *radius, *color, stroke, fill),
-        Shape::Arc {
-            x,
-            y,
-            radius,
-            start,
-            sweep,
-            color,
-            stroke,
-        } => put_arc(out, *x, *y, *radius, *start, *sweep, *color, stroke),
-        Shape::Text(text) => put_text(out, text),
-        Shape::Net {
-            x1,
-            y1,
-            x2,
-            y2,
-            color,
-        } => put_net(out, *x1, *y1, *x2, *y2, *color),
-        Shape::Bus {
-            x1,
-            y1,
-            x2,
-            y2,
-            color,
-            ripper,
-        } => put_bus(out, *x1, *y1, *x2, *y2, *color, *ripper),
-        Shape::Pin {
-            x1,
-            y1,
-            x2,
-            y2,
-            color,
-            bus,
-            whichend,
-        } => put_pin(out, *x1, *y1, *x2, *y2, *color, *bus, *whichend),
-        Shape::Path {
-            color,
-            stroke,
-            fill,
-            content,
-        } => put_path(out, *color, stroke, fill, content.as_str()),
-    }
+    out.piece(shape_letter(shape))?;
+    put_place(out, shape)?;
+    put_extent(out, shape)?;
+    put_color(out, shape)?;
+    put_style(out, shape)?;
+    put_own(out, shape)?;
+    out.piece("\n")?;
+    put_following(out, shape)
 }

@@ -1,21 +1,19 @@
 -- Steps of the code; no public clause cites them.
 -- The canonical text of each row and of what rows make.
-use Rattle.std.specs.Prelude.{ℕ, ℤ, List, [], ◌∷◌, ◌++◌, Bool, Option, Some, None, codes}
+use Rattle.std.specs.Prelude.{ℕ, ℤ, List, [], ◌∷◌, ◌++◌, Option, Some, None, codes}
 use Rattle.std.specs.List.{flat_map}
 use Rattle.std.specs.Fmt.{signed_decimal}
 use Rattle.geda_defs.specs.Lines.{ended}
 use Rattle.geda_model.specs.Data.{TextData}
 use Rattle.geda_model.specs.Shapes.{PartData, ComponentData}
 use Rattle.geda_model.specs.Sheets.{ObjectData}
-use Rattle.geda_model.specs.declared.shape.Shape.{Shape}
 use Rattle.geda_model.specs.declared.object.Body.{Body}
 use Rattle.geda_model.specs.declared.object.Body.TheVariants as bodies
 use Rattle.geda_grammar.specs.Classes.{Field, Number}
 use Rattle.geda_grammar.specs.declared.row.Row.{Row}
 use Rattle.geda_grammar.specs.declared.row.Row.TheVariants.{Drawn, Library, Embedding, OpenBlock, CloseBlock, OpenSymbol, CloseSymbol}
 use Rattle.geda_grammar.specs.Components.{ComponentLineData}
-use Rattle.geda_grammar.specs.Letters.{byte_of}
-use Rattle.geda_grammar.specs.Rows.{bit, component_fields, component_line_of, letter_of_shape, natural, shape_fields}
+use Rattle.geda_grammar.specs.Rows.{bit, component_fields, component_line_of, natural}
 use Rattle.geda_grammar.specs.Canonical.{field_text, row_lines, text_row}
 
 -- numbers and fields, each behind a space
@@ -29,16 +27,7 @@ fields_text fields = flat_map (λ f. 32 ∷ field_text f) fields
 abbrev pub row_text : Row → List ℕ
 row_text row = flat_map ended (row_lines row)
 
--- the line of a shape, where so many lines follow
-abbrev pub shape_line_text : Shape → ℕ → List ℕ
-shape_line_text s lines = ended (byte_of (letter_of_shape s) ∷ fields_text (shape_fields s lines))
-
--- the line of a picture with data or without, and the data with the point behind it
-abbrev pub picture_line_text : ℤ → ℤ → ℤ → ℤ → ℕ → Bool → Bool → List ℕ
-picture_line_text x y width height angle mirrored embedded =
-    ended (71 ∷ fields_text (Number x ∷ Number y ∷ Number width ∷ Number height
-    ∷ natural angle ∷ bit mirrored ∷ bit embedded ∷ []))
-
+-- the data of a picture, with the point behind it
 abbrev pub data_text : Option (List ℕ) → List ℕ
 data_text None = []
 data_text (Some bytes) = bytes ++ ended (codes ".")
