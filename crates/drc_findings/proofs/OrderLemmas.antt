@@ -15,7 +15,7 @@ use Rattle.geda_defs.proofs.OnceLaws.{is_once_in_order}
 use Rattle.drc_findings.specs.declared.finding.Finding.{Finding}
 use Rattle.pin_matrix.specs.declared.level.Level.{Level}
 use Rattle.pin_matrix.specs.declared.level.Level.TheVariants as levels
-use Rattle.drc_findings.specs.Order.{by_finding, by_finding_total, in_order, level_rank, with_findings}
+use Rattle.drc_findings.specs.Order.{by_finding, by_finding_total, findings_in_order, level_rank, with_findings}
 
 or_turn : (a b c : Bool) → (a || (b || c)) ≡ (b || (a || c))
 or_turn true true c = refl
@@ -89,16 +89,16 @@ or_false : (b : Bool) → (b || false) ≡ b
 or_false true = refl
 or_false false = refl
 
-order_has : (f : Finding) (found : List Finding) → list_any (is_it f) (in_order found) ≡ list_any (is_it f) found
+order_has : (f : Finding) (found : List Finding) → list_any (is_it f) (findings_in_order found) ≡ list_any (is_it f) found
 order_has f found = with_has f [] found ∙ or_false (list_any (is_it f) found)
 
 -- findings in order have just the findings
-pub order_keeps : (found : List Finding) (f : Finding) → Contains (in_order found) f ↔ Contains found f
+pub order_keeps : (found : List Finding) (f : Finding) → Contains (findings_in_order found) f ↔ Contains found f
 order_keeps found f = (
-  λ k. Contains-from_any (tells_apart exact_findings) f found (sym (order_has f found) ∙ list_any-from_Contains (eq_by_cmp_equiv by_finding_total) f (in_order found) k),
-  λ k. Contains-from_any (tells_apart exact_findings) f (in_order found) (order_has f found ∙ list_any-from_Contains (eq_by_cmp_equiv by_finding_total) f found k),
+  λ k. Contains-from_any (tells_apart exact_findings) f found (sym (order_has f found) ∙ list_any-from_Contains (eq_by_cmp_equiv by_finding_total) f (findings_in_order found) k),
+  λ k. Contains-from_any (tells_apart exact_findings) f (findings_in_order found) (order_has f found ∙ list_any-from_Contains (eq_by_cmp_equiv by_finding_total) f found k),
 )
 
 -- findings in order rise
-pub order_rises : (found : List Finding) → IsStrictlySortedBy by_finding (in_order found)
+pub order_rises : (found : List Finding) → IsStrictlySortedBy by_finding (findings_in_order found)
 order_rises found = (is_once_in_order by_finding_total found).rising

@@ -1,6 +1,7 @@
 -- What is found where a rule of the check is broken (own).
-use Rattle.std.specs.Prelude.{ℕ, Bool, if◌then◌else◌, List, [], ◌∷◌}
+use Rattle.std.specs.Prelude.{ℕ, List}
 use Rattle.printed_texts.specs.PrintedTexts.{word}
+use Rattle.text_tallies.specs.Levels.{found_if}
 use Rattle.text_tallies.specs.LookAlike.{look_alike}
 use Rattle.pin_matrix.specs.declared.level.Level.{Level}
 use Rattle.pin_matrix.specs.declared.level.Level.TheVariants as levels
@@ -41,10 +42,6 @@ an_error rule words = finding levels.Error rule words
 -- one of level warning
 abbrev pub a_warning : Rule → List ℕ → Finding
 a_warning rule words = finding levels.Warning rule words
-
--- the finding, where a rule is broken
-abbrev pub found_if : Bool → Finding → List Finding
-found_if is_broken f = if is_broken then f ∷ [] else []
 
 -- SameText: two of these names differ, and both print as this one does
 abbrev pub same_text : List (List ℕ) → List ℕ → List Finding

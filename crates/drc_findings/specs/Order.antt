@@ -35,5 +35,5 @@ abbrev pub with_findings : List Finding → List Finding → List Finding
 with_findings found more = fold (insert_key by_finding) found more
 
 -- findings in order, equal ones once
-abbrev pub in_order : List Finding → List Finding
-in_order found = with_findings [] found
+abbrev pub findings_in_order : List Finding → List Finding
+findings_in_order found = with_findings [] found

@@ -3,6 +3,7 @@ use Rattle.std.specs.Prelude.{ℕ, Bool, true, false, List, ◌∷◌, ◌++◌,
 use Rattle.std.specs.List.{flat_map}
 use Rattle.std.specs.Fmt.{decimal}
 use Rattle.geda_defs.specs.Lines.{ended}
+use Rattle.text_tallies.specs.Levels.{levels_text}
 use Rattle.drc_findings.specs.declared.finding.Finding.{Finding}
 use Rattle.pin_matrix.specs.declared.level.Level.{Level}
 use Rattle.pin_matrix.specs.declared.level.Level.TheVariants as levels
@@ -60,11 +61,6 @@ is_warning f = of_level f.level
 -- the first line
 abbrev pub count_text : ℕ → List ℕ
 count_text count = ended (codes "findings " ++ decimal count)
-
--- the last line
-abbrev pub levels_text : ℕ → ℕ → List ℕ
-levels_text errors warnings =
-    ended (codes "errors " ++ decimal errors ++ (codes " warnings " ++ decimal warnings))
 
 -- the report
 abbrev pub report_text : List Finding → List ℕ

@@ -4,7 +4,7 @@ ghost use Rattle.text_tallies.specs.LookAlike.{look_alike};
 ghost use Rattle.text_tallies.specs.NameSets.{HasNames};
 ghost use Rattle.drc_findings.specs.declared.finding.Finding.{Finding};
 ghost use Rattle.drc_findings.specs.Findings.{same_text};
-ghost use Rattle.drc_findings.specs.Order.{in_order};
+ghost use Rattle.drc_findings.specs.Order.{findings_in_order};
 
 use crate::adding::add_error;
 use crate::finding::Finding;
@@ -37,5 +37,5 @@ pub fn add_same_text(
 /// The law that findings in order are just those that were found.
 pub fn order_law()
     ensures { (found : List Finding) (f : Finding)
-        → Contains (in_order found) f ↔ Contains found f }
+        → Contains (findings_in_order found) f ↔ Contains found f }
 {}

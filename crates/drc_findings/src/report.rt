@@ -2,11 +2,12 @@
 ghost use Rattle.std.specs.Prelude.{◌≡◌, ◌++◌, IfOk, OnOk, count_by};
 ghost use Rattle.std.specs.List.{flat_map};
 ghost use Rattle.drc_findings.specs.Report.{code_name, count_text, finding_text, is_error};
-ghost use Rattle.drc_findings.specs.Report.{is_warning, level_word, levels_text, report_text};
+ghost use Rattle.drc_findings.specs.Report.{is_warning, level_word, report_text};
 
 use crate::finding::Finding;
 use pin_matrix::Level;
 use std::alloc::{AllocError, Global};
+use text_tallies::put_levels;
 
 /// The name of a rule by its number.
 fn code_name(code: u8) -> &'static str
@@ -91,18 +92,6 @@ fn put_count(alloc: Global, out: &mut Vec<u8>, count: usize) -> Result<(), Alloc
     out.extend_from_slice(line.as_bytes())
 }
 
-fn put_levels(
-    alloc: Global,
-    out: &mut Vec<u8>,
-    errors: usize,
-    warnings: usize,
-) -> Result<(), AllocError>
-    ensures { OnOk result (out.new.items ≡ out.old.items ++ levels_text errors warnings) }
-{
-    let line = format!(in alloc; "errors {errors} warnings {warnings}\n")?;
-    out.extend_from_slice(line.as_bytes())
-}
-
 fn count_errors(findings: &[Finding]) -> usize
     ensures { result ≡ count_by is_error findings.now }
 {
@@ -127,6 +116,6 @@ pub fn report_text(alloc: Global, findings: &[Finding]) -> Result<Vec<u8>, Alloc
     let mut out = Vec::new(alloc);
     put_count(alloc, &mut out, findings.len())?;
     put_findings(&mut out, findings)?;
-    put_levels(alloc, &mut out, errors, warnings)?;
+    put_levels(alloc, &mut out, errors as u128, warnings as u128)?;
     Ok(out)
 }

@@ -7,12 +7,12 @@ use Rattle.toml.specs.Data.{Members}
 use Rattle.toml.specs.Parse.{parse_document}
 use Rattle.toml.specs.View.{members_view}
 use Rattle.toml.proofs.Views.{Entry}
-use Rattle.pin_matrix.specs.MatrixFiles.{count_of, document_of}
+use Rattle.pin_matrix.specs.MatrixFiles.{count_of, toml_document}
 
-pub is_document : (text : List ℕ) (ms : Members) → nat_le (length text) 4194304 ≡ true → IsUtf8 text → parse_document text ≡ Some ms → document_of text ≡ Some ms
+pub is_document : (text : List ℕ) (ms : Members) → nat_le (length text) 4194304 ≡ true → IsUtf8 text → parse_document text ≡ Some ms → toml_document text ≡ Some ms
 is_document text ms short valid is = rw (short, is_utf8-from_IsUtf8 text valid) is
 
-pub no_document : (text : List ℕ) → nat_le (length text) 4194304 ≡ true → (IsUtf8 text → parse_document text ≡ None) → document_of text ≡ None
+pub no_document : (text : List ℕ) → nat_le (length text) 4194304 ≡ true → (IsUtf8 text → parse_document text ≡ None) → toml_document text ≡ None
 no_document text short refused = rw short (go (is_utf8 text) refl)
   where
     go : (t : Bool) → is_utf8 text ≡ t → (if t then parse_document text else None) ≡ None

@@ -4,7 +4,7 @@ use Rattle.std.specs.Prelude.{option_and_then}
 use Rattle.std.proofs.lemmas.Bool.Decides.{nat_tests}
 use Rattle.toml.specs.Data.{Data, Items, as_str, item, no_items}
 use Rattle.pin_matrix.specs.Matrices.{level_of}
-use Rattle.pin_matrix.specs.MatrixFiles.{levels_of, row_of, rows_from}
+use Rattle.pin_matrix.specs.MatrixFiles.{levels_of, levels_row, rows_from}
 use Rattle.pin_matrix.specs.declared.level.Level.{Level}
 
 some_is : {X : Type 0} (a b : X) → Some a ≡ Some b → a ≡ b
@@ -22,7 +22,7 @@ levels_length (b ∷ rest) ls e = go (levels_length rest) (level_of b) (levels_o
     go again (Some level) None is e = absurd (none_some ls e)
     go again (Some level) (Some more) is e = ap length (sym (some_is (level ∷ more) ls e)) ∙ ap suc (again more is)
 
-row_length : (want : ℕ) (row : Data) (ls : List Level) → row_of want row ≡ Some ls → length ls ≡ want
+row_length : (want : ℕ) (row : Data) (ls : List Level) → levels_row want row ≡ Some ls → length ls ≡ want
 row_length want row ls e = go (as_str row) e
   where
     by_length : (text : List ℕ) (t : Bool) → (length text == want) ≡ t → (if t then levels_of text else None) ≡ Some ls → length ls ≡ want
@@ -53,10 +53,10 @@ rows_length no_items want ls e = go (want == 13) refl e
     go : (t : Bool) → (want == 13) ≡ t → (if t then Some [] else None) ≡ Some ls → Counts want no_items ls
     go false is e = absurd (none_some ls e)
     go true is e = record { last = grind (arith, nat_tests); all = ap length (sym (some_is [] ls e)) }
-rows_length (item row rest) want ls e = go (rows_length rest (want + 1)) (row_of want row) refl (rows_from (want + 1) rest) refl e
+rows_length (item row rest) want ls e = go (rows_length rest (want + 1)) (levels_row want row) refl (rows_from (want + 1) rest) refl e
   where
     go : ((more : List Level) → rows_from (want + 1) rest ≡ Some more → Counts (want + 1) rest more)
-        → (first : Option (List Level)) → row_of want row ≡ first → (q : Option (List Level)) → rows_from (want + 1) rest ≡ q
+        → (first : Option (List Level)) → levels_row want row ≡ first → (q : Option (List Level)) → rows_from (want + 1) rest ≡ q
         → option_and_then (λ first. option_map (λ more. first ++ more) q) first ≡ Some ls → Counts want (item row rest) ls
     go again None is_first q is e = absurd (none_some ls e)
     go again (Some first) is_first None is e = absurd (none_some ls e)

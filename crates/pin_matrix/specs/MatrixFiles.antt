@@ -15,8 +15,8 @@ levels_of (b ∷ rest) =
     option_and_then (λ level. option_map (λ more. level ∷ more) (levels_of rest)) (level_of b)
 
 -- a row: a text of so many levels
-abbrev pub row_of : ℕ → Data → Option (List Level)
-row_of want row =
+abbrev pub levels_row : ℕ → Data → Option (List Level)
+levels_row want row =
     option_and_then (λ text. if length text == want then levels_of text else None) (as_str row)
 
 -- the rows of a lower triangle from the one with `want` levels on, to the one with twelve
@@ -24,7 +24,7 @@ unfoldable pub rows_from : ℕ → Items → Option (List Level)
 rows_from want no_items = if want == 13 then Some [] else None
 rows_from want (item row rest) =
     option_and_then (λ first. option_map (λ more. first ++ more) (rows_from (want + 1) rest))
-    (row_of want row)
+    (levels_row want row)
 
 -- how many keys a document has
 abbrev pub count_of : Members → ℕ
@@ -42,18 +42,19 @@ matrix_in members =
     else None
 
 -- the document that the bytes are: at most 4 MiB of UTF-8 that toml reads
-abbrev pub document_of : List ℕ → Option Members
-document_of text =
+abbrev pub toml_document : List ℕ → Option Members
+toml_document text =
     if nat_le (length text) 4194304 && is_utf8 text then parse_document text else None
 
 -- what a reader gives, and why it fails
-abbrev pub Fails : Option Members → MatrixFault → Type 0
-Fails document fault.BadToml = document ≡ None
-Fails None fault.BadRows = ⊥
-Fails (Some members) fault.BadRows = matrix_in members ≡ None
-Fails document fault.NoMemory = ⊤
+abbrev pub MatrixFails : Option Members → MatrixFault → Type 0
+MatrixFails document fault.BadToml = document ≡ None
+MatrixFails None fault.BadRows = ⊥
+MatrixFails (Some members) fault.BadRows = matrix_in members ≡ None
+MatrixFails document fault.NoMemory = ⊤
 
 -- the matrix, or why there is none
-abbrev pub Reads : {X : Type 0} → (X → List Level) → Option Members → Result X MatrixFault → Type 0
-Reads view document (Ok matrix) = option_and_then matrix_in document ≡ Some (view matrix)
-Reads view document (Err e) = Fails document e
+abbrev pub ReadsMatrix :
+    {X : Type 0} → (X → List Level) → Option Members → Result X MatrixFault → Type 0
+ReadsMatrix view document (Ok matrix) = option_and_then matrix_in document ≡ Some (view matrix)
+ReadsMatrix view document (Err e) = MatrixFails document e

@@ -1,6 +1,6 @@
 // How grave it is that two kinds of pins meet.
 ghost use Rattle.std.specs.Prelude.{◌≡◌, ◌<◌, nat_le};
-ghost use Rattle.pin_matrix.specs.MatrixFiles.{Reads, document_of};
+ghost use Rattle.pin_matrix.specs.MatrixFiles.{ReadsMatrix, toml_document};
 ghost use Rattle.pin_matrix.specs.Matrices.{entry, is_correct, kind_rank, pair_place, same_kind, usual};
 
 use crate::fault::MatrixFault;
@@ -120,7 +120,7 @@ impl Matrix {
     /// `BadToml` exactly where the text is longer than 4 MiB or no TOML document, and `BadRows`
     /// exactly where it is a document of another form.
     pub fn read(alloc: Global, text: &[u8]) -> Result<Matrix, MatrixFault>
-        ensures { Reads (λ m. m) (document_of text.now) result }
+        ensures { ReadsMatrix (λ m. m) (toml_document text.now) result }
     {
         let document = document_of(alloc, text)?;
         let levels = matrix_in(alloc, &document)?;

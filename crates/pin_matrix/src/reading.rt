@@ -3,8 +3,8 @@ ghost use Rattle.std.specs.Prelude.{◌≡◌, ◌==◌, ◌++◌, Some, None, I
 ghost use Rattle.toml.specs.Data.{get_member};
 ghost use Rattle.toml.specs.View.{items_view, table_view, view};
 ghost use Rattle.pin_matrix.specs.Matrices.{level_of};
-ghost use Rattle.pin_matrix.specs.MatrixFiles.{count_of, document_of, levels_of, matrix_in, row_of};
-ghost use Rattle.pin_matrix.specs.MatrixFiles.{rows_from, rows_in};
+ghost use Rattle.pin_matrix.specs.MatrixFiles.{count_of, levels_of, levels_row, matrix_in};
+ghost use Rattle.pin_matrix.specs.MatrixFiles.{rows_from, rows_in, toml_document};
 ghost use Rattle.pin_matrix.specs.steps.Gives.{Gives};
 
 use crate::fault::MatrixFault;
@@ -36,7 +36,7 @@ fn put_levels(levels: &mut Vec<Level>, text: &[u8]) -> Result<(), MatrixFault>
 
 fn put_row(levels: &mut Vec<Level>, want: usize, row: &Value) -> Result<(), MatrixFault>
     ensures { Gives (λ _. levels.new.items)
-        result (option_map (λ more. levels.old.items ++ more) (row_of want (view row.now))) }
+        result (option_map (λ more. levels.old.items ++ more) (levels_row want (view row.now))) }
 {
     let text = row.as_str().ok_or(MatrixFault::BadRows)?;
     if text.len() != want {
@@ -104,8 +104,8 @@ pub fn matrix_in(alloc: Global, document: &Table) -> Result<Vec<Level>, MatrixFa
 
 /// The document that a file is.
 pub fn document_of(alloc: Global, text: &[u8]) -> Result<Table, MatrixFault>
-    ensures document { IfOk result (λ t. document_of text.now ≡ Some (table_view t)) }
-    ensures bad { IsErrOf result MatrixFault.BadToml → document_of text.now ≡ None }
+    ensures document { IfOk result (λ t. toml_document text.now ≡ Some (table_view t)) }
+    ensures bad { IsErrOf result MatrixFault.BadToml → toml_document text.now ≡ None }
     ensures few { ¬ (IsErrOf result MatrixFault.BadRows) }
 {
     if text.len() > 4_194_304 {

@@ -12,7 +12,7 @@ use Rattle.attr_rules.specs.Slots.{short_number}
 use Rattle.sym_check.specs.declared.checked.CheckedPin.{CheckedPin}
 use Rattle.sym_check.specs.declared.checked.CheckedSymbol.{CheckedSymbol}
 use Rattle.sym_check.specs.CheckedPins.{is_net_pin, is_off_grid}
-use Rattle.sym_check.specs.Findings.{a_warning, an_error, bad_net, bad_numslots, found_on, found_on_pins, found_on_slots}
+use Rattle.sym_check.specs.Findings.{bad_net_value, bad_numslots, found_on_pins, found_on_slots, found_on_symbol, symbol_error, symbol_warning}
 use Rattle.sym_check.specs.Slotdefs.{is_bad_slotdef}
 
 -- a pin with this `pinnumber` and this `pinseq`, and all else
@@ -85,7 +85,7 @@ two = record {
   pins = bare 0 (codes "1") ∷ bare 1 (codes "2") ∷ [];
 }
 
-two_has_no_labels : found_on two ≡ a_warning 2 [] ∷ a_warning 8 (codes "0") ∷ a_warning 8 (codes "1") ∷ []
+two_has_no_labels : found_on_symbol two ≡ symbol_warning 2 [] ∷ symbol_warning 8 (codes "0") ∷ symbol_warning 8 (codes "1") ∷ []
 unfolding short_number digits
 two_has_no_labels = refl
 
@@ -101,32 +101,32 @@ gate = record {
   pins = bare 0 (codes "1") ∷ bare 1 (codes "2") ∷ bare 2 (codes "3") ∷ [];
 }
 
-gate_lacks_a_slotdef : found_on gate
-    ≡ a_warning 2 [] ∷ a_warning 8 (codes "0") ∷ a_warning 8 (codes "1") ∷ a_warning 8 (codes "2") ∷ an_error 12 (codes "4") ∷ []
+gate_lacks_a_slotdef : found_on_symbol gate
+    ≡ symbol_warning 2 [] ∷ symbol_warning 8 (codes "0") ∷ symbol_warning 8 (codes "1") ∷ symbol_warning 8 (codes "2") ∷ symbol_error 12 (codes "4") ∷ []
 unfolding short_number digits cut_of pin_numbers net_entry is_utf8 chars encode
 gate_lacks_a_slotdef = refl
 
-nothing_is_there : found_on (empty false) ≡ a_warning 1 [] ∷ a_warning 2 [] ∷ a_warning 3 [] ∷ []
+nothing_is_there : found_on_symbol (empty false) ≡ symbol_warning 1 [] ∷ symbol_warning 2 [] ∷ symbol_warning 3 [] ∷ []
 nothing_is_there = refl
 
-graphical_needs_no_pins : found_on (empty true) ≡ a_warning 1 [] ∷ []
+graphical_needs_no_pins : found_on_symbol (empty true) ≡ symbol_warning 1 [] ∷ []
 graphical_needs_no_pins = refl
 
 -- `0` and five digits are no `pinseq`, `0001` is one
 seqs_are_small_numbers : found_on_pins (with_pins (pin 0 None None ∷ pin 1 (Some (codes "A")) (Some (codes "0"))
     ∷ pin 2 (Some (codes "B")) (Some (codes "10000")) ∷ pin 3 (Some (codes "C")) (Some (codes "0001")) ∷ []))
-    ≡ an_error 4 (codes "0") ∷ an_error 5 (codes "0") ∷ an_error 5 (codes "1") ∷ an_error 5 (codes "2") ∷ []
+    ≡ symbol_error 4 (codes "0") ∷ symbol_error 5 (codes "0") ∷ symbol_error 5 (codes "1") ∷ symbol_error 5 (codes "2") ∷ []
 unfolding short_number digits
 seqs_are_small_numbers = refl
 
 -- `1` and `01` are two texts
 texts_stand_twice : found_on_pins (with_pins (pin 0 (Some (codes "1")) (Some (codes "1")) ∷ pin 1 (Some (codes "01")) (Some (codes "2"))
     ∷ pin 2 (Some (codes "1")) (Some (codes "2")) ∷ []))
-    ≡ an_error 6 (codes "1") ∷ an_error 7 (codes "2") ∷ an_error 6 (codes "1") ∷ an_error 7 (codes "2") ∷ []
+    ≡ symbol_error 6 (codes "1") ∷ symbol_error 7 (codes "2") ∷ symbol_error 6 (codes "1") ∷ symbol_error 7 (codes "2") ∷ []
 unfolding short_number digits
 texts_stand_twice = refl
 
-five_digits_are_no_numslots : bad_numslots (with_slots (codes "10000") []) ≡ an_error 11 (codes "10000") ∷ []
+five_digits_are_no_numslots : bad_numslots (with_slots (codes "10000") []) ≡ symbol_error 11 (codes "10000") ∷ []
 unfolding short_number
 five_digits_are_no_numslots = refl
 
@@ -135,12 +135,12 @@ unfolding short_number
 four_digits_are = refl
 
 -- the digits of 2 are not `02`
-digits_are_compared : found_on_slots (with_slots (codes "2") (codes "1:7" ∷ codes "02:8" ∷ [])) ≡ an_error 12 (codes "2") ∷ []
+digits_are_compared : found_on_slots (with_slots (codes "2") (codes "1:7" ∷ codes "02:8" ∷ [])) ≡ symbol_error 12 (codes "2") ∷ []
 unfolding short_number digits cut_of pin_numbers is_utf8 chars encode
 digits_are_compared = refl
 
 slot_is_given_twice : found_on_slots (with_slots (codes "1") (codes "1:7" ∷ codes "1:8" ∷ []))
-    ≡ an_error 13 (codes "1") ∷ an_error 13 (codes "1") ∷ []
+    ≡ symbol_error 13 (codes "1") ∷ symbol_error 13 (codes "1") ∷ []
 unfolding short_number digits cut_of pin_numbers is_utf8 chars encode
 slot_is_given_twice = refl
 
@@ -176,7 +176,7 @@ one_too_many : is_bad_slotdef None 2 (codes "2:7,8,9") ≡ true
 unfolding short_number cut_of pin_numbers is_utf8 chars encode
 one_too_many = refl
 
-net_without_colon : bad_net (codes "Vcc") ≡ an_error 15 (codes "Vcc") ∷ []
+net_without_colon : bad_net_value (codes "Vcc") ≡ symbol_error 15 (codes "Vcc") ∷ []
 unfolding net_entry cut_of pin_numbers is_utf8 chars encode
 net_without_colon = refl
 

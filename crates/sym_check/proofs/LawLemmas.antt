@@ -14,7 +14,7 @@ use Rattle.printed_texts.specs.PrintedTexts.{word}
 use Rattle.sym_check.specs.declared.checked.CheckedSymbol.{CheckedSymbol}
 use Rattle.sym_check.specs.declared.finding.SymFinding.{SymFinding}
 use Rattle.sym_check.specs.CheckedSymbols.{checked_symbol}
-use Rattle.sym_check.specs.Findings.{an_error, bad_net, bad_numslots, bad_slotdef, duplicate_slotdef, found_in, found_on, found_on_pins, found_on_slotdef, found_on_slots, found_on_whole, missing_slotdef, missing_slotdefs}
+use Rattle.sym_check.specs.Findings.{bad_net_value, bad_numslots, bad_slotdef, duplicate_slotdef, found_in_symbol, found_on_pins, found_on_slotdef, found_on_slots, found_on_symbol, found_on_whole, missing_slotdef, missing_slotdefs, symbol_error}
 use Rattle.sym_check.specs.Laws.{IsOffSlots, SlotsHold}
 use Rattle.sym_check.specs.Slotdefs.{has_bad_number, has_other_length, heads_of, is_above, is_bad_cut, is_bad_slotdef, is_small_number}
 use Rattle.sym_check.proofs.NumberLemmas.{count_below, short_decimal, slot_is}
@@ -137,16 +137,16 @@ ends text numslots ds k list number first some = by (pin_numbers list) refl
     by None e = absurd (let g = rw e at some in cc)
     by (Some numbers) e = rw (number, first, e) refl
 
-module _ (s : CheckedSymbol) (off : (f : SymFinding) → Contains (found_on s) f → IsOffSlots f) where
+module _ (s : CheckedSymbol) (off : (f : SymFinding) → Contains (found_on_symbol s) f → IsOffSlots f) where
   -- what is found on slots is none of the four
-  none_at : (code : ℕ) (words : List ℕ) → 11 ≤ code → code ≤ 14 → Contains (found_on_slots s) (an_error code words) → ⊥
+  none_at : (code : ℕ) (words : List ℕ) → 11 ≤ code → code ≤ 14 → Contains (found_on_slots s) (symbol_error code words) → ⊥
   none_at code words low high at = by (off f inside)
     where
       f : SymFinding
-      f = an_error code words
+      f = symbol_error code words
 
-      inside : Contains (found_on s) f
-      inside = Contains-append_right (found_on_whole s) _ f (Contains-append_right (found_on_pins s) _ f (Contains-append_left (found_on_slots s) (flat_map bad_net s.nets) f at))
+      inside : Contains (found_on_symbol s) f
+      inside = Contains-append_right (found_on_whole s) _ f (Contains-append_right (found_on_pins s) _ f (Contains-append_left (found_on_slots s) (flat_map bad_net_value s.nets) f at))
 
       by : IsOffSlots f → ⊥
       by (inl below) = omega (arith, low, below)
@@ -157,7 +157,7 @@ module _ (s : CheckedSymbol) (off : (f : SymFinding) → Contains (found_on s) f
   has_head n k count from most = by (list_any (bytes_eq (decimal k)) (heads_of s.slotdefs)) refl
     where
       f : SymFinding
-      f = an_error 12 (decimal k)
+      f = symbol_error 12 (decimal k)
 
       by : (b : Bool) → list_any (bytes_eq (decimal k)) (heads_of s.slotdefs) ≡ b → b ≡ true
       by true e = refl
@@ -172,7 +172,7 @@ module _ (s : CheckedSymbol) (off : (f : SymFinding) → Contains (found_on s) f
   is_good d at = by (is_bad_slotdef (slot_count s.numslots) (length s.pins) d) refl
     where
       f : SymFinding
-      f = an_error 14 (word d)
+      f = symbol_error 14 (word d)
 
       by : (b : Bool) → is_bad_slotdef (slot_count s.numslots) (length s.pins) d ≡ b → b ≡ false
       by false e = refl
@@ -192,5 +192,5 @@ module _ (s : CheckedSymbol) (off : (f : SymFinding) → Contains (found_on s) f
 
 -- the law on slots
 pub slots_hold : (symbol : SymbolData) → SlotsHold symbol
-unfolding found_in
+unfolding found_in_symbol
 slots_hold symbol off = holds (checked_symbol symbol) off

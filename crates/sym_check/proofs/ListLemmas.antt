@@ -1,6 +1,6 @@
 -- Lists that grow by what is there.
-use Rattle.std.proofs.Common.{◌≡◌, ◌||◌, Bool, ℕ, suc, ◌+◌, ◌-◌, ◌<◌, List, [], ◌∷◌, ◌++◌, Option, Some, None, refl, append_assoc, arith}
-use Rattle.std.specs.List.{cons_option, flat_map, list_any, range_with_len, slice_get}
+use Rattle.std.proofs.Common.{◌≡◌, ◌||◌, Bool, List, [], ◌∷◌, ◌++◌, Option, Some, None, refl, append_assoc}
+use Rattle.std.specs.List.{cons_option, flat_map, list_any, slice_get}
 use Rattle.std.proofs.lemmas.List.Folds.{list_any-append}
 
 -- the first of a value that may be there
@@ -12,17 +12,6 @@ first_of_one (Some v) = refl
 pub flat_more : {A B : Type 0} (found : List B) (make : A → List B) (x : A) (xs : List A)
     → (found ++ make x) ++ flat_map make xs ≡ found ++ flat_map make (x ∷ xs)
 flat_more found make x xs = append_assoc found (make x) (flat_map make xs)
-
--- two functions that agree, over a list
-pub flat_map_same : {A B : Type 0} (f g : A → List B) → ((x : A) → f x ≡ g x) → (xs : List A) → flat_map f xs ≡ flat_map g xs
-flat_map_same f g same [] = refl
-flat_map_same f g same (x ∷ xs) = rw (same x, flat_map_same f g same xs) refl
-
--- the first number of a range
-pub range_first : (i n : ℕ) → i < n → range_with_len (i + 1) (n - i) ≡ (i + 1) ∷ range_with_len (i + 1 + 1) (n - (i + 1))
-range_first i n lt =
-    let more : n - i ≡ suc (n - (i + 1)) = omega arith in
-    rw more refl
 
 -- a member of two lists passes a test
 pub any_append : {A : Type 0} (p : A → Bool) (xs ys : List A) → list_any p (xs ++ ys) ≡ (list_any p xs || list_any p ys)

@@ -8,7 +8,7 @@ use Rattle.std.specs.declared.cmp.Ordering.{Ordering}
 use Rattle.std.specs.declared.cmp.Ordering.TheVariants.{Less}
 use Rattle.std.proofs.lemmas.List.Elements.{All-contains, All-from_recursion}
 use Rattle.sym_check.specs.declared.finding.SymFinding.{SymFinding}
-use Rattle.sym_check.specs.Order.{AreInOrder, by_finding, by_finding_total}
+use Rattle.sym_check.specs.Order.{AreInOrder, by_symbol_finding, by_symbol_finding_total}
 
 head_or : {K : Type 0} (y k : K) (ys : List K) → Contains (y ∷ ys) k → (y ≡ k) ⊎ Contains ys k
 head_or y k ys (zero, lt, e) = inl e
@@ -70,5 +70,5 @@ module _ {K : Type 0} (R : K → K → Ordering) (o : IsTotalOrder R) where
 -- so the findings of a list in order are one list
 pub one_list : (found first second : List SymFinding) → AreInOrder found first → AreInOrder found second → first ≡ second
 one_list found first second a b =
-    one by_finding by_finding_total first second a.rising b.rising
+    one by_symbol_finding by_symbol_finding_total first second a.rising b.rising
     (λ f. (λ at. (b.same f).1 ((a.same f).0 at), λ at. (a.same f).1 ((b.same f).0 at)))

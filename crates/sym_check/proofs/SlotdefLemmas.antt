@@ -5,10 +5,10 @@ use Rattle.std.proofs.lemmas.Bool.Decides.{nat_tests}
 use Rattle.attr_rules.specs.PinLists.{cut_of, is_pin_number, pieces_of, pin_numbers}
 use Rattle.attr_rules.specs.Slots.{exceeds, is_same, short_number, slot_count, slot_pins}
 use Rattle.attr_rules.specs.declared.slots.SlotFault.{SlotFault}
-use Rattle.sym_check.specs.Slotdefs.{head_of, is_bad_cut, is_bad_slotdef}
+use Rattle.sym_check.specs.Slotdefs.{is_bad_cut, is_bad_slotdef, slotdef_head}
 
 -- a `slotdef` without `:` is bad
-pub none_is_bad : (count : Option ℕ) (pins : ℕ) (slotdef : List ℕ) → head_of slotdef ≡ None → is_bad_slotdef count pins slotdef ≡ true
+pub none_is_bad : (count : Option ℕ) (pins : ℕ) (slotdef : List ℕ) → slotdef_head slotdef ≡ None → is_bad_slotdef count pins slotdef ≡ true
 none_is_bad count pins slotdef none = by (cut_of slotdef) refl
   where
     by : (cut : Option (List ℕ × List ℕ)) → cut_of slotdef ≡ cut → is_bad_slotdef count pins slotdef ≡ true
@@ -54,7 +54,7 @@ module _ (numslots : Option (List ℕ)) (pins : ℕ) (slotdef head list : List �
   of_cut = ap (is_bad_cut (slot_count numslots) pins) cut ∙ by_head (short_number head) refl
 
 -- the slot that stands before the first `:` tells
-pub slotdef_is : (numslots : Option (List ℕ)) (pins : ℕ) (slotdef head : List ℕ) → head_of slotdef ≡ Some head
+pub slotdef_is : (numslots : Option (List ℕ)) (pins : ℕ) (slotdef head : List ℕ) → slotdef_head slotdef ≡ Some head
     → is_bad_slotdef (slot_count numslots) pins slotdef ≡ is_other pins (slot_pins head numslots (slotdef ∷ []))
 slotdef_is numslots pins slotdef head some = by (cut_of slotdef) refl
   where

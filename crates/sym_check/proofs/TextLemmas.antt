@@ -11,14 +11,15 @@ use Rattle.std.proofs.lemmas.Fmt.{digits_decimal}
 use Rattle.printed_texts.specs.PrintedTexts.{word, word_byte}
 use Rattle.text_tallies.specs.PairSets.{HasPairs, PairData, same_pair}
 use Rattle.text_tallies.specs.TwoOfAList.{two_pass}
+use Rattle.text_tallies.proofs.ListLemmas.{flat_map_same}
 use Rattle.text_tallies.proofs.PairLemmas.{two_pass_filter, two_pass_same}
+use Rattle.text_tallies.specs.Levels.{found_if}
 use Rattle.sym_check.specs.declared.checked.CheckedPin.{CheckedPin}
 use Rattle.sym_check.specs.declared.checked.CheckedSymbol.{CheckedSymbol}
 use Rattle.sym_check.specs.declared.finding.SymFinding.{SymFinding}
-use Rattle.sym_check.specs.Findings.{an_error, found_if, found_on_pin, found_on_slotdef, missing_slotdef, numbers_of, repeated, seqs_of, stands_twice}
-use Rattle.sym_check.specs.Slotdefs.{head_of, heads_of}
+use Rattle.sym_check.specs.Findings.{found_on_pin, found_on_slotdef, missing_slotdef, pin_numbers_of, repeated_text, seqs_of, stands_twice, symbol_error}
+use Rattle.sym_check.specs.Slotdefs.{heads_of, slotdef_head}
 use Rattle.sym_check.specs.steps.FoundBy.{HasPrinted, HasTwice, key_of, missing_slotdef_by, on_pin_by, on_slotdef_by, repeated_by}
-use Rattle.sym_check.proofs.ListLemmas.{flat_map_same}
 use Rattle.sym_check.proofs.NumberLemmas.{own}
 
 keys_are : (texts : List (List ℕ)) → map key_of texts ≡ filter_map (λ t. Some (key_of t)) texts
@@ -40,16 +41,16 @@ twice_of_keys texts keys twice same has q =
 
 -- on a text that may be there
 repeated_is : (code : ℕ) (texts : List (List ℕ)) (twice : BTreeSet PairData) → HasTwice texts twice
-    → (text : Option (List ℕ)) → repeated_by code twice text ≡ repeated code texts text
+    → (text : Option (List ℕ)) → repeated_by code twice text ≡ repeated_text code texts text
 repeated_is code texts twice has None = refl
-repeated_is code texts twice has (Some text) = ap (λ (b : Bool). found_if b (an_error code (word text))) (has text)
+repeated_is code texts twice has (Some text) = ap (λ (b : Bool). found_if b (symbol_error code (word text))) (has text)
 
 -- on all pins
-pub all_pins_by : (pins : List CheckedPin) (numbers seqs : BTreeSet PairData) → HasTwice (numbers_of pins) numbers → HasTwice (seqs_of pins) seqs
+pub all_pins_by : (pins : List CheckedPin) (numbers seqs : BTreeSet PairData) → HasTwice (pin_numbers_of pins) numbers → HasTwice (seqs_of pins) seqs
     → flat_map (on_pin_by numbers seqs) pins ≡ flat_map (found_on_pin pins) pins
 all_pins_by pins numbers seqs n s =
     flat_map_same (on_pin_by numbers seqs) (found_on_pin pins)
-    (λ pin. rw (repeated_is 6 (numbers_of pins) numbers n pin.number, repeated_is 7 (seqs_of pins) seqs s pin.seq) refl) pins
+    (λ pin. rw (repeated_is 6 (pin_numbers_of pins) numbers n pin.number, repeated_is 7 (seqs_of pins) seqs s pin.seq) refl) pins
 
 -- on all `slotdef`
 pub all_slotdefs_by : (s : CheckedSymbol) (slotdefs : List (List ℕ)) (twice : BTreeSet PairData) → slotdefs ≡ s.slotdefs → HasTwice (heads_of slotdefs) twice
@@ -57,7 +58,7 @@ pub all_slotdefs_by : (s : CheckedSymbol) (slotdefs : List (List ℕ)) (twice : 
 all_slotdefs_by s slotdefs twice same has =
     ap (flat_map (on_slotdef_by twice s)) same
     ∙ flat_map_same (on_slotdef_by twice s) (found_on_slotdef s)
-    (λ slotdef. rw (repeated_is 13 (heads_of s.slotdefs) twice (rw same at has) (head_of slotdef)) refl) s.slotdefs
+    (λ slotdef. rw (repeated_is 13 (heads_of s.slotdefs) twice (rw same at has) (slotdef_head slotdef)) refl) s.slotdefs
 
 -- a digit is a byte where it is what the byte prints as
 digit_is : (d b : ℕ) → is_ascii_digit d ≡ true → (d == word_byte b) ≡ (d == b)
@@ -79,7 +80,7 @@ any_printed ds (t ∷ texts) h = rw (digits_are ds t h, any_printed ds texts h) 
 missing_is : (slotdefs : List (List ℕ)) (heads : BTreeSet (List ℕ)) → HasPrinted (heads_of slotdefs) heads
     → (k : ℕ) → k < 2 ^ 64 → missing_slotdef_by heads k ≡ missing_slotdef slotdefs k
 missing_is slotdefs heads has k small =
-    ap (λ (b : Bool). found_if (not b) (an_error 12 (decimal k)))
+    ap (λ (b : Bool). found_if (not b) (symbol_error 12 (decimal k)))
     (has (decimal k) ∙ any_printed (decimal k) (heads_of slotdefs) (digits_decimal own k small))
 
 range_same : (f g : ℕ → List SymFinding) → ((k : ℕ) → k < 2 ^ 64 → f k ≡ g k) → (from n : ℕ) → from + n ≤ 2 ^ 64

@@ -20,8 +20,8 @@ is_net_pin p = of_shape p.shape
     of_shape other = false
 
 -- a pin's first attached attribute of a name
-abbrev pub pin_attr : PartData → List ℕ → Option (List ℕ)
-pin_attr p name = slice_get (values_named name p.attrs) 0
+abbrev pub attached_value : PartData → List ℕ → Option (List ℕ)
+attached_value p name = slice_get (values_named name p.attrs) 0
 
 -- one of the ten kinds that a `pintype` gives
 abbrev pub is_known : PinKind → Bool
@@ -46,10 +46,10 @@ is_off_grid p = of_shape p.shape
 abbrev pub pin_at : ℕ → PartData → CheckedPin
 pin_at place p = record {
   place = place;
-  number = pin_attr p (codes "pinnumber");
-  seq = pin_attr p (codes "pinseq");
-  has_label = is_some (pin_attr p (codes "pinlabel"));
-  has_kind = is_known (kind_of (pin_attr p (codes "pintype")));
+  number = attached_value p (codes "pinnumber");
+  seq = attached_value p (codes "pinseq");
+  has_label = is_some (attached_value p (codes "pinlabel"));
+  has_kind = is_known (kind_of (attached_value p (codes "pintype")));
   is_off_grid = is_off_grid p;
 }
 
@@ -59,5 +59,5 @@ pins_from place [] = []
 pins_from place (p ∷ ps) = pin_at place p ∷ pins_from (place + 1) ps
 
 -- the net pins of a symbol in file order: their places count from 0
-abbrev pub symbol_pins : List PartData → List CheckedPin
-symbol_pins parts = pins_from 0 (filter is_net_pin parts)
+abbrev pub checked_pins : List PartData → List CheckedPin
+checked_pins parts = pins_from 0 (filter is_net_pin parts)

@@ -5,7 +5,7 @@ use Rattle.geda_model.specs.Sheets.{SymbolData}
 use Rattle.attr_rules.specs.Components.{is_value}
 use Rattle.sym_check.specs.declared.checked.CheckedSymbol.{CheckedSymbol}
 use Rattle.sym_check.specs.FreeAttributes.{free_value, free_values}
-use Rattle.sym_check.specs.CheckedPins.{symbol_pins}
+use Rattle.sym_check.specs.CheckedPins.{checked_pins}
 
 -- a symbol with these parts as the check sees it
 abbrev pub checked_parts : List PartData → CheckedSymbol
@@ -16,7 +16,7 @@ checked_parts parts = record {
   numslots = free_value (codes "numslots") parts;
   slotdefs = free_values (codes "slotdef") parts;
   nets = free_values (codes "net") parts;
-  pins = symbol_pins parts;
+  pins = checked_pins parts;
 }
 
 -- the same of a symbol

@@ -5,7 +5,7 @@ use Rattle.geda_model.specs.Sheets.{SymbolData}
 use Rattle.attr_rules.specs.Slots.{slot_count, slot_pins}
 use Rattle.sym_check.specs.declared.finding.SymFinding.{SymFinding}
 use Rattle.sym_check.specs.FreeAttributes.{free_value, free_values}
-use Rattle.sym_check.specs.Findings.{found_in}
+use Rattle.sym_check.specs.Findings.{found_in_symbol}
 
 -- it is none of BadNumslots, MissingSlotdef, DuplicateSlotdef and BadSlotdef
 abbrev pub IsOffSlots : SymFinding → Type 0
@@ -15,7 +15,7 @@ IsOffSlots f = (f.code < 11) ⊎ (14 < f.code)
 -- the value n, each number from 1 to n is that of a slot whose pin numbers its free attributes give
 abbrev pub SlotsHold : SymbolData → Type 0
 SlotsHold symbol =
-    ((f : SymFinding) → Contains (found_in symbol) f → IsOffSlots f)
+    ((f : SymFinding) → Contains (found_in_symbol symbol) f → IsOffSlots f)
     → (n k : ℕ) → slot_count (free_value (codes "numslots") symbol.parts) ≡ Some n
     → 0 < k → k ≤ n
     → IsOk (slot_pins (decimal k) (free_value (codes "numslots") symbol.parts)

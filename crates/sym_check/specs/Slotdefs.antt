@@ -25,12 +25,12 @@ head_if None = None
 head_if (Some cut) = Some cut.0
 
 -- the same of a `slotdef`
-abbrev pub head_of : List ℕ → Option (List ℕ)
-head_of slotdef = head_if (cut_of slotdef)
+abbrev pub slotdef_head : List ℕ → Option (List ℕ)
+slotdef_head slotdef = head_if (cut_of slotdef)
 
 -- the same of all that have a `:`
 abbrev pub heads_of : List (List ℕ) → List (List ℕ)
-heads_of slotdefs = filter_map head_of slotdefs
+heads_of slotdefs = filter_map slotdef_head slotdefs
 
 -- a list has a number that is none
 abbrev pub has_bad_number : List ℕ → Bool

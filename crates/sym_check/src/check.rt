@@ -2,8 +2,8 @@
 ghost use Rattle.std.specs.Prelude.{◌≡◌, ◌↔◌, Contains, IfOk};
 ghost use Rattle.std.specs.List.Sorted.{IsStrictlySortedBy};
 ghost use Rattle.sym_check.specs.declared.finding.SymFinding.{SymFinding};
-ghost use Rattle.sym_check.specs.Findings.{found_in, found_on};
-ghost use Rattle.sym_check.specs.Order.{AreInOrder, by_finding};
+ghost use Rattle.sym_check.specs.Findings.{found_in_symbol, found_on_symbol};
+ghost use Rattle.sym_check.specs.Order.{AreInOrder, by_symbol_finding};
 
 use crate::checked::CheckedSymbol;
 use crate::finding::SymFinding;
@@ -16,7 +16,7 @@ use std::alloc::{AllocError, Global};
 use std::collections::BTreeSet;
 
 fn found_on(alloc: Global, symbol: &CheckedSymbol) -> Result<Vec<SymFinding>, AllocError>
-    ensures { IfOk result (λ found. found.items ≡ found_on symbol.now) }
+    ensures { IfOk result (λ found. found.items ≡ found_on_symbol symbol.now) }
 {
     let mut found = Vec::new(alloc);
     push_on_whole(alloc, &mut found, symbol)?;
@@ -38,7 +38,7 @@ fn each_once(alloc: Global, found: Vec<SymFinding>) -> Result<BTreeSet<SymFindin
 /// The findings of a set, in order.
 fn listed(alloc: Global, set: BTreeSet<SymFinding>) -> Result<Vec<SymFinding>, AllocError>
     ensures same { IfOk result (λ list. list.items ≡ set.keys) }
-    ensures rising { IsStrictlySortedBy by_finding set.keys }
+    ensures rising { IsStrictlySortedBy by_symbol_finding set.keys }
 {
     // That the findings rise is told by the length.
     let _ = set.len();
@@ -52,7 +52,7 @@ fn listed(alloc: Global, set: BTreeSet<SymFinding>) -> Result<Vec<SymFinding>, A
 /// The findings of a symbol, by code and then by the bytes of their words, equal ones once
 /// (docs/RULES.md, "Symbol check").
 pub fn check_symbol(alloc: Global, symbol: &Symbol) -> Result<Vec<SymFinding>, AllocError>
-    ensures { IfOk result (λ list. AreInOrder (found_in symbol.now) list.items) }
+    ensures { IfOk result (λ list. AreInOrder (found_in_symbol symbol.now) list.items) }
 {
     let checked = checked_symbol(alloc, symbol)?;
     let found = found_on(alloc, &checked)?;

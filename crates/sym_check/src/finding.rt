@@ -1,6 +1,6 @@
 // Findings, in order.
 ghost use Rattle.std.specs.Prelude.{◌≡◌, ℕ};
-ghost use Rattle.sym_check.specs.Order.{level_rank};
+ghost use Rattle.sym_check.specs.Order.{symbol_level_rank};
 
 use geda_model::Line;
 use std::cmp::Ordering;
@@ -19,7 +19,7 @@ pub struct SymFinding {
 
 /// The place of a level in the order of findings.
 fn level_rank(error: bool) -> u8
-    ensures { result ≡ level_rank error }
+    ensures { result ≡ symbol_level_rank error }
 {
     if error { 0 } else { 1 }
 }
@@ -27,11 +27,11 @@ fn level_rank(error: bool) -> u8
 impl PartialEq for SymFinding {
     ghost use Rattle.std.specs.Cmp.{eq_by_cmp_equiv, partial_equiv_from_equiv};
     ghost use Rattle.std.specs.Ordering.{eq_by_cmp};
-    ghost use Rattle.sym_check.specs.Order.{by_finding, by_finding_total};
+    ghost use Rattle.sym_check.specs.Order.{by_symbol_finding, by_symbol_finding_total};
 
-    ghost eq = { eq_by_cmp by_finding };
+    ghost eq = { eq_by_cmp by_symbol_finding };
 
-    ghost laws = { partial_equiv_from_equiv (eq_by_cmp_equiv by_finding_total) };
+    ghost laws = { partial_equiv_from_equiv (eq_by_cmp_equiv by_symbol_finding_total) };
 
     fn eq(&self, other: &SymFinding) -> bool {
         self.cmp(other).is_eq()
@@ -40,20 +40,20 @@ impl PartialEq for SymFinding {
 
 impl Eq for SymFinding {
     ghost use Rattle.std.specs.Cmp.{eq_by_cmp_equiv};
-    ghost use Rattle.sym_check.specs.Order.{by_finding_total};
+    ghost use Rattle.sym_check.specs.Order.{by_symbol_finding_total};
 
-    ghost laws = { eq_by_cmp_equiv by_finding_total };
+    ghost laws = { eq_by_cmp_equiv by_symbol_finding_total };
 }
 
 impl PartialOrd for SymFinding {
     ghost use Rattle.std.specs.Prelude.{Some};
     ghost use Rattle.std.specs.Cmp.{partial_order_from_total};
     ghost use Rattle.std.specs.Ordering.{as_partial_cmp};
-    ghost use Rattle.sym_check.specs.Order.{by_finding, by_finding_total};
+    ghost use Rattle.sym_check.specs.Order.{by_symbol_finding, by_symbol_finding_total};
 
-    ghost partial_cmp = { as_partial_cmp by_finding };
+    ghost partial_cmp = { as_partial_cmp by_symbol_finding };
 
-    ghost laws = { partial_order_from_total by_finding_total };
+    ghost laws = { partial_order_from_total by_symbol_finding_total };
 
     fn partial_cmp(&self, other: &SymFinding) -> Option<Ordering> {
         Some(self.cmp(other))
@@ -63,11 +63,11 @@ impl PartialOrd for SymFinding {
 impl Ord for SymFinding {
     ghost use Rattle.std.proofs.Common.{rules};
     ghost use Rattle.std.specs.Cmp.Rules.{comparing};
-    ghost use Rattle.sym_check.specs.Order.{by_finding, by_finding_total};
+    ghost use Rattle.sym_check.specs.Order.{by_symbol_finding, by_symbol_finding_total};
 
-    ghost cmp = { by_finding };
+    ghost cmp = { by_symbol_finding };
 
-    ghost total = { by_finding_total };
+    ghost total = { by_symbol_finding_total };
 
     ghost matches_partial_cmp = { Prim.search (comparing, rules) };
 

@@ -1,8 +1,8 @@
 // The net pins of symbols.
 ghost use Rattle.std.specs.Prelude.{◌≡◌, ◌≤◌, ◌&&◌, IfOk, length, option_copied};
 ghost use Rattle.attr_rules.specs.Kinds.{kind_of};
-ghost use Rattle.sym_check.specs.CheckedPins.{is_known, is_net_pin, is_off_grid, is_on_grid};
-ghost use Rattle.sym_check.specs.CheckedPins.{pin_at, pin_attr, symbol_pins};
+ghost use Rattle.sym_check.specs.CheckedPins.{attached_value, checked_pins, is_known, is_net_pin};
+ghost use Rattle.sym_check.specs.CheckedPins.{is_off_grid, is_on_grid, pin_at};
 
 use crate::checked::CheckedPin;
 use crate::free_attributes::copy_of;
@@ -37,7 +37,7 @@ fn is_off_grid(part: &Part) -> bool
 }
 
 fn pin_attr<'a>(part: &'a Part, name: &str) -> Option<&'a str>
-    ensures { option_copied result ≡ pin_attr part.now name.now }
+    ensures { option_copied result ≡ attached_value part.now name.now }
 {
     first_value(part.attrs.as_slice(), name)
 }
@@ -64,7 +64,7 @@ fn pin_at(alloc: Global, place: u32, part: &Part) -> Result<CheckedPin, AllocErr
 /// The net pins among the parts of a symbol, by place (docs/RULES.md, "Pins").
 pub fn symbol_pins(alloc: Global, parts: &[Part]) -> Result<Vec<CheckedPin>, AllocError>
     requires { length parts.now ≤ 4294967295 }
-    ensures { IfOk result (λ pins. pins.items ≡ symbol_pins parts.now) }
+    ensures { IfOk result (λ pins. pins.items ≡ checked_pins parts.now) }
 {
     let mut pins = Vec::new(alloc);
     let mut place: u32 = 0;

@@ -4,7 +4,7 @@ ghost use Rattle.std.specs.List.{flat_map, range_with_len};
 ghost use Rattle.attr_rules.specs.Slots.{slot_count};
 ghost use Rattle.sym_check.specs.Findings.{bad_numslots, bad_slotdef, found_on_slotdef};
 ghost use Rattle.sym_check.specs.Findings.{found_on_slots, missing_slotdef};
-ghost use Rattle.sym_check.specs.Slotdefs.{head_of, is_bad_slotdef};
+ghost use Rattle.sym_check.specs.Slotdefs.{is_bad_slotdef, slotdef_head};
 ghost use Rattle.sym_check.specs.steps.FoundBy.{missing_slotdef_by, on_slotdef_by, repeated_by};
 
 use crate::checked::CheckedSymbol;
@@ -133,7 +133,7 @@ fn push_repeated_head<'a>(
     slotdef: &'a str,
 ) -> Result<(), AllocError>
     ensures { OnOk result
-        (found.new.items ≡ found.old.items ++ repeated_by 13 twice.now (head_of slotdef.now)) }
+        (found.new.items ≡ found.old.items ++ repeated_by 13 twice.now (slotdef_head slotdef.now)) }
 {
     match head_of(slotdef) {
         None => Ok(()),

@@ -2,7 +2,7 @@
 ghost use Rattle.std.specs.Prelude.{◌≡◌, ◌++◌, ◌==◌, ◌&&◌, IfOk, OnOk, is_some, length, not};
 ghost use Rattle.std.specs.List.{flat_map};
 ghost use Rattle.attr_rules.specs.NetValues.{net_entry};
-ghost use Rattle.sym_check.specs.Findings.{bad_net, found_on_whole};
+ghost use Rattle.sym_check.specs.Findings.{bad_net_value, found_on_whole};
 
 use crate::checked::CheckedSymbol;
 use crate::finding::SymFinding;
@@ -47,7 +47,7 @@ fn is_bad_net(alloc: Global, value: &str) -> Result<bool, AllocError>
 }
 
 fn push_on_net(alloc: Global, found: &mut Vec<SymFinding>, value: &str) -> Result<(), AllocError>
-    ensures { OnOk result (found.new.items ≡ found.old.items ++ bad_net value.now) }
+    ensures { OnOk result (found.new.items ≡ found.old.items ++ bad_net_value value.now) }
 {
     let is_bad = is_bad_net(alloc, value)?;
     error_on(alloc, found, is_bad, 15, value)
@@ -59,7 +59,7 @@ pub fn push_on_nets(
     found: &mut Vec<SymFinding>,
     nets: &[Block],
 ) -> Result<(), AllocError>
-    ensures { OnOk result (found.new.items ≡ found.old.items ++ flat_map bad_net nets.now) }
+    ensures { OnOk result (found.new.items ≡ found.old.items ++ flat_map bad_net_value nets.now) }
 {
     for value in nets {
         push_on_net(alloc, found, value.as_str())?;

@@ -2,7 +2,8 @@
 ghost use Rattle.std.specs.Prelude.{◌≡◌, ◌++◌, ◌∷◌, [], IfOk, OnOk};
 ghost use Rattle.std.specs.Fmt.{decimal};
 ghost use Rattle.printed_texts.specs.PrintedTexts.{word};
-ghost use Rattle.sym_check.specs.Findings.{a_warning, an_error, found_if};
+ghost use Rattle.text_tallies.specs.Levels.{found_if};
+ghost use Rattle.sym_check.specs.Findings.{symbol_error, symbol_warning};
 
 use crate::finding::SymFinding;
 use geda_model::Line;
@@ -11,7 +12,7 @@ use std::alloc::{AllocError, Global};
 
 /// Adds an error of a rule.
 pub fn push_error(found: &mut Vec<SymFinding>, code: u8, words: Line) -> Result<(), AllocError>
-    ensures { OnOk result (found.new.items ≡ found.old.items ++ an_error code words ∷ []) }
+    ensures { OnOk result (found.new.items ≡ found.old.items ++ symbol_error code words ∷ []) }
 {
     let error = true;
     found.push(SymFinding { code, error, words })?;
@@ -19,7 +20,7 @@ pub fn push_error(found: &mut Vec<SymFinding>, code: u8, words: Line) -> Result<
 }
 
 fn push_warning(found: &mut Vec<SymFinding>, code: u8, words: Line) -> Result<(), AllocError>
-    ensures { OnOk result (found.new.items ≡ found.old.items ++ a_warning code words ∷ []) }
+    ensures { OnOk result (found.new.items ≡ found.old.items ++ symbol_warning code words ∷ []) }
 {
     let error = false;
     found.push(SymFinding { code, error, words })?;
@@ -34,7 +35,7 @@ pub fn warn_if(
     code: u8,
 ) -> Result<(), AllocError>
     ensures { OnOk result
-        (found.new.items ≡ found.old.items ++ found_if is_broken (a_warning code [])) }
+        (found.new.items ≡ found.old.items ++ found_if is_broken (symbol_warning code [])) }
 {
     if is_broken {
         push_warning(found, code, Words::new(alloc).line(alloc)?)?;
@@ -59,8 +60,8 @@ pub fn error_at(
     code: u8,
     number: u32,
 ) -> Result<(), AllocError>
-    ensures { OnOk result
-        (found.new.items ≡ found.old.items ++ found_if is_broken (an_error code (decimal number))) }
+    ensures { OnOk result (found.new.items
+        ≡ found.old.items ++ found_if is_broken (symbol_error code (decimal number))) }
 {
     if is_broken {
         push_error(found, code, number_line(alloc, number)?)?;
@@ -77,7 +78,7 @@ pub fn warn_at(
     number: u32,
 ) -> Result<(), AllocError>
     ensures { OnOk result (found.new.items
-        ≡ found.old.items ++ found_if is_broken (a_warning code (decimal number))) }
+        ≡ found.old.items ++ found_if is_broken (symbol_warning code (decimal number))) }
 {
     if is_broken {
         push_warning(found, code, number_line(alloc, number)?)?;
@@ -94,7 +95,7 @@ pub fn error_on(
     text: &str,
 ) -> Result<(), AllocError>
     ensures { OnOk result (found.new.items
-        ≡ found.old.items ++ found_if is_broken (an_error code (word text.now))) }
+        ≡ found.old.items ++ found_if is_broken (symbol_error code (word text.now))) }
 {
     if is_broken {
         push_error(found, code, name_words(alloc, text)?)?;

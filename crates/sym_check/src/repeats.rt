@@ -1,7 +1,7 @@
 // The texts that stand in a symbol, and those that stand twice.
 ghost use Rattle.std.specs.Prelude.{◌≡◌, IfOk, map, option_copied};
-ghost use Rattle.sym_check.specs.Findings.{numbers_of, seqs_of};
-ghost use Rattle.sym_check.specs.Slotdefs.{head_of, heads_of};
+ghost use Rattle.sym_check.specs.Findings.{pin_numbers_of, seqs_of};
+ghost use Rattle.sym_check.specs.Slotdefs.{heads_of, slotdef_head};
 ghost use Rattle.sym_check.specs.steps.FoundBy.{HasPrinted, HasTwice, has_text, key_of};
 ghost use Rattle.printed_texts.specs.PrintedTexts.{word};
 
@@ -31,14 +31,14 @@ pub fn has_text<'a>(texts: &BTreeSet<PairKey<'a>>, text: &'a str) -> bool
 /// What stands before the first `:` of a `slotdef`.
 #[tactic(auto, unfolding(attr_rules::specs::PinLists::cut_of))]
 pub fn head_of(slotdef: &str) -> Option<&str>
-    ensures { option_copied result ≡ head_of slotdef.now }
+    ensures { option_copied result ≡ slotdef_head slotdef.now }
 {
     let (head, _) = slotdef.split_once(':')?;
     Some(head)
 }
 
 fn number_keys(alloc: Global, pins: &[CheckedPin]) -> Result<Vec<PairKey<'_>>, AllocError>
-    ensures { IfOk result (λ keys. keys.items ≡ map key_of (numbers_of pins.now)) }
+    ensures { IfOk result (λ keys. keys.items ≡ map key_of (pin_numbers_of pins.now)) }
 {
     let mut keys = Vec::new(alloc);
     for pin in pins {
@@ -78,7 +78,7 @@ pub fn numbers_twice(
     alloc: Global,
     pins: &[CheckedPin],
 ) -> Result<BTreeSet<PairKey<'_>>, AllocError>
-    ensures { IfOk result (HasTwice (numbers_of pins.now)) }
+    ensures { IfOk result (HasTwice (pin_numbers_of pins.now)) }
 {
     let keys = number_keys(alloc, pins)?;
     let twice = pairs_twice(alloc, keys)?;

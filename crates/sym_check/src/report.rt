@@ -1,13 +1,14 @@
 // The text of a report on symbols.
 ghost use Rattle.std.specs.Prelude.{◌≡◌, ◌++◌, IfOk, OnOk, count_by};
 ghost use Rattle.std.specs.List.{flat_map, list_any};
-ghost use Rattle.sym_check.specs.Report.{all_found, code_name, count_text, file_text};
-ghost use Rattle.sym_check.specs.Report.{finding_text, is_error, is_warning, level_word};
-ghost use Rattle.sym_check.specs.Report.{levels_text, report_text, words_text};
+ghost use Rattle.sym_check.specs.Report.{all_found, file_count_text, file_text, is_symbol_error};
+ghost use Rattle.sym_check.specs.Report.{is_symbol_warning, symbol_finding_text, symbol_level_word};
+ghost use Rattle.sym_check.specs.Report.{symbol_report_text, symbol_rule_name, words_text};
 
 use crate::finding::SymFinding;
 use geda_model::{Items, Name};
 use std::alloc::{AllocError, Global};
+use text_tallies::put_levels;
 
 /// A file with a symbol that was checked.
 #[derive(Debug, Drop)]
@@ -20,7 +21,7 @@ pub struct CheckedFile {
 
 /// The name of a rule by its number.
 fn code_name(code: u8) -> &'static str
-    ensures { result.now ≡ code_name code }
+    ensures { result.now ≡ symbol_rule_name code }
 {
     match code {
         1 => "NoDevice",
@@ -42,7 +43,7 @@ fn code_name(code: u8) -> &'static str
 }
 
 fn level_word(error: bool) -> &'static str
-    ensures { result.now ≡ level_word error }
+    ensures { result.now ≡ symbol_level_word error }
 {
     if error { "error" } else { "warning" }
 }
@@ -61,7 +62,7 @@ fn put_words(out: &mut Vec<u8>, words: &str) -> Result<(), AllocError>
 }
 
 fn put_finding(out: &mut Vec<u8>, finding: &SymFinding) -> Result<(), AllocError>
-    ensures { OnOk result (out.new.items ≡ out.old.items ++ finding_text finding.now) }
+    ensures { OnOk result (out.new.items ≡ out.old.items ++ symbol_finding_text finding.now) }
 {
     out.extend_from_slice(level_word(finding.error).as_bytes())?;
     out.push(b' ')?;
@@ -72,7 +73,8 @@ fn put_finding(out: &mut Vec<u8>, finding: &SymFinding) -> Result<(), AllocError
 }
 
 fn put_findings(out: &mut Vec<u8>, findings: &[SymFinding]) -> Result<(), AllocError>
-    ensures { OnOk result (out.new.items ≡ out.old.items ++ flat_map finding_text findings.now) }
+    ensures { OnOk result
+        (out.new.items ≡ out.old.items ++ flat_map symbol_finding_text findings.now) }
 {
     for finding in findings {
         put_finding(out, finding)?;
@@ -81,7 +83,7 @@ fn put_findings(out: &mut Vec<u8>, findings: &[SymFinding]) -> Result<(), AllocE
 }
 
 fn put_count(alloc: Global, out: &mut Vec<u8>, file: &str, count: usize) -> Result<(), AllocError>
-    ensures { OnOk result (out.new.items ≡ out.old.items ++ count_text file.now count) }
+    ensures { OnOk result (out.new.items ≡ out.old.items ++ file_count_text file.now count) }
 {
     let line = format!(in alloc; "{file}: findings {count}\n")?;
     out.extend_from_slice(line.as_bytes())
@@ -104,20 +106,20 @@ fn put_files(alloc: Global, out: &mut Vec<u8>, files: &[CheckedFile]) -> Result<
 }
 
 fn count_errors(findings: &[SymFinding]) -> usize
-    ensures { result ≡ count_by is_error findings.now }
+    ensures { result ≡ count_by is_symbol_error findings.now }
 {
     findings.iter().filter(|finding| finding.error).count()
 }
 
 fn count_warnings(findings: &[SymFinding]) -> usize
-    ensures { result ≡ count_by is_warning findings.now }
+    ensures { result ≡ count_by is_symbol_warning findings.now }
 {
     findings.iter().filter(|finding| !finding.error).count()
 }
 
 /// How many errors are found in all files.
 fn all_errors(files: &[CheckedFile]) -> u128
-    ensures { result ≡ count_by is_error (all_found files.now) }
+    ensures { result ≡ count_by is_symbol_error (all_found files.now) }
 {
     let mut errors: u128 = 0;
     for file in files {
@@ -128,7 +130,7 @@ fn all_errors(files: &[CheckedFile]) -> u128
 
 /// How many warnings are found in all files.
 fn all_warnings(files: &[CheckedFile]) -> u128
-    ensures { result ≡ count_by is_warning (all_found files.now) }
+    ensures { result ≡ count_by is_symbol_warning (all_found files.now) }
 {
     let mut warnings: u128 = 0;
     for file in files {
@@ -137,21 +139,9 @@ fn all_warnings(files: &[CheckedFile]) -> u128
     warnings
 }
 
-fn put_levels(
-    alloc: Global,
-    out: &mut Vec<u8>,
-    errors: u128,
-    warnings: u128,
-) -> Result<(), AllocError>
-    ensures { OnOk result (out.new.items ≡ out.old.items ++ levels_text errors warnings) }
-{
-    let line = format!(in alloc; "errors {errors} warnings {warnings}\n")?;
-    out.extend_from_slice(line.as_bytes())
-}
-
 /// The text of a report on these files, in their order (docs/FORMATS.md, "Symbol report").
 pub fn report_text(alloc: Global, files: &[CheckedFile]) -> Result<Vec<u8>, AllocError>
-    ensures { IfOk result (λ text. text.items ≡ report_text files.now) }
+    ensures { IfOk result (λ text. text.items ≡ symbol_report_text files.now) }
 {
     let mut out = Vec::new(alloc);
     put_files(alloc, &mut out, files)?;
@@ -160,7 +150,7 @@ pub fn report_text(alloc: Global, files: &[CheckedFile]) -> Result<Vec<u8>, Allo
 }
 
 fn has_error(findings: &[SymFinding]) -> bool
-    ensures { result ≡ list_any is_error findings.now }
+    ensures { result ≡ list_any is_symbol_error findings.now }
 {
     findings.iter().any(|finding| finding.error)
 }
@@ -168,7 +158,7 @@ fn has_error(findings: &[SymFinding]) -> bool
 /// Whether an error is found in some file. It takes no memory.
 #[tactic(auto, using(crate::proofs::ListLemmas::any_append))]
 pub fn has_errors(files: &[CheckedFile]) -> bool
-    ensures { result ≡ list_any is_error (all_found files.now) }
+    ensures { result ≡ list_any is_symbol_error (all_found files.now) }
 {
     for file in files {
         if has_error(file.findings.as_slice()) {

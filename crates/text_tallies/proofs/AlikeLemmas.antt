@@ -12,7 +12,7 @@ use Rattle.std.proofs.lemmas.Map.Text.{is_eq-slice_cmp}
 use Rattle.geda_defs.proofs.Bytes.{bytes_same}
 use Rattle.printed_texts.specs.PrintedTexts.{word}
 use Rattle.text_tallies.specs.LookAlike.{look_alike, print_alike}
-use Rattle.text_tallies.specs.NameSets.{has_name}
+use Rattle.text_tallies.specs.NameSets.{set_has_name}
 use Rattle.text_tallies.specs.steps.FirstNames.{AddsFirst, AddsIf, FirstNames, alike_after, first_at}
 use Rattle.text_tallies.proofs.PairLemmas.{and_false, any_none, any_pairs, any_same, or_false}
 
@@ -110,9 +110,9 @@ pub adds_if : (is_other : Bool) (text : List ℕ) (old new : set.BTreeSet (List 
 adds_if is_other text old new other updates q =
     updates.0 q ∙ rw (is_eq-slice_cmp text q, other) (by (bytes_eq text q))
   where
-    by : (b : Bool) → cond b true (has_name old q) ≡ (has_name old q || (b && true))
-    by true = sym (or_true (has_name old q))
-    by false = sym (or_false (has_name old q))
+    by : (b : Bool) → cond b true (set_has_name old q) ≡ (set_has_name old q || (b && true))
+    by true = sym (or_true (set_has_name old q))
+    by false = sym (or_false (set_has_name old q))
 
 or_none : (first : Option (List ℕ)) → option_or first None ≡ first
 or_none None = refl
@@ -132,5 +132,5 @@ adds_first text name old new free updates q =
     by false e = sym (or_none (first_at old q))
 
 -- an empty set has no name
-pub none_has : (names : set.BTreeSet (List ℕ)) (q : List ℕ) → names.keys ≡ [] → has_name names q ≡ false
+pub none_has : (names : set.BTreeSet (List ℕ)) (q : List ℕ) → names.keys ≡ [] → set_has_name names q ≡ false
 none_has names q none = rw none refl

@@ -8,7 +8,7 @@ use Rattle.std.specs.Ordering.{eq_by_cmp, nat_cmp}
 use Rattle.std.specs.Str.{bytes_eq}
 use Rattle.std.proofs.lemmas.Map.Text.{is_eq-slice_cmp}
 use Rattle.geda_defs.proofs.Bytes.{bytes_same}
-use Rattle.text_tallies.specs.NameSets.{has_name}
+use Rattle.text_tallies.specs.NameSets.{set_has_name}
 use Rattle.text_tallies.specs.PairSets.{PairData, by_pair, has_pair, same_pair}
 use Rattle.text_tallies.specs.steps.KeySteps.{AddsName, AddsNameIfSeen, AddsPair, AddsPairIfSeen, is_seen, name_key}
 use Rattle.text_tallies.proofs.PairLemmas.{and_false}
@@ -65,6 +65,6 @@ module _ {S : Type 0} where
   name_seen name seen old new met updates q =
       adds (lists_total nat_cmp_total) name old new updates q ∙ rw (is_eq-slice_cmp q name) (by (bytes_eq q name) refl)
     where
-      by : (b : Bool) → bytes_eq q name ≡ b → (has_name old q || b) ≡ (has_name old q || (is_seen seen (name_key q) && b))
+      by : (b : Bool) → bytes_eq q name ≡ b → (set_has_name old q || b) ≡ (set_has_name old q || (is_seen seen (name_key q) && b))
       by true e = rw (bytes_same q name e, met) refl
       by false e = rw (and_false (is_seen seen (name_key q))) refl

@@ -5,9 +5,9 @@ use Rattle.std.specs.Cmp.Lexicographic.{slice_cmp}
 use Rattle.std.specs.Ordering.{nat_cmp}
 
 -- the name is in the set
-abbrev pub has_name : BTreeSet (List ℕ) → List ℕ → Bool
-has_name names q = contains (slice_cmp nat_cmp) names q
+abbrev pub set_has_name : BTreeSet (List ℕ) → List ℕ → Bool
+set_has_name names q = contains (slice_cmp nat_cmp) names q
 
 -- the set has the names that a test passes, and no other
 abbrev pub HasNames : (List ℕ → Bool) → BTreeSet (List ℕ) → Type 0
-HasNames test names = (q : List ℕ) → has_name names q ≡ test q
+HasNames test names = (q : List ℕ) → set_has_name names q ≡ test q

@@ -6,13 +6,14 @@ use Rattle.std.specs.Fmt.{decimal}
 use Rattle.std.specs.List.{list_any}
 use Rattle.std.specs.Str.{bytes_eq}
 use Rattle.printed_texts.specs.PrintedTexts.{word}
-use Rattle.text_tallies.specs.NameSets.{HasNames, has_name}
+use Rattle.text_tallies.specs.NameSets.{HasNames, set_has_name}
 use Rattle.text_tallies.specs.PairSets.{PairData, has_pair}
+use Rattle.text_tallies.specs.Levels.{found_if}
 use Rattle.sym_check.specs.declared.checked.CheckedPin.{CheckedPin}
 use Rattle.sym_check.specs.declared.checked.CheckedSymbol.{CheckedSymbol}
 use Rattle.sym_check.specs.declared.finding.SymFinding.{SymFinding}
-use Rattle.sym_check.specs.Findings.{an_error, bad_pintype, bad_slotdef, found_if, missing_label, missing_number, missing_seq, off_grid, stands_twice}
-use Rattle.sym_check.specs.Slotdefs.{head_of}
+use Rattle.sym_check.specs.Findings.{bad_pintype, bad_slotdef, missing_label, missing_number, missing_seq, off_grid, stands_twice, symbol_error}
+use Rattle.sym_check.specs.Slotdefs.{slotdef_head}
 
 -- a text as the second of a pair
 abbrev pub key_of : List ℕ → PairData
@@ -33,7 +34,7 @@ HasTwice list texts = (q : List ℕ) → has_text texts q ≡ stands_twice list 
 -- a text that may be there is in a set
 abbrev pub repeated_by : ℕ → BTreeSet PairData → Option (List ℕ) → List SymFinding
 repeated_by code twice None = []
-repeated_by code twice (Some text) = found_if (has_text twice text) (an_error code (word text))
+repeated_by code twice (Some text) = found_if (has_text twice text) (symbol_error code (word text))
 
 -- what is found on a pin, by the numbers and by the `pinseq` that stand twice
 abbrev pub on_pin_by : BTreeSet PairData → BTreeSet PairData → CheckedPin → List SymFinding
@@ -43,9 +44,10 @@ on_pin_by numbers seqs pin =
 
 -- no `slotdef` begins with this number, by what those that begin with something print there
 abbrev pub missing_slotdef_by : BTreeSet (List ℕ) → ℕ → List SymFinding
-missing_slotdef_by heads k = found_if (not (has_name heads (decimal k))) (an_error 12 (decimal k))
+missing_slotdef_by heads k =
+    found_if (not (set_has_name heads (decimal k))) (symbol_error 12 (decimal k))
 
 -- what is found on a `slotdef`, by what two `slotdef` begin with
 abbrev pub on_slotdef_by : BTreeSet PairData → CheckedSymbol → List ℕ → List SymFinding
 on_slotdef_by twice s slotdef =
-    repeated_by 13 twice (head_of slotdef) ++ bad_slotdef s slotdef
+    repeated_by 13 twice (slotdef_head slotdef) ++ bad_slotdef s slotdef

@@ -9,7 +9,7 @@ use Rattle.std.specs.Ordering.{nat_cmp}
 use Rattle.std.specs.Borrow.{Bor}
 use Rattle.std.specs.Str.{bytes_eq}
 use Rattle.printed_texts.specs.PrintedTexts.{word}
-use Rattle.text_tallies.specs.NameSets.{has_name}
+use Rattle.text_tallies.specs.NameSets.{set_has_name}
 
 -- the first name of each printed text
 abbrev pub FirstNames : Type 0
@@ -32,14 +32,14 @@ AddsFirst text name old new = (q : List ℕ)
 -- one more text in a set, under a condition
 abbrev pub AddsIf : Bool → List ℕ → BTreeSet (List ℕ) → BTreeSet (List ℕ) → Type 0
 AddsIf is_other text old new = (q : List ℕ)
-    → has_name new q ≡ (has_name old q || (bytes_eq text q && is_other))
+    → set_has_name new q ≡ (set_has_name old q || (bytes_eq text q && is_other))
 
 -- the printed text of a name in a set, if the first name of that text is another
 abbrev pub AddsDiffering :
     List ℕ → FirstNames → BTreeSet (List ℕ) → BTreeSet (List ℕ) → Type 0
 AddsDiffering name firsts old new = (q : List ℕ)
-    → has_name new q
-    ≡ (has_name old q || (bytes_eq (word name) q && differs (first_at firsts q) name))
+    → set_has_name new q
+    ≡ (set_has_name old q || (bytes_eq (word name) q && differs (first_at firsts q) name))
 
 -- the first name of a printed text, after one more name
 abbrev pub first_after : Option (List ℕ) → List ℕ → List ℕ → Option (List ℕ)

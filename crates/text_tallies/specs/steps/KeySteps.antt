@@ -5,7 +5,7 @@ use Rattle.std.specs.BTreeSet.{BTreeSet}
 use Rattle.std.specs.HashSet.{HashSet, contains}
 use Rattle.std.specs.Ordering.{eq_by_cmp}
 use Rattle.std.specs.Str.{bytes_eq}
-use Rattle.text_tallies.specs.NameSets.{has_name}
+use Rattle.text_tallies.specs.NameSets.{set_has_name}
 use Rattle.text_tallies.specs.PairSets.{PairData, by_pair, has_pair, same_pair}
 
 -- a name as a pair, with nothing behind it
@@ -36,4 +36,4 @@ module _ {S : Type 0} where
   abbrev pub AddsNameIfSeen :
       List ℕ → HashSet PairData S → BTreeSet (List ℕ) → BTreeSet (List ℕ) → Type 0
   AddsNameIfSeen name seen old new = (q : List ℕ)
-      → has_name new q ≡ (has_name old q || (is_seen seen (name_key q) && bytes_eq q name))
+      → set_has_name new q ≡ (set_has_name old q || (is_seen seen (name_key q) && bytes_eq q name))

@@ -1,7 +1,8 @@
 use Rattle.std.proofs.Common.{◌∙◌, ◌+◌, ◌-◌, ◌<◌, ◌++◌, ℕ, List, rules, ap, sym}
 use Rattle.std.specs.List.{flat_map, range_with_len}
+use Rattle.text_tallies.proofs.ListLemmas.{range_first}
 use Rattle.sym_check.specs.steps.FoundBy.{missing_slotdef_by}
-use Rattle.sym_check.proofs.ListLemmas.{flat_more, range_first}
+use Rattle.sym_check.proofs.ListLemmas.{flat_more}
 use Rattle.sym_check.proofs.on_slots.push_missing.Goals as goal
 
 pub loop-place-preserved : goal.loop-place-preserved

@@ -1,10 +1,10 @@
 use Rattle.std.proofs.Common.{◌≡◌, ◌≤◌, ◌+◌, ◌*◌, ◌^◌, drop}
 use Rattle.std.specs.Prelude.{count_by}
-use Rattle.sym_check.specs.Report.{all_found, is_warning}
+use Rattle.sym_check.specs.Report.{all_found, is_symbol_warning}
 use Rattle.sym_check.proofs.report.all_warnings.Given as goal
 
 abbrev pub invariant-loop-file : goal.invariant-loop-file
 invariant-loop-file l = record {
   small : l.warnings ≤ l.file-index * 2 ^ 64;
-  rest : l.warnings + count_by is_warning (all_found (drop l.file-index l.files)) ≡ count_by is_warning (all_found l.files);
+  rest : l.warnings + count_by is_symbol_warning (all_found (drop l.file-index l.files)) ≡ count_by is_symbol_warning (all_found l.files);
 }
