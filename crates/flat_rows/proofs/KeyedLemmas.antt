@@ -2,9 +2,9 @@
 -- that are made of others.
 use Rattle.std.proofs.Common.{◌≡◌, ℕ, suc, ◌+◌, ◌<◌, ◌≤◌, ◌==◌, Bool, true, false, cond, List, [], ◌∷◌, ◌++◌, length, map, refl, sym, ap, ap₂, ◌∙◌, arith}
 use Rattle.std.proofs.lemmas.Bool.{eq-eqb, ne_eqb}
-use Rattle.std.proofs.lemmas.List.{append-nil, append_assoc}
+use Rattle.std.proofs.lemmas.List.{append-nil, append_assoc, map-append}
 use Rattle.flat_rows.specs.Keyed.{Keyed, keyed_at, keyed_from}
-use Rattle.flat_rows.specs.steps.Lists.{keys_at}
+use Rattle.flat_rows.specs.steps.Lists.{keys_at, keys_behind}
 
 module _ {C K : Type 0} (keys : C → List K) where
   -- with one more conductor
@@ -72,3 +72,32 @@ module _ {C K : Type 0} (keys : C → List K) where
 pub keyed_map : {B C K : Type 0} (f : B → C) (keys : C → List K) (place : ℕ) (bs : List B) → keyed_from keys place (map f bs) ≡ keyed_from (λ b. keys (f b)) place bs
 keyed_map f keys place [] = refl
 keyed_map {B} {C} {K} f keys place (b ∷ bs) = ap (λ (ks : List (Keyed K)). keyed_at place (keys (f b)) ++ ks) (keyed_map f keys (place + 1) bs)
+
+-- ---- keys behind those of other conductors
+
+behind_at : {K : Type 0} (first place : ℕ) (ks : List K) → keys_behind first (keyed_at place ks) ≡ keyed_at (first + place) ks
+behind_at first place [] = refl
+behind_at {K} first place (k ∷ ks) = ap (λ (rest : List (Keyed K)). (k, first + place) ∷ rest) (behind_at first place ks)
+
+module _ {C K : Type 0} (keys : C → List K) where
+  keyed_append : (place : ℕ) (cs ds : List C) → keyed_from keys place (cs ++ ds) ≡ keyed_from keys place cs ++ keyed_from keys (place + length cs) ds
+  keyed_append place [] ds = ap (λ (p : ℕ). keyed_from keys p ds) (let e : place ≡ place + 0 = omega arith in e)
+  keyed_append place (c ∷ cs) ds =
+      ap (λ (ks : List (Keyed K)). keyed_at place (keys c) ++ ks) (keyed_append (place + 1) cs ds
+      ∙ ap (λ (p : ℕ). keyed_from keys (place + 1) cs ++ keyed_from keys p ds) (let e : (place + 1) + length cs ≡ place + suc (length cs) = omega arith in e))
+      ∙ sym (append_assoc (keyed_at place (keys c)) (keyed_from keys (place + 1) cs) (keyed_from keys (place + suc (length cs)) ds))
+
+  behind_from : (first place : ℕ) (ds : List C) → keys_behind first (keyed_from keys place ds) ≡ keyed_from keys (first + place) ds
+  behind_from first place [] = refl
+  behind_from first place (d ∷ ds) =
+      map-append {B = Keyed K} (λ k. (k.0, first + k.1)) (keyed_at place (keys d)) (keyed_from keys (place + 1) ds)
+      ∙ ap₂ (λ (xs ys : List (Keyed K)). xs ++ ys) (behind_at first place (keys d))
+      (behind_from first (place + 1) ds ∙ ap (λ (p : ℕ). keyed_from keys p ds) (let e : first + (place + 1) ≡ (first + place) + 1 = omega arith in e))
+
+  -- the list behind which those of more conductors are put
+  pub keyed_behind : (old new more : List (Keyed K)) (cs ds : List C) (first : ℕ) → first ≡ length cs → old ≡ keyed_from keys 0 cs → more ≡ keyed_from keys 0 ds
+      → new ≡ old ++ keys_behind first more → new ≡ keyed_from keys 0 (cs ++ ds)
+  keyed_behind old new more cs ds first at is are put =
+      put
+      ∙ ap₂ (λ (xs ys : List (Keyed K)). xs ++ ys) is (ap (keys_behind first) are ∙ behind_from first 0 ds ∙ ap (λ (p : ℕ). keyed_from keys p ds) (let e : first + 0 ≡ 0 + length cs = omega (arith, at) in e))
+      ∙ sym (keyed_append 0 cs ds)

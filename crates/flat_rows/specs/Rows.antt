@@ -52,6 +52,20 @@ plain_conductor row member = record {
   directive = row.directive;
 }
 
+-- the same with these global names
+abbrev pub named_conductor : FlatRow → Option RowMember → List (List ℕ) → NewConductor
+named_conductor row member names = record {
+  instance = row.instance;
+  key = row.key;
+  shape = row.shape;
+  global_names = names;
+  drawn_names = [];
+  member = member;
+  leads_down = None;
+  leads_up = None;
+  directive = row.directive;
+}
+
 -- the part of a member, if there is one, is among the first few
 abbrev pub IsPartOf : ℕ → Option RowMember → Type 0
 IsPartOf count None = Unit {0}

@@ -1,10 +1,11 @@
 // What joins in a project, while its objects are taken in.
 ghost use Rattle.std.specs.Prelude.{◌≡◌, ◌++◌, ◌∷◌, [], IfOk, OnOk, length};
-ghost use Rattle.flat_rows.specs.Rows.{IsPartOf, conductor_of, plain_conductor};
+ghost use Rattle.flat_rows.specs.Rows.{IsPartOf, conductor_of, named_conductor, plain_conductor};
 
 use crate::flat::FlatRows;
-use crate::lists::{Lists, push_all};
+use crate::lists::Lists;
 use crate::rows::{FlatRow, NewConductor, RowMember};
+use geda_model::Block;
 use net_list::Package;
 use std::alloc::{AllocError, Global};
 use std::marker::Model;
@@ -14,29 +15,27 @@ use std::marker::Model;
 pub struct GrowingRows {
     parts: Vec<Package>,
     drawn: Lists,
-    hidden: Vec<NewConductor>,
+    hidden: Lists,
 }
 
 impl Model for GrowingRows {
-    ghost use Rattle.std.specs.Prelude.{length, map};
     ghost use Rattle.flat_rows.specs.Conductors.{GrowingData};
-    ghost use Rattle.flat_rows.specs.Rows.{conductor_of};
-    ghost use Rattle.flat_rows.specs.steps.Lists.{AreRows, HaveParts, flat_in};
+    ghost use Rattle.flat_rows.specs.steps.Lists.{AreRows, flat_in};
 
     ghost Value = { GrowingData };
 
     ghost view = { λ g. record {
       parts = g.parts.items;
       drawn = flat_in g.parts.items g.drawn;
-      hidden = map (conductor_of g.parts.items) g.hidden.items;
+      hidden = flat_in g.parts.items g.hidden;
     } };
 
-    ghost invariant = { λ g. AreRows g.parts.items g.drawn
-        × HaveParts (length g.parts.items) g.hidden.items };
+    ghost invariant = { λ g. AreRows g.parts.items g.drawn × AreRows g.parts.items g.hidden };
 }
 
 impl GrowingRows {
-    /// Nothing, with room for a listed part and three conductors of each of this many objects.
+    /// Nothing, with room for a listed part, three drawn conductors and a hidden pin of each of this
+    /// many objects.
     pub fn with_room(alloc: Global, objects: usize) -> Result<GrowingRows, AllocError>
         ensures parts { IfOk result (λ g. g.parts ≡ []) }
         ensures drawn { IfOk result (λ g. g.drawn ≡ []) }
@@ -45,7 +44,7 @@ impl GrowingRows {
         Ok(GrowingRows {
             parts: Vec::with_capacity(alloc, objects)?,
             drawn: Lists::with_room(alloc, objects.saturating_mul(3))?,
-            hidden: Vec::new(alloc),
+            hidden: Lists::with_room(alloc, objects)?,
         })
     }
 
@@ -92,7 +91,28 @@ impl GrowingRows {
         Ok(())
     }
 
-    /// Puts a hidden pin behind the others.
+    /// Puts a drawn conductor with global names alone behind the others. On want of memory all drawn
+    /// ones are gone.
+    pub fn push_named(
+        &mut self,
+        row: FlatRow,
+        member: Option<RowMember>,
+        names: &[Block],
+    ) -> Result<(), AllocError>
+        requires { IsPartOf (length self.old.parts) member }
+        ensures parts { OnOk result (self.new.parts ≡ self.old.parts) }
+        ensures drawn { OnOk result (self.new.drawn ≡ self.old.drawn
+            ++ conductor_of self.old.parts (named_conductor row member names.now) ∷ []) }
+        ensures hidden { OnOk result (self.new.hidden ≡ self.old.hidden) }
+    {
+        if let Err(error) = self.drawn.push_named(row, member, names) {
+            self.drawn.clear();
+            return Err(error);
+        }
+        Ok(())
+    }
+
+    /// Puts a hidden pin behind the others. On want of memory all hidden ones are gone.
     pub fn push_hidden(&mut self, conductor: NewConductor) -> Result<(), AllocError>
         requires { IsPartOf (length self.old.parts) conductor.member }
         ensures parts { OnOk result (self.new.parts ≡ self.old.parts) }
@@ -100,7 +120,31 @@ impl GrowingRows {
         ensures hidden { OnOk result
             (self.new.hidden ≡ self.old.hidden ++ conductor_of self.old.parts conductor ∷ []) }
     {
-        self.hidden.push(conductor)?;
+        if let Err(error) = self.hidden.push(conductor) {
+            self.hidden.clear();
+            return Err(error);
+        }
+        Ok(())
+    }
+
+    /// Puts a hidden pin with global names alone behind the others. On want of memory all hidden
+    /// ones are gone.
+    pub fn push_hidden_named(
+        &mut self,
+        row: FlatRow,
+        member: Option<RowMember>,
+        names: &[Block],
+    ) -> Result<(), AllocError>
+        requires { IsPartOf (length self.old.parts) member }
+        ensures parts { OnOk result (self.new.parts ≡ self.old.parts) }
+        ensures drawn { OnOk result (self.new.drawn ≡ self.old.drawn) }
+        ensures hidden { OnOk result (self.new.hidden ≡ self.old.hidden
+            ++ conductor_of self.old.parts (named_conductor row member names.now) ∷ []) }
+    {
+        if let Err(error) = self.hidden.push_named(row, member, names) {
+            self.hidden.clear();
+            return Err(error);
+        }
         Ok(())
     }
 
@@ -115,7 +159,7 @@ impl GrowingRows {
             hidden,
         } = self;
         let mut lists = drawn;
-        push_all(&mut lists, hidden)?;
+        lists.append(hidden)?;
         Ok(FlatRows { parts, lists })
     }
 }

@@ -2,9 +2,9 @@
 ghost use Rattle.std.specs.Prelude.{◌≡◌, ◌++◌, ◌∷◌, [], List, ℕ, IfOk, OnOk, length};
 ghost use Rattle.std.specs.Option.{option_to_list};
 ghost use Rattle.flat_rows.specs.Keyed.{keyed_at};
-ghost use Rattle.flat_rows.specs.Rows.{plain_conductor};
+ghost use Rattle.flat_rows.specs.Rows.{named_conductor, plain_conductor};
 ghost use Rattle.flat_rows.specs.declared.rows.NewConductor.{NewConductor};
-ghost use Rattle.flat_rows.specs.steps.Lists.{AreListsOf};
+ghost use Rattle.flat_rows.specs.steps.Lists.{AreListsOf, keys_behind};
 
 use crate::conductors::PortPins;
 use crate::rows::{FlatRow, NewConductor, RowMember};
@@ -41,6 +41,19 @@ fn put_names(
     Ok(())
 }
 
+fn put_copies(
+    names: &mut Vec<(Block, usize)>,
+    more: &[Block],
+    place: usize,
+) -> Result<(), AllocError>
+    ensures { OnOk result (names.new.items ≡ names.old.items ++ keyed_at place more.now) }
+{
+    for name in more {
+        names.push((name.clone()?, place))?;
+    }
+    Ok(())
+}
+
 fn put<T: Drop>(
     list: &mut Vec<(T, usize)>,
     value: Option<T>,
@@ -50,6 +63,22 @@ fn put<T: Drop>(
         (list.new.items ≡ list.old.items ++ keyed_at place (option_to_list value)) }
 {
     if let Some(value) = value {
+        list.push((value, place))?;
+    }
+    Ok(())
+}
+
+/// Puts keys behind others, of which the places count from this one. No list has so many rows that
+/// a place has no room.
+fn put_behind<T: Drop>(
+    list: &mut Vec<(T, usize)>,
+    more: Vec<(T, usize)>,
+    first: usize,
+) -> Result<(), AllocError>
+    ensures { OnOk result (list.new.items ≡ list.old.items ++ keys_behind first more.items) }
+{
+    for (value, place) in more {
+        let place = first.checked_add(place).ok_or(AllocError)?;
         list.push((value, place))?;
     }
     Ok(())
@@ -113,6 +142,48 @@ impl Lists {
         Ok(())
     }
 
+    /// Puts a conductor with global names alone behind the others. On want of memory only a part of
+    /// it may be there.
+    pub fn push_named(
+        &mut self,
+        row: FlatRow,
+        member: Option<RowMember>,
+        names: &[Block],
+    ) -> Result<(), AllocError>
+        ensures { OnOk result ((cs : List NewConductor) → AreListsOf self.old cs
+            → AreListsOf self.new (cs ++ named_conductor row member names.now ∷ [])) }
+    {
+        let place = self.rows.len();
+        put_copies(&mut self.global_names, names, place)?;
+        put(&mut self.members, member, place)?;
+        self.rows.push(row)?;
+        Ok(())
+    }
+
+    /// Puts the conductors of other lists behind these. On want of memory only some may be there.
+    pub fn append(&mut self, more: Lists) -> Result<(), AllocError>
+        ensures { OnOk result ((cs ds : List NewConductor) → AreListsOf self.old cs
+            → AreListsOf more ds → AreListsOf self.new (cs ++ ds)) }
+    {
+        let Lists {
+            rows,
+            global_names,
+            drawn_names,
+            members,
+            downs,
+            ups,
+        } = more;
+        let first = self.rows.len();
+        put_behind(&mut self.global_names, global_names, first)?;
+        put_behind(&mut self.drawn_names, drawn_names, first)?;
+        put_behind(&mut self.members, members, first)?;
+        put_behind(&mut self.downs, downs, first)?;
+        put_behind(&mut self.ups, ups, first)?;
+        let mut rows = rows;
+        self.rows.append(&mut rows)?;
+        Ok(())
+    }
+
     /// Takes all conductors out.
     pub fn clear(&mut self)
         ensures { AreListsOf self.new [] }
@@ -124,15 +195,4 @@ impl Lists {
         self.downs.clear();
         self.ups.clear();
     }
-}
-
-/// Puts conductors behind the others. On want of memory only some may be there.
-pub fn push_all(lists: &mut Lists, more: Vec<NewConductor>) -> Result<(), AllocError>
-    ensures { OnOk result ((cs : List NewConductor) → AreListsOf lists.old cs
-        → AreListsOf lists.new (cs ++ more.items)) }
-{
-    for conductor in more {
-        lists.push(conductor)?;
-    }
-    Ok(())
 }

@@ -1,4 +1,5 @@
 pub mod ObjectLemmas
 pub mod PartLemmas
+pub mod NameLemmas
 pub mod RoleLaws
 pub mod Cases

@@ -110,7 +110,7 @@ fn is_plain_pin(role: &PartRole, pin: &PlacedPin) -> bool
     pin.nets.len() == 0
 }
 
-fn pin_row(place: usize, id: u32, role: &PartRole, pin: &PlacedPin) -> FlatRow
+pub fn pin_row(place: usize, id: u32, role: &PartRole, pin: &PlacedPin) -> FlatRow
     ensures { result ≡ pin_row place id role.now pin.now }
 {
     FlatRow {
@@ -234,6 +234,28 @@ pub fn push_pins(
     Ok(())
 }
 
+/// Takes in a segment without names.
+fn push_bare_segment(
+    rows: &mut GrowingRows,
+    place: usize,
+    id: u32,
+    segment: Conductor,
+) -> Result<(), AllocError>
+    ensures parts { OnOk result (rows.new.parts ≡ rows.old.parts) }
+    ensures drawn { OnOk result
+        (rows.new.drawn ≡ rows.old.drawn ++ segment_with place id segment [] ∷ []) }
+    ensures hidden { OnOk result (rows.new.hidden ≡ rows.old.hidden) }
+{
+    let row = FlatRow {
+        instance: place,
+        key: Key { id, place: 0 },
+        shape: Some(segment),
+        directive: false,
+    };
+    rows.push_plain(row, None)?;
+    Ok(())
+}
+
 /// Takes in a segment with these names.
 fn push_segment(
     rows: &mut GrowingRows,
@@ -248,20 +270,9 @@ fn push_segment(
         (rows.new.drawn ≡ rows.old.drawn ++ segment_with place id segment names.items ∷ []) }
     ensures hidden { OnOk result (rows.new.hidden ≡ rows.old.hidden) }
 {
-    let key = Key { id, place: 0 };
-    if names.is_empty() {
-        let row = FlatRow {
-            instance: place,
-            key,
-            shape: Some(segment),
-            directive: false,
-        };
-        rows.push_plain(row, None)?;
-        return Ok(());
-    }
     rows.push_drawn(NewConductor {
         instance: place,
-        key,
+        key: Key { id, place: 0 },
         shape: Some(segment),
         global_names: Items::from_vec(Vec::new(alloc)),
         drawn_names: Items::from_vec(names),
@@ -289,11 +300,15 @@ pub fn push_shape(
 {
     match shape {
         Shape::Net { x1, y1, x2, y2, .. } => {
-            let names = attrs_of(alloc, found.object(), None, "netname")?;
-            let printed = names_under(alloc, &found.instance().path, names.into_vec())?;
             let a = Point { x: *x1, y: *y1 };
             let b = Point { x: *x2, y: *y2 };
             let segment = Conductor::Segment { a, b };
+            if found.object().attrs.as_slice().is_empty() {
+                push_bare_segment(rows, found.place(), found.id(), segment)?;
+                return Ok(());
+            }
+            let names = attrs_of(alloc, found.object(), None, "netname")?;
+            let printed = names_under(alloc, &found.instance().path, names.into_vec())?;
             push_segment(rows, alloc, found.place(), found.id(), segment, printed)?;
             Ok(())
         }

@@ -8,6 +8,8 @@
 mod conductors;
 mod contents;
 mod package;
+mod plan_rows;
+mod planned;
 mod ports;
 mod project;
 mod roles;

@@ -13,7 +13,7 @@ use crate::ports::pins_above;
 use attr_rules::FirstValues;
 use flat_rows::PortPins;
 use geda_model::{Component, Line};
-use hierarchy::Instance;
+use hierarchy::{Instance, line_of};
 use instance_objects::{InstanceObject, line_under};
 use std::alloc::{AllocError, Global};
 use std::marker::Model;
@@ -56,6 +56,9 @@ fn printed_refdes(
 {
     if is_unlisted {
         return Ok(None);
+    }
+    if instance.path.as_str().is_empty() {
+        return Ok(Some(line_of(alloc, refdes)?));
     }
     Ok(Some(line_under(alloc, &instance.path, refdes)?))
 }

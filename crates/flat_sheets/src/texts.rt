@@ -10,6 +10,9 @@ use std::alloc::{AllocError, Global};
 pub fn names_under(alloc: Global, path: &Line, names: Vec<Block>) -> Result<Vec<Block>, AllocError>
     ensures { IfOk result (λ printed. printed.items ≡ map (under path.now) names.items) }
 {
+    if path.as_str().is_empty() {
+        return Ok(names);
+    }
     let mut printed = Vec::new(alloc);
     for name in names {
         let text = text_under(alloc, path.as_str(), name.as_str())?;

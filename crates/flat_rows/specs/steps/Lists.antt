@@ -62,6 +62,10 @@ pub record AreListsOf (ls : Lists) (cs : List NewConductor) : Type 0 where
   pub downs : ls.downs.items ≡ keyed_from (λ c. option_to_list c.leads_down) 0 cs
   pub ups : ls.ups.items ≡ keyed_from (λ c. option_to_list c.leads_up) 0 cs
 
+-- keys of which the places count from another one
+abbrev pub keys_behind : {K : Type 0} → ℕ → List (Keyed K) → List (Keyed K)
+keys_behind first keys = map (λ k. (k.0, first + k.1)) keys
+
 -- a member is a pin of a part that is there
 abbrev pub HasPart : ℕ → NewConductor → Type 0
 HasPart count c = IsPartOf count c.member

@@ -1,6 +1,7 @@
 -- Steps of the code; no public clause cites them.
 -- Roles of components by the places of their parts, and pins as they are put into rows.
 use Rattle.std.specs.Prelude.{◌≡◌, ℕ, ◌<◌, false, List, [], Option, None, Some, option_map}
+use Rattle.attr_rules.specs.declared.kinds.PinKind.{PinKind}
 use Rattle.geda_geom.specs.declared.conductor.Conductor.{Conductor}
 use Rattle.geda_geom.specs.declared.conductor.Conductor.TheVariants.{End}
 use Rattle.pin_place.specs.declared.pins.PlacedPin.{PlacedPin}
@@ -26,6 +27,10 @@ role_in parts r = record {
   leads_up = r.leads_up;
   directive = r.directive;
 }
+
+-- a pin with this number and of this kind, as one of the part at a place
+abbrev pub member_at : List ℕ → PinKind → ℕ → RowMember
+member_at number kind part = record { pin = number; part = part; kind = kind }
 
 -- the pin as one of the part at a place
 abbrev pub row_member : PlacedPin → ℕ → RowMember
@@ -53,6 +58,11 @@ pin_row place id role pin = record {
   shape = option_map End pin.end;
   directive = role.directive;
 }
+
+-- its pins have no ports
+pub record HasNoPorts (role : PartRole) : Type 0 where
+  pub down : role.leads_down ≡ false
+  pub up : role.leads_up ≡ None
 
 -- it has neither names nor ports
 pub record IsPlainPin (role : PartRole) (pin : PlacedPin) : Type 0 where

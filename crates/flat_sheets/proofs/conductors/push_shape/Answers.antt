@@ -13,4 +13,4 @@ returns-in_ok-push_segment-in-Net-clause-drawn c =
     let y2 : SFits w32 c.in-Net.y2 = search rules in
     let items = simp to_z-of_z at c.in_ok-push_segment-in-Net.ensures.drawn in
     let attached = attrs-of_shape (codes "netname") c.args.found.now.flat.object c.args.shape.now c.requires.body in
-    rw (items, c.place.ensures, c.id.ensures, c.in_ok-printed-in-Net.ensures, c.into_vec.ensures, c.in_ok-names-in-Net.ensures, c.object.ensures, c.instance.ensures, attached, c.in-Net.is) refl
+    rw (items, c.place-in-Net.ensures, c.id-in-Net.ensures, c.in_ok-printed-in-Net.ensures, c.into_vec.ensures, c.in_ok-names-in-Net.ensures, c.object-in-Net.ensures, c.instance.ensures, attached, c.in-Net.is) refl

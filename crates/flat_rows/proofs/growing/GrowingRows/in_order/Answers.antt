@@ -11,17 +11,17 @@ pub invariant_of-result : goal.invariant_of-result
 invariant_of-result c =
     let g = c.self.inside in
     let drawn = conductors_in g.drawn in
-    let hidden = g.hidden.items in
-    let more = c.in_ok-push_all.ensures drawn c.self.invariant.0.lists in
-    rows_are g.parts.items c.push_all.new.lists (drawn ++ hidden) more
-    (All-append (HasPart (length g.parts.items)) drawn hidden c.self.invariant.0.known c.self.invariant.1)
+    let hidden = conductors_in g.hidden in
+    let more = c.in_ok-append.ensures drawn hidden c.self.invariant.0.lists c.self.invariant.1.lists in
+    rows_are g.parts.items c.append.new.self (drawn ++ hidden) more
+    (All-append (HasPart (length g.parts.items)) drawn hidden c.self.invariant.0.known c.self.invariant.1.known)
 
 pub returns-clause-conductors : goal.returns-clause-conductors
 returns-clause-conductors c =
     let g = c.self.inside in
     let drawn = conductors_in g.drawn in
-    let hidden = g.hidden.items in
-    let more = c.in_ok-push_all.ensures drawn c.self.invariant.0.lists in
-    flat_is g.parts.items c.push_all.new.lists (drawn ++ hidden) more
+    let hidden = conductors_in g.hidden in
+    let more = c.in_ok-append.ensures drawn hidden c.self.invariant.0.lists c.self.invariant.1.lists in
+    flat_is g.parts.items c.append.new.self (drawn ++ hidden) more
     ∙ map-append (conductor_of g.parts.items) drawn hidden
     ∙ ap (λ (d : GrowingData). d.drawn ++ d.hidden) c.self.view_is

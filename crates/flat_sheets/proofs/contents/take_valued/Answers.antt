@@ -9,7 +9,7 @@ use Rattle.flat_sheets.specs.Conductors.{RoleData}
 use Rattle.flat_sheets.specs.steps.ObjectContents.{role_at}
 use Rattle.flat_sheets.specs.steps.RoleValues.{package_by}
 use Rattle.flat_sheets.proofs.RoleLaws.{package_by-is}
-use Rattle.flat_sheets.proofs.contents.take_component.Goals as goal
+use Rattle.flat_sheets.proofs.contents.take_valued.Goals as goal
 
 pub returns-clause-parts : goal.returns-clause-parts
 returns-clause-parts c =
