@@ -1,3 +1,4 @@
+pub mod HeadLemmas
 pub mod RankedNets
 pub mod PinLemmas
 pub mod GatheringLemmas

@@ -4,6 +4,7 @@ ghost use Rattle.std.specs.Ordering.{eq_by_cmp};
 ghost use Rattle.net_names.specs.NetClasses.{by_member};
 ghost use Rattle.net_names.specs.steps.Pins.{labels_at, pin_in, ranks_of_pins};
 
+use crate::heads::short_text_head;
 use attr_rules::PinKind;
 use flat_rows::RowMember;
 use geda_model::{Line, Word};
@@ -21,12 +22,15 @@ pub struct ClassPin<'a> {
     pub refdes: &'a Line,
     /// Its number.
     pub number: &'a Word,
+    /// The first bytes of its number.
+    head: u32,
     /// Its kind.
     pub kind: PinKind,
 }
 
 impl<'a> Model for ClassPin<'a> {
     ghost use Rattle.net_names.specs.NetClasses.{ClassPinData};
+    ghost use Rattle.net_names.specs.steps.Heads.{IsTextHead};
 
     ghost Value = { ClassPinData };
 
@@ -34,6 +38,8 @@ impl<'a> Model for ClassPin<'a> {
       place = p.place;
       member = record { refdes = p.refdes.now; pin = p.number.now; kind = p.kind };
     } };
+
+    ghost invariant = { λ p. IsTextHead 4 p.head p.number.now };
 }
 
 impl<'a> PartialEq for ClassPin<'a> {
@@ -90,6 +96,9 @@ impl<'a> Ord for ClassPin<'a> {
     ghost matches_eq = { Prim.search (comparing, rules) };
 
     fn cmp(&self, other: &ClassPin<'a>) -> Ordering {
+        if self.head != other.head {
+            return self.head.cmp(&other.head);
+        }
         self.number.cmp(other.number)
     }
 }
@@ -109,7 +118,7 @@ impl<'a> ClassPin<'a> {
     pub fn prints_as(&self, other: &ClassPin<'a>) -> bool
         ensures { result ≡ eq_by_cmp by_member self.now other.now }
     {
-        if self.number.cmp(other.number).is_ne() {
+        if self.cmp(other).is_ne() {
             return false;
         }
         self.refdes.cmp(other.refdes).is_eq()
@@ -120,10 +129,12 @@ fn class_pin<'a>(parts: &'a [Package], member: &'a (RowMember, usize)) -> ClassP
     requires { member.now.0.part < length parts.now }
     ensures { result ≡ pin_in parts.now member.now }
 {
+    let number = &member.0.pin;
     ClassPin {
         place: member.1,
         refdes: &parts[member.0.part].refdes,
-        number: &member.0.pin,
+        number,
+        head: short_text_head(number.as_str()),
         kind: member.0.kind,
     }
 }

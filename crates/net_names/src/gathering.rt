@@ -145,8 +145,7 @@ fn take_drawns<'a>(
     }
 }
 
-/// What is told of the class of each label, in order of the labels, by rows, global names and drawn
-/// names.
+/// What is told of the class of each label, in order, by rows, global names and drawn names.
 pub fn grown<'a>(
     alloc: Global,
     rows: &[FlatRow],

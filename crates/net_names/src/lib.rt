@@ -8,6 +8,7 @@
 
 mod class_pins;
 mod gathering;
+mod heads;
 mod joining;
 mod laws;
 mod listing;

@@ -41,6 +41,7 @@ pub fn nets_by(
         unnamed,
         unconnected,
     } = nameless_classes(alloc, &classes)?;
+    drop(classes);
     let mut nets = listed(alloc, named)?;
     nets.reserve_exact(unnamed.len().saturating_add(unconnected.len()))?;
     let global = flat.global_names();

@@ -143,7 +143,7 @@ pub fn named_nets(alloc: Global, classes: &NetClasses<'_>) -> Result<Vec<NamedNe
 pub fn listed(alloc: Global, named: Vec<NamedNet>) -> Result<Vec<Net>, AllocError>
     ensures { IfOk result (λ nets. nets.items ≡ named.items) }
 {
-    let mut nets = Vec::new(alloc);
+    let mut nets = Vec::with_capacity(alloc, named.len())?;
     for named in named {
         let NamedNet { net } = named;
         nets.push(net)?;

@@ -61,11 +61,12 @@ pub fn nameless_classes(
         → IsGathered conductors labels classes.now
         → n.unconnected.items ≡ bodies_of conductors labels is_unconnected classes.now.met.items) }
 {
+    let count = classes.met.len();
     let mut nameless = NamelessClasses {
-        unnamed: Vec::new(alloc),
-        unconnected: Vec::new(alloc),
+        unnamed: Vec::with_capacity(alloc, count)?,
+        unconnected: Vec::with_capacity(alloc, count)?,
     };
-    for at in 0..classes.met.len() {
+    for at in 0..count {
         nameless.take(alloc, classes, classes.met[at])?;
     }
     Ok(nameless)

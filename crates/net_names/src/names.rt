@@ -46,8 +46,7 @@ fn compare_names(first: &CountedName<'_>, second: &CountedName<'_>) -> Ordering
     by_slashes.then(first.text.as_str().cmp(second.text.as_str()))
 }
 
-/// The lesser one of a name and of the least so far (docs/RULES.md, "Names of nets"). It takes no
-/// memory.
+/// The lesser of a name and the least so far (docs/RULES.md, "Names of nets"), without memory.
 pub fn lesser<'a>(least: Option<CountedName<'a>>, name: &'a Block) -> CountedName<'a>
     ensures { Some result ≡ lesser least.entry name.now }
 {

@@ -1,5 +1,4 @@
-// Nets without names, numbered from 1 in the order of their classes. Numbers whose texts are names
-// of conductors are skipped.
+// Nets without names, numbered from 1 in order; numbers that name conductors are skipped.
 ghost use Rattle.std.specs.Prelude.{◌≡◌, ◌++◌, ◌+◌, ◌<◌, ◌^◌};
 ghost use Rattle.std.specs.Prelude.{IfOk, OnOk, decimal, length};
 ghost use Rattle.net_names.specs.steps.Numbering.{AreNumbered, IsNextFree};

@@ -6,18 +6,18 @@ ghost use Rattle.rank_order.specs.Keys.{AreRanks};
 ghost use Rattle.net_names.specs.Packages.{packages_by};
 ghost use Rattle.net_names.specs.steps.PackageRows.{merged, with_part};
 
-use geda_model::{Items, Line};
+use crate::heads::HeadedRefdes;
+use geda_model::Items;
 use net_list::{Package, Packages};
 use rank_order::{Ranks, ranks_of};
 use std::alloc::{AllocError, Global};
 
-fn refdeses<'a>(alloc: Global, parts: &'a [Package]) -> Result<Vec<&'a Line>, AllocError>
-    ensures { IfOk result (λ refdeses.
-        map (λ r. r.now) refdeses.items ≡ map (λ p. p.refdes) parts.now) }
+fn refdeses<'a>(alloc: Global, parts: &'a [Package]) -> Result<Vec<HeadedRefdes<'a>>, AllocError>
+    ensures { IfOk result (λ refdeses. refdeses.items ≡ map (λ p. p.refdes) parts.now) }
 {
     let mut refdeses = Vec::with_capacity(alloc, parts.len())?;
     for at in 0..parts.len() {
-        refdeses.push(&parts[at].refdes)?;
+        refdeses.push(HeadedRefdes::new(&parts[at].refdes))?;
     }
     Ok(refdeses)
 }

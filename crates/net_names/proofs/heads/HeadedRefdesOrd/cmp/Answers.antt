@@ -1,0 +1,10 @@
+use Rattle.std.proofs.Common.{arith, ◌∙◌}
+use Rattle.geda_defs.specs.Order.{by_bytes}
+use Rattle.net_names.proofs.HeadLemmas.{heads_compare}
+use Rattle.net_names.proofs.heads.HeadedRefdesOrd.cmp.Goals as goal
+
+pub returns-then-self-other : goal.returns-then-self-other
+returns-then-self-other c =
+    c.cmp.ensures
+    ∙ heads_compare 8 c.self.inside.head c.other.inside.head _ _ c.self.invariant c.other.invariant (λ e. grind (arith, c.if-self-other.true, e))
+    ∙ (λ i. by_bytes (c.self.view_is i) (c.other.view_is i))
