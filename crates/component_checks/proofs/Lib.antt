@@ -1,5 +1,6 @@
 pub mod ListLemmas
 pub mod FaultLemmas
+pub mod ClashLemmas
 pub mod RepeatLemmas
 pub mod SlotLemmas
 pub mod ObjectLemmas

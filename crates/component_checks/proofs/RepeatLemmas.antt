@@ -1,22 +1,23 @@
 -- What is found by sets of refdes and slots is what is found.
 use Rattle.std.proofs.Common.{◌≡◌, ◌∙◌, ℕ, Bool, true, false, not, ◌&&◌, cond, List, ◌++◌, Option, Some, None, refl, ap, sym, append_assoc}
 use Rattle.std.specs.Prelude.{is_some}
-use Rattle.std.specs.List.{flat_map, list_any}
+use Rattle.std.specs.List.{filter_map, flat_map, list_any}
 use Rattle.std.specs.Str.{bytes_eq}
 use Rattle.printed_texts.specs.PrintedTexts.{two_words, word}
-use Rattle.text_tallies.specs.NameSets.{has_name}
+use Rattle.text_tallies.specs.NameSets.{set_has_name}
 use Rattle.text_tallies.specs.PairSets.{PairData, has_pair, same_pair}
 use Rattle.text_tallies.specs.TwoOfAList.{two_pass}
+use Rattle.text_tallies.proofs.ListLemmas.{flat_map_same}
 use Rattle.text_tallies.proofs.PairLemmas.{any_filter, any_same, clash_is, passes, two_pass_filter, two_pass_same}
+use Rattle.text_tallies.specs.Levels.{found_if}
 use Rattle.drc_findings.specs.declared.rule.Rule.TheVariants as drc
 use Rattle.drc_findings.specs.declared.finding.Finding.{Finding}
-use Rattle.drc_findings.specs.Findings.{an_error, found_if}
+use Rattle.drc_findings.specs.Findings.{an_error}
 use Rattle.component_checks.specs.CheckedComponents.{CheckedData}
-use Rattle.component_checks.specs.OnComponents.{duplicate_refdes, duplicate_slot, ends_open, found_on, found_on_components, is_duplicate, is_duplicate_slot, is_numbered, is_numbered_as, is_slotted_as, is_whole, refdes_of, slot_of, text_or_empty}
+use Rattle.component_checks.specs.OnComponents.{checked_refdes, duplicate_refdes, duplicate_slot, found_on, found_on_components, is_duplicate, is_duplicate_slot, is_numbered_as, is_numbered_component, is_open_refdes, is_slotted_as, is_whole, slot_of, text_or_empty}
 use Rattle.component_checks.specs.declared.repeats.Repeats.{Repeats}
 use Rattle.component_checks.specs.steps.FoundBy.{duplicate_by, duplicate_slot_by, found_by, is_duplicate_by, is_duplicate_slot_by}
 use Rattle.component_checks.specs.steps.Repeats.{AreRepeats, numbered_name, pair_if, slotted_pair, whole_name}
-use Rattle.component_checks.proofs.ListLemmas.{flat_map_same}
 
 -- a refdes that is there under a condition
 name_if : (q : List ℕ) (refdes : Option (List ℕ)) (b : Bool)
@@ -58,16 +59,14 @@ behind : (a b c d e : List Finding) → (a ++ (b ++ (c ++ d))) ++ e ≡ a ++ (b 
 behind a b c d e = append_assoc a (b ++ (c ++ d)) e ∙ ap (λ (l : List Finding). a ++ l) (append_assoc b (c ++ d) e ∙ ap (λ (l : List Finding). b ++ l) (append_assoc c d e))
 
 module _ (cs : List CheckedData) (repeats : Repeats) (are : AreRepeats cs repeats) where
-  numbered_is : (q : List ℕ) → has_name repeats.numbered q ≡ two_pass (is_numbered_as q) cs
+  numbered_is : (q : List ℕ) → two_pass (bytes_eq q) (filter_map numbered_name cs) ≡ two_pass (is_numbered_as q) cs
   numbered_is q =
-      are.numbered q
-      ∙ two_pass_filter numbered_name (bytes_eq q) cs
+      two_pass_filter numbered_name (bytes_eq q) cs
       ∙ two_pass_same (λ c. passes (bytes_eq q) (numbered_name c)) (is_numbered_as q) (λ c. name_if q c.refdes _) cs
 
-  whole_is : (q : List ℕ) → has_name repeats.whole q ≡ list_any (λ c. is_numbered_as q c && is_whole c) cs
+  whole_is : (q : List ℕ) → list_any (bytes_eq q) (filter_map whole_name cs) ≡ list_any (λ c. is_numbered_as q c && is_whole c) cs
   whole_is q =
-      are.whole q
-      ∙ any_filter whole_name (bytes_eq q) cs
+      any_filter whole_name (bytes_eq q) cs
       ∙ any_same (λ c. passes (bytes_eq q) (whole_name c)) (λ c. is_numbered_as q c && is_whole c) (λ c. whole_if q c.refdes _ (is_whole c)) cs
 
   slotted_is : (q : PairData) → has_pair repeats.slotted q ≡ two_pass (is_slotted_as q.first q.second) cs
@@ -78,17 +77,17 @@ module _ (cs : List CheckedData) (repeats : Repeats) (are : AreRepeats cs repeat
 
   duplicate_is : (c : CheckedData) → is_duplicate_by repeats c ≡ is_duplicate cs c
   duplicate_is c =
-      rw (numbered_is (refdes_of c), whole_is (refdes_of c))
-      (ap (λ (b : Bool). is_numbered c && (not (ends_open (refdes_of c)) && b)) (sym (clash_is (is_numbered_as (refdes_of c)) is_whole cs)))
+      rw (are.clashing (checked_refdes c), numbered_is (checked_refdes c), whole_is (checked_refdes c))
+      (ap (λ (b : Bool). is_numbered_component c && (not (is_open_refdes (checked_refdes c)) && b)) (sym (clash_is (is_numbered_as (checked_refdes c)) is_whole cs)))
 
   duplicate_slot_is : (c : CheckedData) → is_duplicate_slot_by repeats c ≡ is_duplicate_slot cs c
-  duplicate_slot_is c = rw (slotted_is (record { first = refdes_of c; second = slot_of c })) refl
+  duplicate_slot_is c = rw (slotted_is (record { first = checked_refdes c; second = slot_of c })) refl
 
   -- on one component
   found_by-is : (c : CheckedData) → found_by repeats c ≡ found_on cs c
   found_by-is c =
-      let duplicate : duplicate_by repeats c ≡ duplicate_refdes cs c = ap (λ (b : Bool). found_if b (an_error drc.DuplicateRefdes (word (refdes_of c)))) (duplicate_is c) in
-      let slot : duplicate_slot_by repeats c ≡ duplicate_slot cs c = ap (λ (b : Bool). found_if b (an_error drc.DuplicateSlot (two_words (word (refdes_of c)) (word (slot_of c))))) (duplicate_slot_is c) in
+      let duplicate : duplicate_by repeats c ≡ duplicate_refdes cs c = ap (λ (b : Bool). found_if b (an_error drc.DuplicateRefdes (word (checked_refdes c)))) (duplicate_is c) in
+      let slot : duplicate_slot_by repeats c ≡ duplicate_slot cs c = ap (λ (b : Bool). found_if b (an_error drc.DuplicateSlot (two_words (word (checked_refdes c)) (word (slot_of c))))) (duplicate_slot_is c) in
       behind _ _ (duplicate_by repeats c) (duplicate_slot_by repeats c) _ ∙ rw (duplicate, slot) refl
 
   -- on all of them

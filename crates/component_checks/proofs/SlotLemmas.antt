@@ -10,12 +10,14 @@ use Rattle.std.specs.Str.{bytes_eq}
 use Rattle.std.proofs.lemmas.Map.Text.{is_eq-slice_cmp}
 use Rattle.std.proofs.lemmas.Slice.Eq.{bytes_eq-Decides}
 use Rattle.geda_defs.proofs.Bytes.{bytes_turned}
+use Rattle.geda_defs.proofs.OnceLaws.{option_or-assoc, option_or-none}
 use Rattle.geda_defs.specs.Order.{by_bytes}
+use Rattle.text_tallies.proofs.ListLemmas.{flat_map_same}
 use Rattle.component_checks.specs.CheckedComponents.{CheckedData}
-use Rattle.component_checks.specs.OnPackages.{is_number, of_package, slot_value, unused_slot, unused_slots, uses_slot}
+use Rattle.component_checks.specs.OnPackages.{is_slot_number, of_package, slot_value, unused_slot, unused_slots, uses_slot}
 use Rattle.component_checks.specs.declared.slot_rows.PackageSlots.{PackageSlots}
 use Rattle.component_checks.specs.steps.SlotRows.{AddsNumber, AreSlotsOf, SlotRows, TakesIn, TakesInIfListed, all_unused_in, count_after, count_in, count_of, has_no_slots, is_part_of, is_used, row_at, unused_in, uses_in}
-use Rattle.component_checks.proofs.ListLemmas.{first_cons, flat_map_same, option_or-assoc, option_or-none}
+use Rattle.component_checks.proofs.ListLemmas.{first_cons}
 
 -- ---- one component
 
@@ -62,10 +64,10 @@ takes_in refdes c old mid new none known made is no_count no_used count used out
         by true e = rw (row_back refdes old mid new made out back q, e, count, is, known_count (row_at old refdes) none no_count, (bytes_eq-Decides q refdes).0 e) refl
         by false e = rw (row_back refdes old mid new made out back q, e, option_or-none (count_in (row_at old q))) refl
 
-    uses : (q : List ℕ) (k : ℕ) → is_used (row_at new q) k ≡ (is_used (row_at old q) k || (bytes_eq q refdes && is_number k (slot_value c.slot)))
+    uses : (q : List ℕ) (k : ℕ) → is_used (row_at new q) k ≡ (is_used (row_at old q) k || (bytes_eq q refdes && is_slot_number k (slot_value c.slot)))
     uses q k = by (bytes_eq q refdes) refl
       where
-        by : (b : Bool) → bytes_eq q refdes ≡ b → is_used (row_at new q) k ≡ (is_used (row_at old q) k || (b && is_number k (slot_value c.slot)))
+        by : (b : Bool) → bytes_eq q refdes ≡ b → is_used (row_at new q) k ≡ (is_used (row_at old q) k || (b && is_slot_number k (slot_value c.slot)))
         by true e = rw (row_back refdes old mid new made out back q, e, used k, is, known_used (row_at old refdes) none k (no_used k), (bytes_eq-Decides q refdes).0 e) refl
         by false e = rw (row_back refdes old mid new made out back q, e) (or_false (is_used (row_at old q) k))
 
@@ -80,7 +82,7 @@ no_count : (known slots : Option ℕ) (b : Bool) → slots ≡ None → known �
 no_count known slots true e = rw e (sym (option_or-none known))
 no_count known slots false e = sym (option_or-none known)
 
-no_use : (used b : Bool) (k : ℕ) (slot : Option (List ℕ)) → slot ≡ None → used ≡ (used || (b && is_number k (slot_value slot)))
+no_use : (used b : Bool) (k : ℕ) (slot : Option (List ℕ)) → slot ≡ None → used ≡ (used || (b && is_slot_number k (slot_value slot)))
 no_use used true k slot e = rw e (or_false used)
 no_use used false k slot e = or_false used
 
@@ -118,8 +120,8 @@ uses_are q k [] = refl
 uses_are q k (c ∷ cs) = by (is_part_of q c) (uses_are q k cs)
   where
     by : (b : Bool) → list_any (uses_in q k) cs ≡ uses_slot (of_package cs q) k
-        → ((b && is_number k (slot_value c.slot)) || list_any (uses_in q k) cs) ≡ uses_slot (cond b (c ∷ of_package cs q) (of_package cs q)) k
-    by true h = ap (λ (rest : Bool). is_number k (slot_value c.slot) || rest) h
+        → ((b && is_slot_number k (slot_value c.slot)) || list_any (uses_in q k) cs) ≡ uses_slot (cond b (c ∷ of_package cs q) (of_package cs q)) k
+    by true h = ap (λ (rest : Bool). is_slot_number k (slot_value c.slot) || rest) h
     by false h = h
 
 -- what is found on the slots of a row is what is found on those of its package

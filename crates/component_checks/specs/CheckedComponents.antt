@@ -40,8 +40,8 @@ pub record CheckedData : Type 0 where
   pub pins : List PlacedPin
 
 -- the component has an embedded symbol, or one of the project
-abbrev pub has_symbol : ComponentData → Option SymbolData → Bool
-has_symbol c library = is_some c.embedded || is_some library
+abbrev pub finds_symbol : ComponentData → Option SymbolData → Bool
+finds_symbol c library = is_some c.embedded || is_some library
 
 -- a component with this refdes is a port of the instance
 abbrev pub is_port_if : ProjectData → Instance → Option (List ℕ) → Bool
@@ -53,14 +53,14 @@ abbrev pub is_bad_net : List ℕ → Bool
 is_bad_net value = not (is_some (net_entry value))
 
 -- the fault, where there is one
-abbrev pub fault_of : Result (List (List ℕ)) SlotFault → Option SlotFault
-fault_of (Ok numbers) = None
-fault_of (Err fault) = Some fault
+abbrev pub slot_fault_of : Result (List (List ℕ)) SlotFault → Option SlotFault
+slot_fault_of (Ok numbers) = None
+slot_fault_of (Err fault) = Some fault
 
 -- why this value of `slot` gives no pin numbers
 abbrev pub slot_fault : ObjectData → Option SymbolData → Option (List ℕ) → Option SlotFault
 slot_fault o library None = None
-slot_fault o library (Some slot) = fault_of
+slot_fault o library (Some slot) = slot_fault_of
     (slot_pins slot (attr o library (codes "numslots")) (attrs o library (codes "slotdef")))
 
 -- a component with a library symbol in an instance, as the check sees it
@@ -70,7 +70,7 @@ checked_with p i id o c library = record {
   sheet = i.sheet;
   id = id;
   basename = c.basename;
-  has_symbol = has_symbol c library;
+  has_symbol = finds_symbol c library;
   refdes = option_map (under i.path) (refdes_of o library);
   is_hierarchical = has_sources o library;
   is_port = is_port_if p i (refdes_of o library);

@@ -8,10 +8,11 @@ use Rattle.attr_rules.specs.declared.slots.SlotFault.TheVariants as faults
 use Rattle.pin_place.specs.declared.pins.PlacedPin.{PlacedPin}
 use Rattle.printed_texts.specs.PrintedTexts.{numbered_words, pin_words, two_words, word}
 use Rattle.text_tallies.specs.TwoOfAList.{pairs, two_pass}
+use Rattle.text_tallies.specs.Levels.{found_if}
 use Rattle.pin_matrix.specs.Matrices.{same_kind}
 use Rattle.drc_findings.specs.declared.rule.Rule.TheVariants as drc
 use Rattle.drc_findings.specs.declared.finding.Finding.{Finding}
-use Rattle.drc_findings.specs.Findings.{a_warning, an_error, found_if}
+use Rattle.drc_findings.specs.Findings.{a_warning, an_error}
 use Rattle.component_checks.specs.CheckedComponents.{CheckedData}
 
 -- a text that may be there, or the empty one
@@ -20,30 +21,31 @@ text_or_empty None = []
 text_or_empty (Some text) = text
 
 -- the printed refdes, of one that has it
-abbrev pub refdes_of : CheckedData → List ℕ
-refdes_of c = text_or_empty c.refdes
+abbrev pub checked_refdes : CheckedData → List ℕ
+checked_refdes c = text_or_empty c.refdes
 
 -- the `slot`, of one that has it
 abbrev pub slot_of : CheckedData → List ℕ
 slot_of c = text_or_empty c.slot
 
 -- a listed part: it has a refdes and no sheets below, and is no port
-abbrev pub is_listed : CheckedData → Bool
-is_listed c = is_some c.refdes && (not c.is_hierarchical && not c.is_port)
+abbrev pub is_listed_part : CheckedData → Bool
+is_listed_part c = is_some c.refdes && (not c.is_hierarchical && not c.is_port)
 
 -- a listed part, or a component with a refdes and sheets below
-abbrev pub is_numbered : CheckedData → Bool
-is_numbered c = is_some c.refdes && (c.is_hierarchical || not c.is_port)
+abbrev pub is_numbered_component : CheckedData → Bool
+is_numbered_component c = is_some c.refdes && (c.is_hierarchical || not c.is_port)
 
--- the text ends in `?`
-abbrev pub ends_open : List ℕ → Bool
-ends_open text = not (length text == 0) && (slice_index text (length text - 1) == 63)
+-- the refdes ends in `?`
+abbrev pub is_open_refdes : List ℕ → Bool
+is_open_refdes refdes =
+    not (length refdes == 0) && (slice_index refdes (length refdes - 1) == 63)
 
 -- Unnumbered: the printed refdes of a listed part, or of a component with sheets below, ends in `?`
 abbrev pub unnumbered : CheckedData → List Finding
 unnumbered c =
-    found_if (is_numbered c && ends_open (refdes_of c))
-    (an_error drc.Unnumbered (word (refdes_of c)))
+    found_if (is_numbered_component c && is_open_refdes (checked_refdes c))
+    (an_error drc.Unnumbered (word (checked_refdes c)))
 
 -- a component without refdes has sheets below, or has a drawn net pin and no value of `net`
 abbrev pub lacks_refdes : CheckedData → Bool
@@ -56,7 +58,7 @@ without_refdes c = found_if (lacks_refdes c) (an_error drc.NoRefdes (numbered_wo
 
 -- a listed part, or a component with sheets below, with this printed refdes
 abbrev pub is_numbered_as : List ℕ → CheckedData → Bool
-is_numbered_as refdes c = is_numbered c && bytes_eq refdes (refdes_of c)
+is_numbered_as refdes c = is_numbered_component c && bytes_eq refdes (checked_refdes c)
 
 -- it has sheets below, or no `slot`
 abbrev pub is_whole : CheckedData → Bool
@@ -70,28 +72,30 @@ clash_as refdes two =
 
 -- the printed refdes does not end in `?`, and two of these components clash under it
 abbrev pub is_duplicate : List CheckedData → CheckedData → Bool
-is_duplicate cs c = is_numbered c
-    && (not (ends_open (refdes_of c)) && list_any (clash_as (refdes_of c)) (pairs cs))
+is_duplicate cs c = is_numbered_component c
+    && (not (is_open_refdes (checked_refdes c))
+    && list_any (clash_as (checked_refdes c)) (pairs cs))
 
 -- DuplicateRefdes: so it is
 abbrev pub duplicate_refdes : List CheckedData → CheckedData → List Finding
 duplicate_refdes cs c =
-    found_if (is_duplicate cs c) (an_error drc.DuplicateRefdes (word (refdes_of c)))
+    found_if (is_duplicate cs c) (an_error drc.DuplicateRefdes (word (checked_refdes c)))
 
 -- a listed part with this printed refdes and this `slot`
 abbrev pub is_slotted_as : List ℕ → List ℕ → CheckedData → Bool
-is_slotted_as refdes slot c = is_listed c
-    && (is_some c.slot && (bytes_eq refdes (refdes_of c) && bytes_eq slot (slot_of c)))
+is_slotted_as refdes slot c = is_listed_part c
+    && (is_some c.slot && (bytes_eq refdes (checked_refdes c) && bytes_eq slot (slot_of c)))
 
 -- the printed refdes does not end in `?`, and two listed parts have it with the same `slot`
 abbrev pub is_duplicate_slot : List CheckedData → CheckedData → Bool
-is_duplicate_slot cs c = (is_listed c && is_some c.slot)
-    && (not (ends_open (refdes_of c)) && two_pass (is_slotted_as (refdes_of c) (slot_of c)) cs)
+is_duplicate_slot cs c = (is_listed_part c && is_some c.slot)
+    && (not (is_open_refdes (checked_refdes c))
+    && two_pass (is_slotted_as (checked_refdes c) (slot_of c)) cs)
 
 -- DuplicateSlot: so it is
 abbrev pub duplicate_slot : List CheckedData → CheckedData → List Finding
 duplicate_slot cs c = found_if (is_duplicate_slot cs c)
-    (an_error drc.DuplicateSlot (two_words (word (refdes_of c)) (word (slot_of c))))
+    (an_error drc.DuplicateSlot (two_words (word (checked_refdes c)) (word (slot_of c))))
 
 -- a fault of a slot; want of memory is none of a slot's
 abbrev pub fault_word : SlotFault → List ℕ
@@ -106,13 +110,13 @@ bad_slot c = on_fault c.slot_fault
   where
     on_fault : Option SlotFault → List Finding
     on_fault None = []
-    on_fault (Some fault) = found_if (is_listed c)
-        (an_error drc.BadSlot (two_words (word (refdes_of c)) (fault_word fault)))
+    on_fault (Some fault) = found_if (is_listed_part c)
+        (an_error drc.BadSlot (two_words (word (checked_refdes c)) (fault_word fault)))
 
 -- UnknownPintype: a drawn pin of a listed part has kind unknown
 abbrev pub unknown_pin : CheckedData → PlacedPin → List Finding
-unknown_pin c pin = found_if (is_listed c && same_kind pin.kind kinds.Unknown)
-    (a_warning drc.UnknownPintype (pin_words (refdes_of c) pin.number))
+unknown_pin c pin = found_if (is_listed_part c && same_kind pin.kind kinds.Unknown)
+    (a_warning drc.UnknownPintype (pin_words (checked_refdes c) pin.number))
 
 abbrev pub unknown_pins : CheckedData → List Finding
 unknown_pins c = flat_map (unknown_pin c) c.pins

@@ -6,15 +6,16 @@ use Rattle.std.specs.Str.{bytes_eq}
 use Rattle.attr_rules.specs.Slots.{short_number}
 use Rattle.net_list.specs.declared.package.Package.{Package}
 use Rattle.printed_texts.specs.PrintedTexts.{two_words, word}
+use Rattle.text_tallies.specs.Levels.{found_if}
 use Rattle.drc_findings.specs.declared.rule.Rule.TheVariants as drc
 use Rattle.drc_findings.specs.declared.finding.Finding.{Finding}
-use Rattle.drc_findings.specs.Findings.{a_warning, found_if, same_text}
+use Rattle.drc_findings.specs.Findings.{a_warning, same_text}
 use Rattle.component_checks.specs.CheckedComponents.{CheckedData}
-use Rattle.component_checks.specs.OnComponents.{is_listed, refdes_of}
+use Rattle.component_checks.specs.OnComponents.{checked_refdes, is_listed_part}
 
 -- the components of a package
 abbrev pub of_package : List CheckedData → List ℕ → List CheckedData
-of_package cs refdes = filter (λ c. is_listed c && bytes_eq refdes (refdes_of c)) cs
+of_package cs refdes = filter (λ c. is_listed_part c && bytes_eq refdes (checked_refdes c)) cs
 
 -- the count of slots of the first component that has one, or 0
 abbrev pub slots_of : List CheckedData → ℕ
@@ -25,14 +26,14 @@ abbrev pub slot_value : Option (List ℕ) → Option ℕ
 slot_value None = None
 slot_value (Some slot) = short_number slot
 
--- it is this number
-abbrev pub is_number : ℕ → Option ℕ → Bool
-is_number k None = false
-is_number k (Some n) = n == k
+-- it is the slot of this number
+abbrev pub is_slot_number : ℕ → Option ℕ → Bool
+is_slot_number k None = false
+is_slot_number k (Some n) = n == k
 
 -- one of these components has the slot of this number
 abbrev pub uses_slot : List CheckedData → ℕ → Bool
-uses_slot cs k = list_any (λ c. is_number k (slot_value c.slot)) cs
+uses_slot cs k = list_any (λ c. is_slot_number k (slot_value c.slot)) cs
 
 -- no component of the package has this slot
 abbrev pub unused_slot : List CheckedData → List ℕ → ℕ → List Finding
@@ -47,12 +48,13 @@ unused_slots cs refdes =
     (range_with_len 1 (slots_of (of_package cs refdes)))
 
 -- the refdes of packages
-abbrev pub refdeses : List Package → List (List ℕ)
-refdeses packages = map (λ p. p.refdes) packages
+abbrev pub package_refdeses : List Package → List (List ℕ)
+package_refdeses packages = map (λ p. p.refdes) packages
 
 -- what is found on one of these packages
 abbrev pub found_on_package : List CheckedData → List Package → Package → List Finding
-found_on_package cs packages p = unused_slots cs p.refdes ++ same_text (refdeses packages) p.refdes
+found_on_package cs packages p =
+    unused_slots cs p.refdes ++ same_text (package_refdeses packages) p.refdes
 
 -- what is found on all of them
 abbrev pub found_on_packages : List CheckedData → List Package → List Finding

@@ -4,7 +4,7 @@ ghost use Rattle.geda_model.specs.declared.object.Body.TheVariants as bodies;
 ghost use Rattle.attr_rules.specs.FirstValues.{values_of};
 ghost use Rattle.attr_rules.specs.Libraries.{library_of};
 ghost use Rattle.component_checks.specs.CheckedComponents.{checked_component, checked_object};
-ghost use Rattle.component_checks.specs.CheckedComponents.{has_symbol, is_port_if};
+ghost use Rattle.component_checks.specs.CheckedComponents.{finds_symbol, is_port_if};
 ghost use Rattle.component_checks.specs.steps.CheckedValues.{checked_by};
 
 use crate::attributes::{has_bad_net, printed_refdes, slot_count, slot_fault};
@@ -18,7 +18,7 @@ use std::alloc::{AllocError, Global};
 use symbol_tables::SymbolTables;
 
 fn has_symbol(component: &Component, library: Option<&Symbol>) -> bool
-    ensures { result ≡ has_symbol component.now (option_copied library.entry) }
+    ensures { result ≡ finds_symbol component.now (option_copied library.entry) }
 {
     component.embedded.is_some() || library.is_some()
 }

@@ -4,7 +4,8 @@ ghost use Rattle.text_tallies.specs.LookAlike.{look_alike};
 ghost use Rattle.text_tallies.specs.NameSets.{HasNames};
 ghost use Rattle.net_list.specs.declared.package.Package.{Package};
 ghost use Rattle.component_checks.specs.CheckedComponents.{CheckedData};
-ghost use Rattle.component_checks.specs.OnPackages.{found_on_package, found_on_packages, refdeses};
+ghost use Rattle.component_checks.specs.OnPackages.{found_on_package, found_on_packages};
+ghost use Rattle.component_checks.specs.OnPackages.{package_refdeses};
 ghost use Rattle.component_checks.specs.steps.SlotRows.{AreSlotsOf, all_unused_in, row_at};
 ghost use Rattle.component_checks.specs.steps.SlotRows.{unused_in};
 
@@ -70,7 +71,7 @@ fn add_unused_slots(
 }
 
 fn refdes_texts<'a>(alloc: Global, packages: &'a [Package]) -> Result<Vec<&'a str>, AllocError>
-    ensures { IfOk result (λ texts. map (λ t. t.now) texts.items ≡ refdeses packages.now) }
+    ensures { IfOk result (λ texts. map (λ t. t.now) texts.items ≡ package_refdeses packages.now) }
 {
     let mut texts = Vec::new(alloc);
     for package in packages {
@@ -80,7 +81,7 @@ fn refdes_texts<'a>(alloc: Global, packages: &'a [Package]) -> Result<Vec<&'a st
 }
 
 fn alike_refdeses(alloc: Global, packages: &[Package]) -> Result<BTreeSet<Line>, AllocError>
-    ensures { IfOk result (HasNames (look_alike (refdeses packages.now))) }
+    ensures { IfOk result (HasNames (look_alike (package_refdeses packages.now))) }
 {
     let texts = refdes_texts(alloc, packages)?;
     alike_texts(alloc, texts.as_slice())
@@ -94,7 +95,7 @@ fn add_on_package(
     part: &Package,
 ) -> Result<(), AllocError>
     ensures { (cs : List CheckedData) (all : List Package) → AreSlotsOf cs rows.now
-        → HasNames (look_alike (refdeses all)) alike.now → OnOk result
+        → HasNames (look_alike (package_refdeses all)) alike.now → OnOk result
         (found.new.items ≡ found.old.items ++ found_on_package cs all part.now) }
 {
     add_unused_slots(alloc, found, rows, &part.refdes)?;

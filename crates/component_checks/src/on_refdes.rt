@@ -63,10 +63,7 @@ fn clashes(repeats: &Repeats<'_>, refdes: &Line) -> bool
     if ends_open(refdes.as_str().as_bytes()) {
         return false;
     }
-    if !repeats.numbered.contains(refdes) {
-        return false;
-    }
-    repeats.whole.contains(refdes)
+    repeats.clashing.contains(refdes)
 }
 
 fn is_duplicate(repeats: &Repeats<'_>, component: &CheckedComponent<'_>) -> bool

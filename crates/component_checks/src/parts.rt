@@ -1,13 +1,14 @@
 // What a component is to the rules.
 ghost use Rattle.std.specs.Prelude.{◌≡◌};
-ghost use Rattle.component_checks.specs.OnComponents.{ends_open, is_listed, is_numbered, is_whole};
-ghost use Rattle.component_checks.specs.OnComponents.{refdes_of, slot_of};
+ghost use Rattle.component_checks.specs.OnComponents.{checked_refdes, is_listed_part};
+ghost use Rattle.component_checks.specs.OnComponents.{is_numbered_component, is_open_refdes};
+ghost use Rattle.component_checks.specs.OnComponents.{is_whole, slot_of};
 
 use crate::checked::CheckedComponent;
 
 /// Whether it is a listed part. It takes no memory.
 pub fn is_listed(component: &CheckedComponent<'_>) -> bool
-    ensures { result ≡ is_listed component.now }
+    ensures { result ≡ is_listed_part component.now }
 {
     if component.refdes.is_none() {
         return false;
@@ -17,7 +18,7 @@ pub fn is_listed(component: &CheckedComponent<'_>) -> bool
 
 /// Whether it is a listed part, or has a refdes and sheets below. It takes no memory.
 pub fn is_numbered(component: &CheckedComponent<'_>) -> bool
-    ensures { result ≡ is_numbered component.now }
+    ensures { result ≡ is_numbered_component component.now }
 {
     if component.refdes.is_none() {
         return false;
@@ -34,7 +35,7 @@ pub fn is_whole(component: &CheckedComponent<'_>) -> bool
 
 /// The printed refdes; empty where there is none. It takes no memory.
 pub fn refdes_of<'a>(component: &'a CheckedComponent<'_>) -> &'a str
-    ensures { result.now ≡ refdes_of component.now }
+    ensures { result.now ≡ checked_refdes component.now }
 {
     match &component.refdes {
         None => "",
@@ -54,7 +55,7 @@ pub fn slot_of<'a>(component: &'a CheckedComponent<'_>) -> &'a str
 
 /// Whether a text ends in `?`. It takes no memory.
 pub fn ends_open(text: &[u8]) -> bool
-    ensures { result ≡ ends_open text.now }
+    ensures { result ≡ is_open_refdes text.now }
 {
     if text.len() == 0 {
         return false;

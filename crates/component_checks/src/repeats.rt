@@ -1,9 +1,8 @@
 // Which refdes and which slots are given more than once.
 ghost use Rattle.std.specs.Prelude.{◌≡◌, IfOk};
 ghost use Rattle.std.specs.List.{filter_map};
-ghost use Rattle.component_checks.specs.steps.Repeats.{AreRepeats, numbered_name};
-ghost use Rattle.component_checks.specs.steps.Repeats.{pair_of, slotted_pair};
-ghost use Rattle.component_checks.specs.steps.Repeats.{whole_name};
+ghost use Rattle.component_checks.specs.steps.Repeats.{AreRepeats, clashing_name, numbered_name};
+ghost use Rattle.component_checks.specs.steps.Repeats.{pair_of, slotted_pair, whole_name};
 
 use crate::checked::CheckedComponent;
 use crate::lists::push_if;
@@ -16,10 +15,8 @@ use text_tallies::{PairKey, names_once, names_twice, pairs_twice};
 /// What several components have in common.
 #[derive(Drop)]
 pub struct Repeats<'a> {
-    /// The refdes that two numbered components have.
-    pub numbered: BTreeSet<Line>,
-    /// The refdes of numbered components that are whole.
-    pub whole: BTreeSet<Line>,
+    /// The refdes that two numbered components have, and one that is whole.
+    pub clashing: BTreeSet<Line>,
     /// The refdes and slots that two listed parts have.
     pub slotted: BTreeSet<PairKey<'a>>,
 }
@@ -82,13 +79,31 @@ fn numbered_names(
     Ok(names)
 }
 
+/// The refdes of a numbered component that is whole, where two have it.
+fn clashing_name(
+    twice: &BTreeSet<Line>,
+    component: &CheckedComponent<'_>,
+) -> Result<Option<Line>, AllocError>
+    ensures { IfOk result (λ name. name ≡ clashing_name twice.now component.now) }
+{
+    match whole_name(component)? {
+        Some(name) if twice.contains(&name) => Ok(Some(name)),
+        _ => Ok(None),
+    }
+}
+
 #[tactic(auto, using(crate::proofs::ListLemmas::push_more))]
-fn whole_names(alloc: Global, components: &[CheckedComponent<'_>]) -> Result<Vec<Line>, AllocError>
-    ensures { IfOk result (λ names. names.items ≡ filter_map whole_name components.now) }
+fn clashing_names(
+    alloc: Global,
+    twice: &BTreeSet<Line>,
+    components: &[CheckedComponent<'_>],
+) -> Result<Vec<Line>, AllocError>
+    ensures { IfOk result
+        (λ names. names.items ≡ filter_map (clashing_name twice.now) components.now) }
 {
     let mut names = Vec::new(alloc);
     for component in components {
-        push_if(&mut names, whole_name(component)?)?;
+        push_if(&mut names, clashing_name(twice, component)?)?;
     }
     Ok(names)
 }
@@ -115,11 +130,11 @@ pub fn repeats_of<'a>(
     ensures { IfOk result (AreRepeats components.now) }
 {
     let numbered = numbered_names(alloc, components)?;
-    let whole = whole_names(alloc, components)?;
+    let twice = names_twice(alloc, numbered)?;
+    let clashing = clashing_names(alloc, &twice, components)?;
     let slotted = slotted_pairs(alloc, components)?;
     Ok(Repeats {
-        numbered: names_twice(alloc, numbered)?,
-        whole: names_once(alloc, whole)?,
+        clashing: names_once(alloc, clashing)?,
         slotted: pairs_twice(alloc, slotted)?,
     })
 }

@@ -10,11 +10,12 @@ use Rattle.pin_matrix.specs.declared.level.Level.{Level}
 use Rattle.pin_matrix.specs.Matrices.{all_kinds, entry, is_correct, kind_rank, same_kind}
 use Rattle.text_tallies.specs.TwoOfAList.{both, pairs}
 use Rattle.text_tallies.proofs.PairLemmas.{and_false, any_same, both_counted, either, either_counted}
+use Rattle.text_tallies.specs.Levels.{found_if}
 use Rattle.drc_findings.specs.declared.rule.Rule.TheVariants as drc
 use Rattle.drc_findings.specs.declared.finding.Finding.{Finding}
-use Rattle.drc_findings.specs.Findings.{finding, found_if}
+use Rattle.drc_findings.specs.Findings.{finding}
 use Rattle.drc_rules.specs.declared.kind_counts.KindCount.{KindCount}
-use Rattle.drc_rules.specs.OnNets.{conflict, conflict_words, conflicts, conflicts_with, is_of_kind, meet}
+use Rattle.drc_rules.specs.OnNets.{conflict, conflict_words, conflicts, conflicts_with, is_member_of_kind, meet}
 use Rattle.drc_rules.specs.steps.Counts.{conflict_by, conflicts_by, conflicts_with_by, kind_count, kind_counts, meet_by}
 
 -- a member whose kind stands at a place
@@ -33,7 +34,7 @@ apart i j e m h = grind (arith, nat_tests)
 
 -- two members of one kind
 meet_same : (members : List Member) (a b : PinKind) → same_kind a b ≡ true
-    → nat_le 2 (count_by (is_of_kind a) members) ≡ meet members a b
+    → nat_le 2 (count_by (is_member_of_kind a) members) ≡ meet members a b
 meet_same members a b e =
     sym (ap (λ (j : ℕ). list_any (either (at_rank (kind_rank a)) (at_rank j)) (pairs members)) (same_rank (kind_rank a) (kind_rank b) e)
     ∙ (any_same (either (at_rank (kind_rank a)) (at_rank (kind_rank a))) (both (at_rank (kind_rank a))) (λ two. or_same (both (at_rank (kind_rank a)) two)) (pairs members)
@@ -41,7 +42,7 @@ meet_same members a b e =
 
 -- of two kinds
 meet_other : (members : List Member) (a b : PinKind) → same_kind a b ≡ false
-    → (nat_le 1 (count_by (is_of_kind a) members) && nat_le 1 (count_by (is_of_kind b) members)) ≡ meet members a b
+    → (nat_le 1 (count_by (is_member_of_kind a) members) && nat_le 1 (count_by (is_member_of_kind b) members)) ≡ meet members a b
 meet_other members a b e =
     sym (either_counted (at_rank (kind_rank a)) (at_rank (kind_rank b)) (apart (kind_rank a) (kind_rank b) e) members)
 
@@ -51,7 +52,7 @@ meet_counted : (members : List Member) (a b : PinKind)
 meet_counted members a b = go (same_kind a b) refl
   where
     go : (same : Bool) → same_kind a b ≡ same
-        → (if same then nat_le 2 (count_by (is_of_kind a) members) else nat_le 1 (count_by (is_of_kind a) members) && nat_le 1 (count_by (is_of_kind b) members))
+        → (if same then nat_le 2 (count_by (is_member_of_kind a) members) else nat_le 1 (count_by (is_member_of_kind a) members) && nat_le 1 (count_by (is_member_of_kind b) members))
         ≡ meet members a b
     go true e = meet_same members a b e
     go false e = meet_other members a b e

@@ -11,7 +11,7 @@ use Rattle.pin_matrix.specs.declared.level.Level.{Level}
 use Rattle.drc_findings.specs.declared.rule.Rule.TheVariants as drc
 use Rattle.drc_findings.specs.declared.finding.Finding.{Finding}
 use Rattle.drc_findings.specs.Findings.{a_warning, an_error}
-use Rattle.drc_findings.specs.Order.{in_order}
+use Rattle.drc_findings.specs.Order.{findings_in_order}
 use Rattle.component_checks.specs.CheckedComponents.{CheckedData, checked_components}
 use Rattle.component_checks.specs.OnComponents.{found_on_components}
 use Rattle.component_checks.specs.OnPackages.{found_on_packages}
@@ -34,4 +34,4 @@ found_in cs lost nets matrix =
 
 -- the findings of a project with this net list under this matrix
 abbrev pub findings : ProjectData → Nets → List Level → List Finding
-findings p nets matrix = in_order (found_in (checked_components p) (lost_of p) nets matrix)
+findings p nets matrix = findings_in_order (found_in (checked_components p) (lost_of p) nets matrix)

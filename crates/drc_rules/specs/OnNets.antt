@@ -10,11 +10,12 @@ use Rattle.net_list.specs.declared.nets.NetSort.TheVariants as sorts
 use Rattle.printed_texts.specs.PrintedTexts.{pin_words, two_words, word}
 use Rattle.text_tallies.specs.PairSets.{PairData, same_pair}
 use Rattle.text_tallies.specs.TwoOfAList.{pairs, two_pass}
+use Rattle.text_tallies.specs.Levels.{found_if}
 use Rattle.pin_matrix.specs.declared.level.Level.{Level}
 use Rattle.pin_matrix.specs.Matrices.{all_kinds, entry, is_correct, kind_rank, same_kind}
 use Rattle.drc_findings.specs.declared.rule.Rule.TheVariants as drc
 use Rattle.drc_findings.specs.declared.finding.Finding.{Finding}
-use Rattle.drc_findings.specs.Findings.{a_warning, an_error, finding, found_if, same_text}
+use Rattle.drc_findings.specs.Findings.{a_warning, an_error, finding, same_text}
 
 -- a kind of pins, as it prints
 abbrev pub kind_word : PinKind → List ℕ
@@ -32,8 +33,8 @@ kind_word kinds.Pwr = codes "pwr"
 kind_word kinds.Unconnected = codes "unconnected"
 
 -- a single drawn pin without a name
-abbrev pub is_unconnected : Net → Bool
-is_unconnected n = of_sort n.sort
+abbrev pub is_unconnected_net : Net → Bool
+is_unconnected_net n = of_sort n.sort
   where
     of_sort : NetSort → Bool
     of_sort sorts.Named = false
@@ -42,16 +43,17 @@ is_unconnected n = of_sort n.sort
 
 -- an unconnected pin, or a net that has a directive: nothing need be joined to its pin
 abbrev pub may_be_open : Net → Bool
-may_be_open n = is_unconnected n || n.directive
+may_be_open n = is_unconnected_net n || n.directive
 
 -- a member of this kind
-abbrev pub is_of_kind : PinKind → Member → Bool
-is_of_kind kind m = same_kind m.kind kind
+abbrev pub is_member_of_kind : PinKind → Member → Bool
+is_member_of_kind kind m = same_kind m.kind kind
 
 -- the kinds of two members, in either order
 abbrev pub are_of_kinds : PinKind → PinKind → Member × Member → Bool
 are_of_kinds a b two =
-    (is_of_kind a two.0 && is_of_kind b two.1) || (is_of_kind b two.0 && is_of_kind a two.1)
+    (is_member_of_kind a two.0 && is_member_of_kind b two.1)
+    || (is_member_of_kind b two.0 && is_member_of_kind a two.1)
 
 -- two members, not the same one, have these kinds
 abbrev pub meet : List Member → PinKind → PinKind → Bool
@@ -95,7 +97,7 @@ by_count n = one_pin n ++ no_connection n
 -- kind, and nothing is found where that is correct
 abbrev pub unconnected_member : List Level → Net → Member → List Finding
 unconnected_member matrix n m =
-    found_if (is_unconnected n && not (is_correct (entry matrix kinds.Unconnected m.kind)))
+    found_if (is_unconnected_net n && not (is_correct (entry matrix kinds.Unconnected m.kind)))
     (finding (entry matrix kinds.Unconnected m.kind) drc.UnconnectedPin (pin_words m.refdes m.pin))
 
 abbrev pub unconnected_pin : List Level → Net → List Finding
@@ -103,7 +105,7 @@ unconnected_pin matrix n = flat_map (unconnected_member matrix n) n.members
 
 -- a member of kind in or clk
 abbrev pub is_driven_kind : Member → Bool
-is_driven_kind m = is_of_kind kinds.In m || is_of_kind kinds.Clk m
+is_driven_kind m = is_member_of_kind kinds.In m || is_member_of_kind kinds.Clk m
 
 -- a net that is no unconnected pin and has no directive has members of the kinds in and clk alone,
 -- at least one, and no global name
@@ -133,14 +135,14 @@ abbrev pub pins_on_two : List Net → Net → List Finding
 pins_on_two nets n = flat_map (member_on_two nets) n.members
 
 -- the names of nets
-abbrev pub names_of : List Net → List (List ℕ)
-names_of nets = map (λ n. n.name) nets
+abbrev pub names_of_nets : List Net → List (List ℕ)
+names_of_nets nets = map (λ n. n.name) nets
 
 -- what is found on one of these nets
 abbrev pub found_on_net : List Level → List Net → Net → List Finding
 found_on_net matrix nets n =
     conflicts matrix n ++ (by_count n ++ (unconnected_pin matrix n ++ (not_driven n
-    ++ (pins_on_two nets n ++ same_text (names_of nets) n.name))))
+    ++ (pins_on_two nets n ++ same_text (names_of_nets nets) n.name))))
 
 -- what is found on all of them
 abbrev pub found_on_nets : List Level → List Net → List Finding

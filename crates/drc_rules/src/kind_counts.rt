@@ -1,6 +1,6 @@
 // How many members of a net are of each kind.
 ghost use Rattle.std.specs.Prelude.{◌≡◌};
-ghost use Rattle.drc_rules.specs.OnNets.{is_of_kind};
+ghost use Rattle.drc_rules.specs.OnNets.{is_member_of_kind};
 ghost use Rattle.drc_rules.specs.steps.Counts.{kind_count, kind_counts};
 
 use attr_rules::PinKind;
@@ -18,7 +18,7 @@ pub struct KindCount {
 
 /// Whether a member is of a kind. It takes no memory.
 pub fn is_of_kind(member: &Member, kind: PinKind) -> bool
-    ensures { result ≡ is_of_kind kind member.now }
+    ensures { result ≡ is_member_of_kind kind member.now }
 {
     same_kind(member.kind, kind)
 }

@@ -1,7 +1,7 @@
 // What is found on nets.
 ghost use Rattle.std.specs.Prelude.{◌≡◌, ◌++◌, IfOk, List, OnOk, map};
 ghost use Rattle.net_list.specs.declared.nets.Net.{Net};
-ghost use Rattle.drc_rules.specs.OnNets.{by_count, found_on_net, found_on_nets, names_of};
+ghost use Rattle.drc_rules.specs.OnNets.{by_count, found_on_net, found_on_nets, names_of_nets};
 ghost use Rattle.drc_rules.specs.steps.Pins.{HasAlikeNames, HasPinsOnTwo};
 
 use crate::conflicts::add_conflicts;
@@ -20,7 +20,7 @@ use std::collections::BTreeSet;
 use text_tallies::{PairKey, alike_texts};
 
 fn names_of<'a>(alloc: Global, nets: &'a [Net]) -> Result<Vec<&'a str>, AllocError>
-    ensures { IfOk result (λ names. map (λ n. n.now) names.items ≡ names_of nets.now) }
+    ensures { IfOk result (λ names. map (λ n. n.now) names.items ≡ names_of_nets nets.now) }
 {
     let mut names = Vec::new(alloc);
     for net in nets {

@@ -1,7 +1,7 @@
 // Pins that join nothing, and those that may.
 ghost use Rattle.std.specs.Prelude.{◌≡◌, ◌++◌, OnOk};
 ghost use Rattle.std.specs.List.{flat_map};
-ghost use Rattle.drc_rules.specs.OnNets.{is_unconnected, may_be_open, unconnected_member};
+ghost use Rattle.drc_rules.specs.OnNets.{is_unconnected_net, may_be_open, unconnected_member};
 ghost use Rattle.drc_rules.specs.OnNets.{unconnected_pin};
 
 use attr_rules::PinKind;
@@ -13,7 +13,7 @@ use std::alloc::{AllocError, Global};
 
 /// Whether a net is an unconnected pin. It takes no memory.
 pub fn is_unconnected(net: &Net) -> bool
-    ensures { result ≡ is_unconnected net.now }
+    ensures { result ≡ is_unconnected_net net.now }
 {
     match net.sort {
         NetSort::Unconnected => true,

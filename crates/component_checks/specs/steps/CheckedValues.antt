@@ -12,7 +12,7 @@ use Rattle.attr_rules.specs.Slots.{slot_count}
 use Rattle.pin_place.specs.declared.pins.PlacedPin.{PlacedPin}
 use Rattle.instance_objects.specs.Occurrences.{FlatObject}
 use Rattle.instance_objects.specs.Texts.{under}
-use Rattle.component_checks.specs.CheckedComponents.{CheckedData, has_symbol, is_bad_net, is_port_if}
+use Rattle.component_checks.specs.CheckedComponents.{CheckedData, finds_symbol, is_bad_net, is_port_if}
 use Rattle.component_checks.specs.CheckedComponents.{slot_fault}
 
 -- a component with a library symbol, these first values and these drawn pins, as the check sees it
@@ -22,7 +22,7 @@ checked_by p f c library v pins = record {
   sheet = f.instance.sheet;
   id = f.id;
   basename = c.basename;
-  has_symbol = has_symbol c library;
+  has_symbol = finds_symbol c library;
   refdes = option_map (under f.instance.path) (if_line v.refdes);
   is_hierarchical = says_sources v;
   is_port = is_port_if p f.instance (if_line v.refdes);

@@ -10,12 +10,13 @@ use Rattle.std.specs.Ordering.{nat_cmp}
 use Rattle.std.specs.Str.{bytes_eq}
 use Rattle.geda_defs.specs.Order.{by_bytes}
 use Rattle.printed_texts.specs.PrintedTexts.{two_words, word}
+use Rattle.text_tallies.specs.Levels.{found_if}
 use Rattle.drc_findings.specs.declared.rule.Rule.TheVariants as drc
 use Rattle.drc_findings.specs.declared.finding.Finding.{Finding}
-use Rattle.drc_findings.specs.Findings.{a_warning, found_if}
+use Rattle.drc_findings.specs.Findings.{a_warning}
 use Rattle.component_checks.specs.CheckedComponents.{CheckedData}
-use Rattle.component_checks.specs.OnComponents.{is_listed, refdes_of}
-use Rattle.component_checks.specs.OnPackages.{is_number, slot_value}
+use Rattle.component_checks.specs.OnComponents.{checked_refdes, is_listed_part}
+use Rattle.component_checks.specs.OnPackages.{is_slot_number, slot_value}
 use Rattle.component_checks.specs.declared.slot_rows.PackageSlots.{PackageSlots}
 
 -- slots by refdes
@@ -38,11 +39,12 @@ is_used (Some slots) k = contains nat_cmp slots.used k
 
 -- one more number in a set, where there is one
 abbrev pub AddsNumber : Option ℕ → BTreeSet ℕ → BTreeSet ℕ → Type 0
-AddsNumber n old new = (k : ℕ) → contains nat_cmp new k ≡ (contains nat_cmp old k || is_number k n)
+AddsNumber n old new =
+    (k : ℕ) → contains nat_cmp new k ≡ (contains nat_cmp old k || is_slot_number k n)
 
 -- a listed part of the package of this refdes
 abbrev pub is_part_of : List ℕ → CheckedData → Bool
-is_part_of refdes c = is_listed c && bytes_eq refdes (refdes_of c)
+is_part_of refdes c = is_listed_part c && bytes_eq refdes (checked_refdes c)
 
 -- the count of slots that it gives to a package
 abbrev pub count_of : List ℕ → CheckedData → Option ℕ
@@ -50,7 +52,7 @@ count_of refdes c = if is_part_of refdes c then c.slots else None
 
 -- it uses the slot of this number in a package
 abbrev pub uses_in : List ℕ → ℕ → CheckedData → Bool
-uses_in refdes k c = is_part_of refdes c && is_number k (slot_value c.slot)
+uses_in refdes k c = is_part_of refdes c && is_slot_number k (slot_value c.slot)
 
 -- a component without slots: it gives no count of them, and has none
 abbrev pub has_no_slots : CheckedData → Bool
@@ -61,7 +63,7 @@ pub record TakesIn (refdes : List ℕ) (c : CheckedData) (old new : SlotRows) : 
   pub counts : (q : List ℕ) → count_in (row_at new q)
       ≡ option_or (count_in (row_at old q)) (if bytes_eq q refdes then c.slots else None)
   pub used : (q : List ℕ) (k : ℕ) → is_used (row_at new q) k
-      ≡ (is_used (row_at old q) k || (bytes_eq q refdes && is_number k (slot_value c.slot)))
+      ≡ (is_used (row_at old q) k || (bytes_eq q refdes && is_slot_number k (slot_value c.slot)))
 
 -- the rows after a component
 pub record TakesInIfListed (c : CheckedData) (old new : SlotRows) : Type 0 where

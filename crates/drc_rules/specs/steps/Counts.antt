@@ -4,17 +4,18 @@ use Rattle.std.specs.Prelude.{ℕ, Bool, not, ◌&&◌, if◌then◌else◌, nat
 use Rattle.std.specs.List.{flat_map}
 use Rattle.attr_rules.specs.declared.kinds.PinKind.{PinKind}
 use Rattle.net_list.specs.declared.member.Member.{Member}
+use Rattle.text_tallies.specs.Levels.{found_if}
 use Rattle.pin_matrix.specs.declared.level.Level.{Level}
 use Rattle.pin_matrix.specs.Matrices.{all_kinds, entry, is_correct, kind_rank, same_kind}
 use Rattle.drc_findings.specs.declared.rule.Rule.TheVariants as drc
 use Rattle.drc_findings.specs.declared.finding.Finding.{Finding}
-use Rattle.drc_findings.specs.Findings.{finding, found_if}
+use Rattle.drc_findings.specs.Findings.{finding}
 use Rattle.drc_rules.specs.declared.kind_counts.KindCount.{KindCount}
-use Rattle.drc_rules.specs.OnNets.{conflict_words, is_of_kind}
+use Rattle.drc_rules.specs.OnNets.{conflict_words, is_member_of_kind}
 
 -- a kind, and how many members are of it
 abbrev pub kind_count : List Member → PinKind → KindCount
-kind_count members kind = record { kind = kind; count = count_by (is_of_kind kind) members }
+kind_count members kind = record { kind = kind; count = count_by (is_member_of_kind kind) members }
 
 -- each kind in matrix order, and how many members are of it
 abbrev pub kind_counts : List Member → List KindCount

@@ -12,10 +12,11 @@ use Rattle.text_tallies.specs.LookAlike.{look_alike}
 use Rattle.text_tallies.specs.NameSets.{HasNames}
 use Rattle.text_tallies.specs.PairSets.{HasPairs, PairData, by_pair, has_pair, same_pair}
 use Rattle.text_tallies.specs.TwoOfAList.{two_pass}
+use Rattle.text_tallies.specs.Levels.{found_if}
 use Rattle.drc_findings.specs.declared.rule.Rule.TheVariants as drc
 use Rattle.drc_findings.specs.declared.finding.Finding.{Finding}
-use Rattle.drc_findings.specs.Findings.{an_error, found_if}
-use Rattle.drc_rules.specs.OnNets.{has_pair_in, names_of, pair_of}
+use Rattle.drc_findings.specs.Findings.{an_error}
+use Rattle.drc_rules.specs.OnNets.{has_pair_in, names_of_nets, pair_of}
 
 -- a member with this refdes and this number
 abbrev pub is_pair : PairData → Member → Bool
@@ -53,7 +54,7 @@ HasPinsOnTwo nets on_two = HasPairs (λ q. two_pass (has_pair_in q) nets) on_two
 
 -- the set has the printed texts of names of these nets that differ and print alike
 abbrev pub HasAlikeNames : List Net → BTreeSet (List ℕ) → Type 0
-HasAlikeNames nets alike = HasNames (look_alike (names_of nets)) alike
+HasAlikeNames nets alike = HasNames (look_alike (names_of_nets nets)) alike
 
 -- what is found on a member, by the set of the pins on two nets
 abbrev pub member_on_two_by : BTreeSet PairData → Member → List Finding

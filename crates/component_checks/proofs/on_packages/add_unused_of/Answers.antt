@@ -1,7 +1,7 @@
 use Rattle.std.proofs.Common.{◌∙◌, ◌++◌, ◌+◌, ◌-◌, ◌<◌, ℕ, List, Some, append_assoc, rules, ap, sym}
 use Rattle.std.specs.List.{flat_map, range_with_len}
+use Rattle.text_tallies.proofs.ListLemmas.{range_first}
 use Rattle.component_checks.specs.steps.SlotRows.{unused_in}
-use Rattle.component_checks.proofs.ListLemmas.{range_first}
 use Rattle.component_checks.proofs.on_packages.add_unused_of.Goals as goal
 
 pub loop-place-preserved : goal.loop-place-preserved

@@ -1,8 +1,0 @@
-use Rattle.std.proofs.Common.{◌≡◌, ◌++◌, drop}
-use Rattle.std.specs.List.{filter_map}
-use Rattle.component_checks.specs.steps.Repeats.{whole_name}
-use Rattle.component_checks.proofs.repeats.whole_names.Given as goal
-
-abbrev pub invariant-loop-component : goal.invariant-loop-component
-invariant-loop-component l =
-    l.names.items ++ filter_map whole_name (drop l.component-index l.components) ≡ filter_map whole_name l.components
