@@ -12,8 +12,8 @@ abbrev pub attr_line : List ℕ → List ℕ → List ℕ
 attr_line name value = name ++ codes "=" ++ value
 
 -- the text is an attribute of this name
-abbrev pub is_named : List ℕ → TextData → Bool
-is_named name t = is_some (value_named name t)
+abbrev pub is_attr_named : List ℕ → TextData → Bool
+is_attr_named name t = is_some (value_named name t)
 
 -- the text, whose content becomes this one
 abbrev pub with_content : List ℕ → TextData → TextData
@@ -47,12 +47,13 @@ new_label content p = record {
 abbrev pub set_text : List ℕ → List ℕ → Point → List TextData → List TextData
 set_text name content p [] = new_label content p ∷ []
 set_text name content p (t ∷ ts) =
-    if is_named name t then with_content content t ∷ ts else t ∷ set_text name content p ts
+    if is_attr_named name t then with_content content t ∷ ts else t ∷ set_text name content p ts
 
 -- where the first text of the name stands, from 0
-abbrev pub place_of : List ℕ → List TextData → Option ℕ
-place_of name [] = None
-place_of name (t ∷ ts) = if is_named name t then Some 0 else option_map suc (place_of name ts)
+abbrev pub attr_place : List ℕ → List TextData → Option ℕ
+attr_place name [] = None
+attr_place name (t ∷ ts) =
+    if is_attr_named name t then Some 0 else option_map suc (attr_place name ts)
 
 -- an object after it gets an attribute, or another value of it
 unfoldable pub with_attr : List ℕ → List ℕ → ObjectData → ObjectData
@@ -64,8 +65,8 @@ with_attr name value o = record {
 -- an object after it loses all attached attributes of a name
 unfoldable pub without_attr : List ℕ → ObjectData → ObjectData
 without_attr name o =
-    record { body = o.body; attrs = filter (λ t. not (is_named name t)) o.attrs }
+    record { body = o.body; attrs = filter (λ t. not (is_attr_named name t)) o.attrs }
 
 -- the object has an attached attribute of the name
 abbrev pub has_attr : List ℕ → ObjectData → Bool
-has_attr name o = list_any (is_named name) o.attrs
+has_attr name o = list_any (is_attr_named name) o.attrs

@@ -6,7 +6,7 @@ ghost use Rattle.std.specs.String.{string_bytes};
 ghost use Rattle.geda_geom.specs.Placing.{IsOnSheet};
 ghost use Rattle.geda_model.specs.Data.{TextData};
 ghost use Rattle.geda_model.specs.Ranges.{IsContent};
-ghost use Rattle.edit_attr.specs.Attributes.{attr_line, has_attr, is_named, new_label, place_of};
+ghost use Rattle.edit_attr.specs.Attributes.{attr_line, has_attr, is_attr_named, new_label, attr_place};
 ghost use Rattle.edit_attr.specs.Attributes.{set_text, with_attr, with_content, without_attr};
 
 use crate::points::first_point;
@@ -17,7 +17,7 @@ use std::alloc::{AllocError, Global};
 
 /// Whether a text is an attribute of a name.
 fn is_named(text: &Text, name: &str) -> bool
-    ensures { result ≡ is_named name.now text.now }
+    ensures { result ≡ is_attr_named name.now text.now }
 {
     match split_attr(text.content.as_str()) {
         Some((own, _)) => own == name,
@@ -151,7 +151,7 @@ pub fn put_attr(
 ) -> Result<(), AllocError>
     requires content { IsContent (attr_line name.now value.now) }
     requires at { IsOnSheet at }
-    requires place { place ≡ place_of name.now texts.old.items }
+    requires place { place ≡ attr_place name.now texts.old.items }
     ensures { OnOk result (texts.new.items
         ≡ set_text name.now (attr_line name.now value.now) at texts.old.items) }
 {
@@ -170,7 +170,7 @@ pub fn put_attr(
 
 /// The texts that are no attributes of a name.
 fn drop_text(alloc: Global, texts: &[Text], name: &str) -> Result<Texts, AllocError>
-    ensures { IfOk result (λ v. v ≡ filter (λ t. not (is_named name.now t)) texts.now) }
+    ensures { IfOk result (λ v. v ≡ filter (λ t. not (is_attr_named name.now t)) texts.now) }
 {
     let mut after = Texts::new(alloc);
     for text in texts {

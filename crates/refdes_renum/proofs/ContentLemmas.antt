@@ -16,7 +16,7 @@ use Rattle.geda_model.specs.Sheets.{ObjectData, SymbolData}
 use Rattle.attr_rules.specs.Attributes.{attr}
 use Rattle.attr_rules.specs.Components.{if_line, is_no_feed, refdes_of}
 use Rattle.edit_attr.specs.Attributes.{attr_line}
-use Rattle.refdes_renum.specs.Numbers.{numbered, stem_of, unless_last_mark}
+use Rattle.refdes_renum.specs.Numbers.{stem_with_number, stem_of, unless_last_mark}
 use Rattle.refdes_renum.specs.steps.UsedTexts.{HasNoFeed, IsFeedless}
 
 line_feedless : (value : Option (List ℕ)) → HasNoFeed (if_line value)
@@ -102,7 +102,7 @@ unfolding is_utf8 chars encode
 front_utf8 = refl
 
 -- the line of a refdes with a number is the content of a text
-pub numbered_content : (stem : List ℕ) (n : ℕ) → IsUtf8 stem → IsFeedless stem → n < 2 ^ 64 → IsContent (attr_line (codes "refdes") (numbered stem n))
+pub numbered_content : (stem : List ℕ) (n : ℕ) → IsUtf8 stem → IsFeedless stem → n < 2 ^ 64 → IsContent (attr_line (codes "refdes") (stem_with_number stem n))
 numbered_content stem n text h small =
     let front = codes "refdes=" ++ stem in
     let digits = digits_of n small in
@@ -115,7 +115,7 @@ numbered_content stem n text h small =
     })
 
 -- so is that of a text that is given
-pub refdes_content : {S E : Type 0} (bytes : S → List ℕ) (r : Result S E) (stem : List ℕ) (n : ℕ) → IfOk r (λ t. bytes t ≡ numbered stem n) → IfOk r (λ t. n < 2 ^ 64)
+pub refdes_content : {S E : Type 0} (bytes : S → List ℕ) (r : Result S E) (stem : List ℕ) (n : ℕ) → IfOk r (λ t. bytes t ≡ stem_with_number stem n) → IfOk r (λ t. n < 2 ^ 64)
     → IsUtf8 stem → IsFeedless stem → IfOk r (λ t. IsContent (attr_line (codes "refdes") (bytes t)))
 refdes_content bytes (Ok t) stem n e h text feedless = subst (λ x. IsContent (attr_line (codes "refdes") x)) (sym e) (numbered_content stem n text feedless h)
 refdes_content bytes (Err f) stem n e h text feedless = tt

@@ -27,7 +27,7 @@ use Rattle.project_model.proofs.OrderedRows.{keys_sorted}
 use Rattle.project_model.proofs.Rows.{IsKey, find_row}
 use Rattle.refdes_renum.specs.declared.place.Place.{Place}
 use Rattle.refdes_renum.specs.Laws.{IdsAreInRange, IsReplaced}
-use Rattle.refdes_renum.specs.Renumbering.{by_place, is_unnumbered, items_of, new_refdes, open_place, open_places, refdeses, renumbered, renumbered_at, used_after, with_refdes}
+use Rattle.refdes_renum.specs.Renumbering.{by_place, is_unnumbered, items_of, new_refdes, open_place, open_places, component_refdeses, renumbered, renumbered_at, used_after, with_refdes}
 
 one_replaced : (p : ProjectData) (used : List (List ℕ)) (id : ℕ) (o : Option Placed) → get p.objects id ≡ o → All (IsReplaced p) (items_of p used id o)
 one_replaced p used id None e = All-nil (IsReplaced p)
@@ -45,7 +45,7 @@ all_replaced p used (place ∷ places) =
 -- each item is an object of the project, which stays in its sheet
 pub replaced : (p : ProjectData) → All (IsReplaced p) (renumbered p)
 unfolding renumbered
-replaced p = all_replaced p (refdeses p) (open_places p)
+replaced p = all_replaced p (component_refdeses p) (open_places p)
 
 -- an object of the project stands at a place
 record IsStanding (p : ProjectData) (place : Place) : Type 0 where
@@ -159,7 +159,7 @@ distinct_at p used (place ∷ places) apart =
 -- no object stands twice
 pub distinct : (p : ProjectData) → AreDistinct (renumbered p)
 unfolding renumbered
-distinct p = distinct_at p (refdeses p) (open_places p) (ids_apart p)
+distinct p = distinct_at p (component_refdeses p) (open_places p) (ids_apart p)
 
 in_range : (p : ProjectData) (item : Item) → IdsAreInRange p → IsReplaced p item → IsIdInRange item.0
 in_range p item h is =

@@ -14,7 +14,7 @@ use Rattle.std.proofs.lemmas.Map.Views.{Contains-from_any}
 use Rattle.std.proofs.lemmas.Slice.Eq.{bytes_eq-Decides}
 use Rattle.project_model.proofs.Rows.{key_equal, names}
 use Rattle.refdes_renum.specs.Laws.{IsLeastFree}
-use Rattle.refdes_renum.specs.Numbers.{first_free, greatest_u64, is_taken, least_free, numbered}
+use Rattle.refdes_renum.specs.Numbers.{first_free, greatest_u64, is_taken, least_free, stem_with_number}
 use Rattle.refdes_renum.proofs.NumberLemmas.{first_free-below, first_free-from, first_free-to}
 
 -- the number at which a search ends before its end is free
@@ -29,24 +29,24 @@ free_before taken n (suc more) h = by (taken n) refl h (free_before taken (n + 1
     by false e below later = e
 
 -- numbers of 64 bits with one text are one
-same_number : (stem : List ℕ) (m n : ℕ) → m < 2 ^ 64 → n < 2 ^ 64 → numbered stem m ≡ numbered stem n → m ≡ n
+same_number : (stem : List ℕ) (m n : ℕ) → m < 2 ^ 64 → n < 2 ^ 64 → stem_with_number stem m ≡ stem_with_number stem n → m ≡ n
 same_number stem m n h k e = decimal_injective m n h k (append_cancel_left stem (decimal m) (decimal n) e)
 
 module _ (used : List (List ℕ)) (stem : List ℕ) (count : ℕ) (small : 1 + count ≤ 2 ^ 64) where
   abbrev texts : List (List ℕ)
-  texts = map (numbered stem) (range_with_len 1 count)
+  texts = map (stem_with_number stem) (range_with_len 1 count)
 
   many : length texts ≡ count
-  many = length-map-range_with_len (numbered stem) 1 count
+  many = length-map-range_with_len (stem_with_number stem) 1 count
 
-  text_at : (k : ℕ) (d : List ℕ) → k < count → get_or texts k d ≡ numbered stem (1 + k)
-  text_at k d h = get_or-map-range_with_len (numbered stem) 1 count k (1 + k) d h refl
+  text_at : (k : ℕ) (d : List ℕ) → k < count → get_or texts k d ≡ stem_with_number stem (1 + k)
+  text_at k d h = get_or-map-range_with_len (stem_with_number stem) 1 count k (1 + k) d h refl
 
   apart : AllPairs (λ (x y : List ℕ). x ≢ y) texts
   apart i j d lt h e =
       let below : j < count = subst (λ n. j < n) many h in
       let low : i < count = omega (arith, lt, below) in
-      let same : numbered stem (1 + i) ≡ numbered stem (1 + j) = sym (text_at i d low) ∙ e ∙ text_at j d below in
+      let same : stem_with_number stem (1 + i) ≡ stem_with_number stem (1 + j) = sym (text_at i d low) ∙ e ∙ text_at j d below in
       let one : 1 + i ≡ 1 + j = same_number stem (1 + i) (1 + j) (omega (arith, low, small)) (omega (arith, below, small)) same in
       absurd (omega (arith, one, lt))
 
@@ -58,7 +58,7 @@ module _ (used : List (List ℕ)) (stem : List ℕ) (count : ℕ) (small : 1 + c
       λ q h.
       let there = Contains-from_any (λ x y. (bytes_eq-Decides x y).0) q texts h in
       let below : there.0 < count = subst (λ n. there.0 < n) many there.1 in
-      let is : numbered stem (1 + there.0) ≡ q = sym (text_at there.0 q below) ∙ there.2 in
+      let is : stem_with_number stem (1 + there.0) ≡ q = sym (text_at there.0 q below) ∙ there.2 in
       subst (λ (t : List ℕ). is_member bytes_eq used t ≡ true) is (taken (1 + there.0) (omega arith) (omega (arith, below))) in
       subst (λ n. n ≤ length used) many
       (length-le_from_is_member laws texts used (IsDistinct-from_AllPairs bytes_eq-Decides texts apart) in_use)

@@ -5,7 +5,7 @@ use Rattle.std.specs.Cmp.{decided}
 use Rattle.std.specs.List.{cons_option, list_any}
 use Rattle.std.specs.Str.{bytes_eq}
 use Rattle.std.proofs.lemmas.Slice.Eq.{bytes_eq-Decides}
-use Rattle.refdes_renum.specs.Numbers.{first_free, greatest_u64, is_taken, least_free, numbered}
+use Rattle.refdes_renum.specs.Numbers.{first_free, greatest_u64, is_taken, least_free, stem_with_number}
 use Rattle.refdes_renum.specs.steps.UsedTexts.{AddsText, IsNext, SetsNext, TakesRefdes, Tracks, given_number}
 use Rattle.refdes_renum.specs.steps.Places.{GivesRefdes, given_refdes, items_by}
 use Rattle.refdes_renum.specs.Renumbering.{items_of, stem_at, used_after, with_refdes}
@@ -38,7 +38,7 @@ or_true false b e = e
 
 -- what was taken stays so
 taken_push : (used : List (List ℕ)) (text stem : List ℕ) (n : ℕ) → is_taken used stem n ≡ true → is_taken (used ++ text ∷ []) stem n ≡ true
-taken_push used text stem n e = any_push (bytes_eq (numbered stem n)) used text ∙ or_true (bytes_eq (numbered stem n) text) (is_taken used stem n) e
+taken_push used text stem n e = any_push (bytes_eq (stem_with_number stem n)) used text ∙ or_true (bytes_eq (stem_with_number stem n) text) (is_taken used stem n) e
 
 -- all that were taken stay so
 all_push : (used : List (List ℕ)) (text stem : List ℕ) (number : ℕ) → IsNext used stem number → IsNext (used ++ text ∷ []) stem number
@@ -91,7 +91,7 @@ given_least used has next stem h =
     let taken = is_taken used stem in
     let one = start.from_one in
     let small = start.small in
-    first_free-same (λ n. has (numbered stem n)) taken from (greatest_u64 - from) (λ n. h.same (numbered stem n))
+    first_free-same (λ n. has (stem_with_number stem n)) taken from (greatest_u64 - from) (λ n. h.same (stem_with_number stem n))
     ∙ sym (
     first_free-skip taken (from - 1) 1 (greatest_u64 - 1) (omega (arith, small, one)) (λ m low high. start.taken m low (omega (arith, high, one)))
     ∙ ap (λ m. first_free taken m ((greatest_u64 - 1) - (from - 1))) (omega (arith, one))
@@ -138,8 +138,8 @@ place_step p texts has new next later id None gives h =
 place_step p texts has new next later id (Some placed) gives h =
     let least = given_least texts has next (stem_at p placed) h in
     let tracks = given_tracks texts has new next later (stem_at p placed) (given_refdes p has next placed) gives.0 gives.1 h in (
-      subst (λ n. Tracks (texts ++ numbered (stem_at p placed) n ∷ []) new later) least tracks,
-      ap (λ n. (things.Object id, Some (values.Object (with_refdes (numbered (stem_at p placed) n) placed))) ∷ []) least,
+      subst (λ n. Tracks (texts ++ stem_with_number (stem_at p placed) n ∷ []) new later) least tracks,
+      ap (λ n. (things.Object id, Some (values.Object (with_refdes (stem_with_number (stem_at p placed) n) placed))) ∷ []) least,
     )
 
 -- nothing is left behind the end of a list

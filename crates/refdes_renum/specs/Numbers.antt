@@ -5,8 +5,8 @@ use Rattle.std.specs.Fmt.{decimal}
 use Rattle.std.specs.Str.{bytes_eq}
 
 -- the text ends in `?`
-abbrev pub ends_open : List ℕ → Bool
-ends_open text = not (length text == 0) && (slice_index text (length text - 1) == 63)
+abbrev pub ends_in_mark : List ℕ → Bool
+ends_in_mark text = not (length text == 0) && (slice_index text (length text - 1) == 63)
 
 -- a byte before others; a `?` is left out where nothing stands behind it
 abbrev pub unless_last_mark : ℕ → List ℕ → List ℕ
@@ -19,12 +19,12 @@ stem_of [] = []
 stem_of (b ∷ bs) = unless_last_mark b (stem_of bs)
 
 -- a text followed by a number
-abbrev pub numbered : List ℕ → ℕ → List ℕ
-numbered stem n = stem ++ decimal n
+abbrev pub stem_with_number : List ℕ → ℕ → List ℕ
+stem_with_number stem n = stem ++ decimal n
 
 -- the text with this number is in use
 abbrev pub is_taken : List (List ℕ) → List ℕ → ℕ → Bool
-is_taken used stem n = list_any (bytes_eq (numbered stem n)) used
+is_taken used stem n = list_any (bytes_eq (stem_with_number stem n)) used
 
 -- the first number from one on that is not taken, of so many; the one after them, if all are
 abbrev pub first_free : (ℕ → Bool) → ℕ → ℕ → ℕ

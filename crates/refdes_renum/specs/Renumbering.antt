@@ -18,7 +18,7 @@ use Rattle.attr_rules.specs.Components.{is_graphical, refdes_of}
 use Rattle.attr_rules.specs.Libraries.{library_of}
 use Rattle.edit_attr.specs.Attributes.{with_attr}
 use Rattle.refdes_renum.specs.declared.place.Place.{Place}
-use Rattle.refdes_renum.specs.Numbers.{ends_open, stem_of, numbered, least_free}
+use Rattle.refdes_renum.specs.Numbers.{ends_in_mark, stem_of, stem_with_number, least_free}
 
 -- where an object stands: by the name of its sheet, then by its id
 abbrev pub by_place : Place → Place → Ordering
@@ -35,7 +35,7 @@ component_refdes p o = of_body o.body
 -- a refdes that is there ends in `?`
 abbrev pub is_open : Option (List ℕ) → Bool
 is_open None = false
-is_open (Some refdes) = ends_open refdes
+is_open (Some refdes) = ends_in_mark refdes
 
 -- a component without a number: it is not graphical, and its refdes ends in `?`
 abbrev pub is_unnumbered : ProjectData → ObjectData → Bool
@@ -53,8 +53,8 @@ unfoldable pub open_places : ProjectData → List Place
 open_places p = once_in_order by_place (filter_map (open_place p) (entries p.objects))
 
 -- the refdes of all components
-unfoldable pub refdeses : ProjectData → List (List ℕ)
-refdeses p = filter_map (λ row. component_refdes p row.1.object) (entries p.objects)
+unfoldable pub component_refdeses : ProjectData → List (List ℕ)
+component_refdeses p = filter_map (λ row. component_refdes p row.1.object) (entries p.objects)
 
 -- a refdes without all `?` at its end; nothing, where there is none
 abbrev pub stem_in : Option (List ℕ) → List ℕ
@@ -68,7 +68,7 @@ stem_at p placed = stem_in (component_refdes p placed.object)
 -- its new refdes, where these texts are in use
 abbrev pub new_refdes : ProjectData → List (List ℕ) → Placed → List ℕ
 new_refdes p used placed =
-    numbered (stem_at p placed) (least_free used (stem_at p placed))
+    stem_with_number (stem_at p placed) (least_free used (stem_at p placed))
 
 -- an object under a new refdes
 abbrev pub with_refdes : List ℕ → Placed → Placed
@@ -98,4 +98,4 @@ renumbered_at p used (place ∷ places) =
 
 -- the change that gives a number to each component without one
 unfoldable pub renumbered : ProjectData → List Item
-renumbered p = renumbered_at p (refdeses p) (open_places p)
+renumbered p = renumbered_at p (component_refdeses p) (open_places p)

@@ -6,8 +6,8 @@ ghost use Rattle.std.specs.HashSet.{contains_text};
 ghost use Rattle.std.specs.String.{string_bytes};
 ghost use Rattle.geda_model.specs.Ranges.{IsContent};
 ghost use Rattle.edit_attr.specs.Attributes.{attr_line};
-ghost use Rattle.refdes_renum.specs.Numbers.{numbered, stem_of};
-ghost use Rattle.refdes_renum.specs.Renumbering.{refdeses, renumbered, renumbered_at, stem_at, with_refdes};
+ghost use Rattle.refdes_renum.specs.Numbers.{stem_with_number, stem_of};
+ghost use Rattle.refdes_renum.specs.Renumbering.{component_refdeses, renumbered, renumbered_at, stem_at, with_refdes};
 ghost use Rattle.refdes_renum.specs.steps.Places.{GivesRefdes, items_by};
 ghost use Rattle.refdes_renum.specs.steps.UsedTexts.{AddsText, IsFeedless, SetsNext, Tracks, given_number};
 
@@ -24,7 +24,7 @@ use std::collections::BTreeSet;
 /// The new refdes in place of one, which is in use from then on.
 fn give_refdes(alloc: Global, used: &mut UsedTexts, refdes: &str) -> Result<String, AllocError>
     requires line { IsFeedless refdes.now }
-    ensures text { IfOk result (λ text. string_bytes text ≡ numbered (stem_of refdes.now)
+    ensures text { IfOk result (λ text. string_bytes text ≡ stem_with_number (stem_of refdes.now)
         (given_number (contains_text used.old.used) (get_by_text used.old.next)
         (stem_of refdes.now))) }
     ensures used { IfOk result (λ text. AddsText (string_bytes text)
@@ -47,7 +47,7 @@ fn new_refdes(
     placed: &Placed,
 ) -> Result<String, AllocError>
     ensures text { IfOk result (λ text.
-        string_bytes text ≡ numbered (stem_at project.now.contents placed.now)
+        string_bytes text ≡ stem_with_number (stem_at project.now.contents placed.now)
         (given_number (contains_text used.old.used) (get_by_text used.old.next)
         (stem_at project.now.contents placed.now))) }
     ensures used { IfOk result (λ text. AddsText (string_bytes text)
@@ -106,10 +106,10 @@ fn renumbered_at(
     used: UsedTexts,
     places: &BTreeSet<Place>,
 ) -> Result<Change, AllocError>
-    requires { Tracks (refdeses project.now.contents)
+    requires { Tracks (component_refdeses project.now.contents)
         (contains_text used.used) (get_by_text used.next) }
-    ensures { IfOk result (λ change. change.items ≡
-        renumbered_at project.now.contents (refdeses project.now.contents) places.now.keys) }
+    ensures { IfOk result (λ change. change.items ≡ renumbered_at project.now.contents
+        (component_refdeses project.now.contents) places.now.keys) }
 {
     let mut used = used;
     let mut change = Change::new(alloc);
@@ -125,7 +125,7 @@ fn renumbered_at(
 /// which no component of the project has that refdes, and none got it before in this change.
 ///
 /// A change of nothing, where there is no such component. The project stays.
-#[tactic(auto, unfolding(crate::specs::Renumbering::renumbered, crate::specs::Renumbering::refdeses, crate::specs::Renumbering::open_places))]
+#[tactic(auto, unfolding(crate::specs::Renumbering::renumbered, crate::specs::Renumbering::component_refdeses, crate::specs::Renumbering::open_places))]
 pub fn renumber(alloc: Global, project: &Project) -> Result<Change, AllocError>
     ensures { IfOk result (λ change. change.items ≡ renumbered project.now.contents) }
 {

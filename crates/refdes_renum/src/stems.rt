@@ -1,10 +1,10 @@
 // The texts before numbers.
 ghost use Rattle.std.specs.Prelude.{◌≡◌};
-ghost use Rattle.refdes_renum.specs.Numbers.{ends_open, stem_of};
+ghost use Rattle.refdes_renum.specs.Numbers.{ends_in_mark, stem_of};
 
 /// Whether a text ends in `?`.
 pub(crate) fn ends_open(text: &[u8]) -> bool
-    ensures { result ≡ ends_open text.now }
+    ensures { result ≡ ends_in_mark text.now }
 {
     if text.is_empty() {
         return false;

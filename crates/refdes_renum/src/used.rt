@@ -4,7 +4,7 @@ ghost use Rattle.std.specs.HashMap.{get_by_text};
 ghost use Rattle.std.specs.HashSet.{contains_text};
 ghost use Rattle.std.specs.Option.{unwrap_or};
 ghost use Rattle.std.specs.String.{string_bytes};
-ghost use Rattle.refdes_renum.specs.Numbers.{first_free, greatest_u64, numbered};
+ghost use Rattle.refdes_renum.specs.Numbers.{first_free, greatest_u64, stem_with_number};
 ghost use Rattle.refdes_renum.specs.steps.UsedTexts.{AddsText, SetsNext, Tracks, given_number};
 
 use std::alloc::{AllocError, Global};
@@ -18,7 +18,7 @@ pub(crate) struct UsedTexts {
 }
 
 fn numbered(alloc: Global, stem: &str, number: u64) -> Result<String, AllocError>
-    ensures { IfOk result (λ text. string_bytes text ≡ numbered stem.now number) }
+    ensures { IfOk result (λ text. string_bytes text ≡ stem_with_number stem.now number) }
 {
     format!(in alloc; "{stem}{number}")
 }
@@ -31,8 +31,8 @@ fn first_free(
     from: u64,
 ) -> Result<(u64, String), AllocError>
     ensures number { IfOk result (λ r. r.0 ≡ first_free
-        (λ n. contains_text used.now (numbered stem.now n)) from (greatest_u64 - from)) }
-    ensures text { IfOk result (λ r. string_bytes r.1 ≡ numbered stem.now r.0) }
+        (λ n. contains_text used.now (stem_with_number stem.now n)) from (greatest_u64 - from)) }
+    ensures text { IfOk result (λ r. string_bytes r.1 ≡ stem_with_number stem.now r.0) }
 {
     let mut number = from;
     let mut text = numbered(alloc, stem, number)?;
@@ -97,7 +97,7 @@ impl UsedTexts {
 
     /// The text of the first number that is free under a stem, which is in use from then on.
     pub(crate) fn give(&mut self, alloc: Global, stem: &str) -> Result<String, AllocError>
-        ensures text { IfOk result (λ text. string_bytes text ≡ numbered stem.now
+        ensures text { IfOk result (λ text. string_bytes text ≡ stem_with_number stem.now
             (given_number (contains_text self.old.used) (get_by_text self.old.next) stem.now)) }
         ensures small { IfOk result (λ _. given_number (contains_text self.old.used)
             (get_by_text self.old.next) stem.now < 2 ^ 64) }

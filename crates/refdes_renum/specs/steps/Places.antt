@@ -5,14 +5,14 @@ use Rattle.project_model.specs.declared.change.Thing.TheVariants as things
 use Rattle.project_model.specs.declared.change.Value.TheVariants as values
 use Rattle.project_model.specs.Items.{Item}
 use Rattle.project_model.specs.Projects.{ProjectData}
-use Rattle.refdes_renum.specs.Numbers.{numbered}
+use Rattle.refdes_renum.specs.Numbers.{stem_with_number}
 use Rattle.refdes_renum.specs.Renumbering.{stem_at, with_refdes}
 use Rattle.refdes_renum.specs.steps.UsedTexts.{AddsText, SetsNext, given_number}
 
 -- the new refdes of an object, by what is kept
 abbrev pub given_refdes : ProjectData → (List ℕ → Bool) → (List ℕ → Option ℕ) → Placed → List ℕ
 given_refdes p has next placed =
-    numbered (stem_at p placed) (given_number has next (stem_at p placed))
+    stem_with_number (stem_at p placed) (given_number has next (stem_at p placed))
 
 -- what comes of an object, if it is there
 abbrev pub items_by : ProjectData → (List ℕ → Bool) → (List ℕ → Option ℕ) → ℕ → Option Placed

@@ -4,7 +4,7 @@ use Rattle.std.specs.List.{list_all, list_any}
 use Rattle.std.specs.Option.{unwrap_or}
 use Rattle.std.specs.Str.{bytes_eq}
 use Rattle.attr_rules.specs.Components.{is_no_feed}
-use Rattle.refdes_renum.specs.Numbers.{first_free, greatest_u64, is_taken, numbered}
+use Rattle.refdes_renum.specs.Numbers.{first_free, greatest_u64, is_taken, stem_with_number}
 
 -- all numbers from 1 on to another one are taken, that one left out
 abbrev pub AllTaken : List (List ℕ) → List ℕ → ℕ → Type 0
@@ -26,7 +26,7 @@ pub record Tracks (used : List (List ℕ)) (has : List ℕ → Bool) (next : Lis
 abbrev pub given_number : (List ℕ → Bool) → (List ℕ → Option ℕ) → List ℕ → ℕ
 given_number has next stem =
     let from = unwrap_or (next stem) 1 in
-    first_free (λ n. has (numbered stem n)) from (greatest_u64 - from)
+    first_free (λ n. has (stem_with_number stem n)) from (greatest_u64 - from)
 
 -- no byte is an LF
 abbrev pub IsFeedless : List ℕ → Type 0
