@@ -3,13 +3,13 @@ ghost use Rattle.std.specs.Prelude.{◌≡◌, ◌+◌, ◌*◌};
 
 use case_tables::CaseFault;
 use hall_core::{Hall, HallName, Keys, NewLog, Places, Seat, ShowsBoard, close_hall, open_hall};
-use hall_server::serve_link;
+use hall_server::{LinkEnd, serve_link};
 use keeper_core::Keeper;
 use std::alloc::Global;
 use std::marker::Brand;
 use std::mem;
 use std::sync::Wait;
-use web_http::{LinkEnd, MemoryLink};
+use web_heads::MemoryLink;
 
 /// What came of a hall.
 #[derive(Drop)]

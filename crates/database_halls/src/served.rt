@@ -6,7 +6,7 @@ use http_lines::{input_of, lines_of};
 use keeper_core::{Keeper, MemoryKeeper};
 use std::alloc::Global;
 use std::sync::Wait;
-use web_http::MemoryLink;
+use web_heads::MemoryLink;
 
 /// How many bytes go out on a connection at most.
 const ROOM: usize = 100_000;

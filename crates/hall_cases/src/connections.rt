@@ -1,6 +1,7 @@
 // Connections in memory that were served.
+use hall_server::LinkEnd;
 use std::alloc::{AllocError, Global};
-use web_http::{LinkEnd, MemoryLink};
+use web_heads::MemoryLink;
 
 /// How many bytes go out on a connection at most.
 const ROOM: usize = 2_000_000;

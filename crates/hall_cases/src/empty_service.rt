@@ -4,12 +4,13 @@ ghost use Rattle.web_requests.specs.Answers.{is_behind};
 
 use board_core::Board;
 use edit_entries::Entry;
+use hall_server::{Service, Shown};
 use keeper_core::Reply;
 use pin_matrix::Matrix;
 use reports::{ReportFault, What, report};
 use std::alloc::Global;
 use std::marker::Model;
-use web_http::{Bytes, Service, Shown};
+use web_requests::Bytes;
 
 /// A service with no entries, which refuses so many looks of reports before it grants one. It has
 /// no memory for edits.

@@ -2,8 +2,8 @@
 use crate::connections::{Connection, link_of};
 use crate::empty_service::EmptyService;
 use case_tables::{CaseFault, bytes_of, cell, number_of, text_in};
+use hall_server::{LinkEnd, serve_requests};
 use std::alloc::Global;
-use web_http::{LinkEnd, serve};
 
 /// How a connection ended, and all that went out.
 fn told(alloc: Global, connection: &Connection) -> Result<String, CaseFault> {
@@ -20,7 +20,7 @@ fn connect(
 ) -> Result<Connection, CaseFault> {
     let mut service = EmptyService::new(alloc, refusing);
     let mut link = link_of(alloc, input, failing)?;
-    let end = serve(alloc, &mut service, &mut link);
+    let end = serve_requests(alloc, &mut service, &mut link);
     Ok(Connection { end, link })
 }
 

@@ -11,12 +11,12 @@ use Rattle.project_model.specs.Projects.{ProjectData}
 use Rattle.project_model.specs.Changes.{CanApply, put}
 use Rattle.edit_entries.specs.Entries.{EntryData, EntryIsInRange}
 use Rattle.edit_entries.specs.declared.fault.EditFault.{EditFault}
-use Rattle.edit_rules.specs.EarlyLines.{is_same_at, numbered, repeated, repeated_at}
+use Rattle.edit_rules.specs.EarlyLines.{is_same_at, serial_of_number, repeated_serial, repeated_at}
 use Rattle.edit_rules.specs.EditChanges as histories
 use Rattle.edit_rules.specs.Fitting.{Fits}
 use Rattle.edit_rules.specs.Histories.{changes, project}
-use Rattle.edit_rules.specs.Naming.{is_numbered}
-use Rattle.edit_rules.specs.Verdicts.{first_of, lines, verdict, verdict_by}
+use Rattle.edit_rules.specs.Naming.{has_session_number}
+use Rattle.edit_rules.specs.Verdicts.{first_of, verdict_lines, verdict, verdict_by}
 use Rattle.edit_rules.specs.declared.verdict.Verdict.{Verdict}
 use Rattle.edit_rules.specs.declared.verdict.Verdict.TheVariants as verdicts
 use Rattle.edit_rules.proofs.Accepting.{accepted}
@@ -99,8 +99,8 @@ at_found h e (Some j) k at = go (is_same_at (slice_get h j) e) at
 -- what is repeated stands in the history
 pub repeat_within : (h : List EntryData) (e : EntryData) (k : ℕ) → IsJudged h e (verdicts.Repeat k) → k < length h
 repeat_within h e k judged =
-    let found : numbered h e ≡ Some k = at_found h e (numbered h e) k (repeat_by (repeated h e) (first_of (lines h e)) (changes h e.edit) k judged.is) in
-    subst (λ (o : Option ℕ). IfSome o (λ j. j < length h)) found (last_within (is_numbered e.session e.number) h)
+    let found : serial_of_number h e ≡ Some k = at_found h e (serial_of_number h e) k (repeat_by (repeated_serial h e) (first_of (verdict_lines h e)) (changes h e.edit) k judged.is) in
+    subst (λ (o : Option ℕ). IfSome o (λ j. j < length h)) found (last_within (has_session_number e.session e.number) h)
 
 -- the id before the last entry
 pub first_id_last : (h new : List EntryData) (e : EntryData) (serial : ℕ) → new ≡ h ++ e ∷ [] → serial ≡ length h → (project h).next_id ≡ first_id_at new serial

@@ -8,10 +8,10 @@ use Rattle.std.proofs.lemmas.Slice.Eq.{bytes_eq-Decides}
 use mathlib.Core.List.{IsPrefix}
 use Rattle.edit_entries.specs.Entries.{EntryData}
 use Rattle.edit_entries.specs.steps.EqualityLaws.{entry_itself}
-use Rattle.edit_rules.specs.EarlyLines.{is_same_at, numbered, repeated, repeated_at}
+use Rattle.edit_rules.specs.EarlyLines.{is_same_at, serial_of_number, repeated_serial, repeated_at}
 use Rattle.edit_rules.specs.Histories.{changes, last_place}
-use Rattle.edit_rules.specs.Naming.{is_numbered}
-use Rattle.edit_rules.specs.Verdicts.{first_of, lines, verdict, verdict_by}
+use Rattle.edit_rules.specs.Naming.{has_session_number}
+use Rattle.edit_rules.specs.Verdicts.{first_of, verdict_lines, verdict, verdict_by}
 use Rattle.edit_rules.specs.declared.verdict.Verdict.TheVariants.{Repeat}
 use Rattle.edit_rules.proofs.LongerHistories.{last_push}
 use Rattle.keeper_core.specs.declared.reply.Reply.{Reply}
@@ -19,9 +19,9 @@ use Rattle.keeper_core.specs.declared.reply.Reply.TheVariants as replies
 use Rattle.hall_core.specs.Seats.{SeatData}
 use Rattle.hall_core.specs.Pens as hall
 use Rattle.web_heads.specs.Links.{IsPrefixOf}
-use Rattle.web_http.specs.Services as services
+use Rattle.hall_server.specs.Services as services
 
-numbered_itself : (e : EntryData) → is_numbered e.session e.number e ≡ true
+numbered_itself : (e : EntryData) → has_session_number e.session e.number e ≡ true
 numbered_itself e =
     rw ((bytes_eq-Decides e.session e.session).1 refl, (unsigned_Decides e.number e.number).1 refl) refl
 
@@ -29,12 +29,12 @@ get_last : (h : List EntryData) (e : EntryData) → slice_get (h ++ e ∷ []) (l
 get_last [] e = refl
 get_last (x ∷ h) e = get_last h e
 
-repeated_last : (h : List EntryData) (e : EntryData) → repeated (h ++ e ∷ []) e ≡ Some (length h)
+repeated_last : (h : List EntryData) (e : EntryData) → repeated_serial (h ++ e ∷ []) e ≡ Some (length h)
 repeated_last h e =
     let l : List EntryData = h ++ e ∷ [] in
-    let last = last_place (is_numbered e.session e.number) h in
-    let at : numbered l e ≡ Some (length h) =
-    last_push (is_numbered e.session e.number) h e ∙ ap (λ b. cond b (Some (length h)) last) (numbered_itself e) in
+    let last = last_place (has_session_number e.session e.number) h in
+    let at : serial_of_number l e ≡ Some (length h) =
+    last_push (has_session_number e.session e.number) h e ∙ ap (λ b. cond b (Some (length h)) last) (numbered_itself e) in
     let same : is_same_at (slice_get l (length h)) e ≡ true = ap (λ o. is_same_at o e) (get_last h e) ∙ entry_itself e in
     ap (repeated_at l e) at ∙ rw same refl
 
@@ -42,7 +42,7 @@ repeated_last h e =
 standing : (h : List EntryData) (e : EntryData) → verdict (h ++ e ∷ []) e ≡ Repeat (length h)
 standing h e =
     let l : List EntryData = h ++ e ∷ [] in
-    ap (λ r. verdict_by r (first_of (lines l e)) (changes l e.edit)) (repeated_last h e)
+    ap (λ r. verdict_by r (first_of (verdict_lines l e)) (changes l e.edit)) (repeated_last h e)
 
 length_one : (h : List EntryData) (e : EntryData) → length (h ++ e ∷ []) ≡ length h + 1
 length_one h e = length-append h (e ∷ [])
@@ -75,7 +75,7 @@ module _ (old new : SeatData) (e : EntryData) where
   grown replies.NoEntry a = of_prefix _ _ a.0
   grown replies.NoMemory a = of_prefix _ _ a.0
 
-  pub answered : (r : Reply) → hall.Edits old e r new → services.Edits new.seen e r
+  pub answered : (r : Reply) → hall.Edits old e r new → services.IsEditReply new.seen e r
   answered (replies.Done serial first_id front) a = (a.4, (stands_at new.seen e serial a.1, a.3), (take serial new.seen, a.1))
   answered (replies.Repeat serial first_id front) a = (a.3, (a.1.is, a.2))
   answered (replies.Refused fault front) a = (a.2, a.1.is)

@@ -1,3 +1,9 @@
 mod Answering
+mod Completing
+mod Counting
+mod EndTexts
+mod Replying
+mod Responses
 mod SeatReports
+mod Served
 mod ServingLemmas

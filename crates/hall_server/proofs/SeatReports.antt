@@ -15,9 +15,9 @@ use Rattle.reports.specs.declared.fault.ReportFault.TheVariants as faults
 use Rattle.reports.specs.declared.what.What.{What}
 use Rattle.reports.specs.Reports as reports
 use Rattle.web_requests.specs.Answers.{is_behind}
-use Rattle.web_http.specs.declared.shown.Shown.{Shown}
-use Rattle.web_http.specs.declared.shown.Shown.TheVariants as shown
-use Rattle.web_http.specs.Services.{Grows, Reports}
+use Rattle.hall_server.specs.declared.shown.Shown.{Shown}
+use Rattle.hall_server.specs.declared.shown.Shown.TheVariants as shown
+use Rattle.hall_server.specs.Services.{Grows, IsShownReport}
 use Rattle.hall_server.specs.steps.Looks.{IsReported, IsWanted, shown_of}
 
 -- what is seen is as before
@@ -40,7 +40,7 @@ refused_look old new least what seen losses risen later = record {
 }
 
 -- a look that was answered
-pub answered_look : (old new : SeatData) (least : Option ℕ) (what : What) (result : Shown) → IsPrefix old.seen new.seen → IsHistory new.seen → Reports new.seen least what result → new.losses ≡ old.losses → old.refusals ≤ new.refusals → (result ≡ shown.NoEntry → ⊥) → IsReported old new least what result
+pub answered_look : (old new : SeatData) (least : Option ℕ) (what : What) (result : Shown) → IsPrefix old.seen new.seen → IsHistory new.seen → IsShownReport new.seen least what result → new.losses ≡ old.losses → old.refusals ≤ new.refusals → (result ≡ shown.NoEntry → ⊥) → IsReported old new least what result
 answered_look old new least what result begins history told losses later some = record {
   grown = grows old.seen new.seen begins history;
   told = told;
@@ -72,7 +72,7 @@ enough : (least : Option ℕ) (wanted n : ℕ) → IsWanted least wanted → wan
 enough least wanted n is le = let few : nat_lt n wanted ≡ false = grind (arith, nat_tests, le) in is n ∙ few
 
 -- what is shown of a report
-told_shown : (h : List EntryData) (least : Option ℕ) (what : What) (front : ℕ) (told : Result (List ℕ) ReportFault) → front ≡ length h → is_behind least (length h) ≡ false → reports.Reports (project h) usual what told → Reports h least what (shown_of front told)
+told_shown : (h : List EntryData) (least : Option ℕ) (what : What) (front : ℕ) (told : Result (List ℕ) ReportFault) → front ≡ length h → is_behind least (length h) ≡ false → reports.Reports (project h) usual what told → IsShownReport h least what (shown_of front told)
 told_shown h least what front (Ok text) at few is = (at, few, is)
 told_shown h least what front (Err faults.NoSheet) at few is = (at, few, is, λ e. cc e)
 told_shown h least what front (Err faults.NoSymbol) at few is = (at, few, is, λ e. cc e)

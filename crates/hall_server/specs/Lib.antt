@@ -1,4 +1,8 @@
+pub mod Services
+pub mod Transcripts
+pub mod Connections
+pub mod Completeness
+pub mod Stands
 pub mod Faults
 pub mod Serving
-pub mod Stands
 pub mod steps

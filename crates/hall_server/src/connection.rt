@@ -2,17 +2,19 @@
 ghost use Rattle.std.specs.Prelude.{◌≡◌};
 ghost use Rattle.geda_defs.specs.Causes.{HasRisen};
 ghost use Rattle.edit_rules.specs.Verdicts.{Legal};
-ghost use Rattle.web_http.specs.Completeness.{Completes};
-ghost use Rattle.web_http.specs.Serving.{Serves};
+ghost use Rattle.hall_server.specs.Completeness.{CompletesConnection};
+ghost use Rattle.hall_server.specs.Connections.{Serves};
 ghost use Rattle.hall_server.specs.Stands.{stand_of};
 
+use crate::kept_reports::KeptReports;
+use crate::link_end::LinkEnd;
+use crate::messages::serve_requests;
 use crate::seat_service::SeatService;
 use hall_core::{Hall, HallName, Seat, ShowsBoard};
 use keeper_core::Keeper;
-use kept_reports::KeptReports;
 use std::alloc::Global;
 use std::sync::Wait;
-use web_http::{Link, LinkEnd, serve};
+use web_heads::Link;
 
 /// Answers the requests of a link in order until it ends, at most 10,000, by a seat of a hall
 /// (docs/RULES.md, "Transcripts", "Ends of connections", "Seats"). It waits for the link, and for
@@ -42,7 +44,7 @@ pub fn serve_link<W: Wait, K: Keeper, B: HallName, S: ShowsBoard<B>, R: Wait + D
         HasRisen (L.write_faults link.old) (L.write_faults link.new) }
     ensures no_memory { result ≡ LinkEnd.NoMemory → seat.new.seen ≡ seat.old.seen }
     // all was answered where nothing failed
-    ensures complete { Completes (stand_of seat.old) (stand_of seat.new)
+    ensures complete { CompletesConnection (stand_of seat.old) (stand_of seat.new)
         (L.read_faults link.old) (L.read_faults link.new)
         (L.write_faults link.old) (L.write_faults link.new)
         (L.input link.old) (L.output link.old) (L.output link.new) result }
@@ -78,7 +80,7 @@ pub(crate) fn serve_link_with<
         HasRisen (L.write_faults link.old) (L.write_faults link.new) }
     ensures no_memory { result ≡ LinkEnd.NoMemory → seat.new.seen ≡ seat.old.seen }
     // all was answered where nothing failed
-    ensures complete { Completes (stand_of seat.old) (stand_of seat.new)
+    ensures complete { CompletesConnection (stand_of seat.old) (stand_of seat.new)
         (L.read_faults link.old) (L.read_faults link.new)
         (L.write_faults link.old) (L.write_faults link.new)
         (L.input link.old) (L.output link.old) (L.output link.new) result }
@@ -91,5 +93,5 @@ pub(crate) fn serve_link_with<
         seat,
         reports,
     };
-    serve(alloc, &mut service, link)
+    serve_requests(alloc, &mut service, link)
 }

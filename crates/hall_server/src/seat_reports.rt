@@ -4,17 +4,21 @@ ghost use Rattle.edit_entries.specs.Entries.{EntryData};
 ghost use Rattle.edit_rules.specs.Histories.{project};
 ghost use Rattle.pin_matrix.specs.Matrices.{usual};
 ghost use Rattle.reports.specs.Reports.{Reports};
-ghost use Rattle.kept_reports.specs.KeptTexts.{IsText, what_of};
+ghost use Rattle.hall_server.specs.steps.KeptTexts.{IsReportText, what_of};
 ghost use Rattle.web_requests.specs.Answers.{is_behind};
 ghost use Rattle.hall_server.specs.steps.Looks.{IsReported, IsWanted, shown_of};
 
+use crate::kept_reports::KeptReports;
+use crate::last_text::LastText;
+use crate::project_copy::ProjectCopy;
+use crate::report_kind::ReportKind;
+use crate::shown::Shown;
 use hall_core::{HallName, Prefix, Seat, ShowsBoard};
-use kept_reports::{KeptReports, LastText, ProjectCopy, ReportKind};
 use pin_matrix::Matrix;
 use reports::{ReportFault, What, report};
 use std::alloc::{AllocError, Global};
 use std::sync::Wait;
-use web_http::{Bytes, Shown};
+use web_requests::Bytes;
 
 /// How many entries are wanted.
 fn wanted(least: Option<u64>) -> u64
@@ -137,7 +141,7 @@ fn report_of_kept<B: HallName, S: ShowsBoard<B>>(
     body: Bytes,
 ) -> Shown
     requires enough { is_behind least (length prefix.now) ≡ false }
-    requires text { IsText prefix.now kind body }
+    requires text { IsReportText prefix.now kind body }
     ensures { IsReported seat.old seat.new least (what_of kind) result }
 {
     if !seat.learn(prefix) {

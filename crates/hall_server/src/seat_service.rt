@@ -1,13 +1,15 @@
 // A seat of a hall, as what answers the requests of a connection.
+use crate::kept_reports::KeptReports;
+use crate::report_kind::kind_of;
 use crate::seat_reports::{kept_report, report_in_look};
+use crate::service::Service;
+use crate::shown::Shown;
 use edit_entries::Entry;
 use hall_core::{Hall, HallName, Seat, ShowsBoard, edit};
 use keeper_core::{Keeper, Reply};
-use kept_reports::{KeptReports, kind_of};
 use reports::What;
 use std::alloc::Global;
 use std::sync::Wait;
-use web_http::{Service, Shown};
 
 /// A seat of a hall, with the hall that its edits go to, and the texts of reports that are kept.
 #[derive(Drop)]

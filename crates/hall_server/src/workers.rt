@@ -2,10 +2,10 @@
 ghost use Rattle.std.specs.Prelude.{◌≡◌, IfOk, length};
 
 use crate::connection::serve_link_with;
+use crate::kept_reports::KeptReports;
 use gates::Gate;
 use hall_core::{BoardHall, BoardSeat, Hall, HallName, Seat, ShowsBoard};
 use keeper_core::Keeper;
-use kept_reports::KeptReports;
 use std::alloc::{AllocError, Global};
 use std::sync::Wait;
 use std::thread;

@@ -8,10 +8,10 @@ use Rattle.keeper_core.specs.Faults.{NeverFails}
 use Rattle.keeper_core.specs.declared.keeper.KeepFault.{KeepFault}
 use Rattle.keeper_core.specs.declared.keeper.KeepFault.TheVariants as keeping
 use Rattle.sinks.specs.Streams.{IsQuiet, Stream}
-use Rattle.store_copy.specs.Copies.{Filled, NeverFaults, Stores}
+use Rattle.store_copy.specs.Copies.{Filled, CausesNoFault, Stores}
 use Rattle.store_copy.specs.declared.fault.StoreFault.{StoreFault}
 use Rattle.store_copy.specs.declared.fault.StoreFault.TheVariants as copying
-use Rattle.store_copy.specs.Faults.{FromCopying, FromKeeper}
+use Rattle.store_copy.specs.Faults.{FromCopying, FromEitherKeeper}
 use Rattle.store_copy.specs.Storing.{Keepers, LeavesRows, LeavesToPut, StoresTo, keepers}
 use Rattle.store_copy.specs.steps.Copying.{CopiesTo, Tells}
 use Rattle.store_copy.specs.declared.storing_fault.StoringFault.{StoringFault}
@@ -28,7 +28,7 @@ copies a b (Some all) old new count h = (h.0, left all old new count h.1)
 
 -- they were not
 pub not_copied : (a b a' b' : Type 0) (from old new : Option (List EntryData)) (fault : StoreFault) (e : StoringFault) → FromCopying fault e
-    → (a → NeverFaults {X = ℕ} a' (Err fault) copying.FromFault) → (b → NeverFaults {X = ℕ} b' (Err fault) copying.ToFault) → Stores from old (Err fault) new
+    → (a → CausesNoFault {X = ℕ} a' (Err fault) copying.FromFault) → (b → CausesNoFault {X = ℕ} b' (Err fault) copying.ToFault) → Stores from old (Err fault) new
     → CopiesTo (keepers a b from old) (Err e)
 not_copied a b a' b' from old new copying.FromFault e is never_from never_to h = subst (λ (f : StoringFault). CopiesTo (keepers a b from old) (Err f)) (sym is) (λ steady. (never_from steady.0).no_fault refl)
 not_copied a b a' b' from old new copying.ToFault e is never_from never_to h = subst (λ (f : StoringFault). CopiesTo (keepers a b from old) (Err f)) (sym is) (λ steady. (never_to steady.1).no_fault refl)
@@ -53,12 +53,12 @@ stopped k out faults.OutputFault h quiet = absurd h
 stopped k out faults.NoMemory h quiet = quiet
 
 -- one of the keepers was not attached
-pub no_store : (a a' b : Type 0) (from to : Option (List EntryData)) (out : Stream) (fault : KeepFault) (e : StoringFault) → FromKeeper fault e → (a → NeverFails {X = Unit {0}} a' (Err fault)) → IsQuiet out
+pub no_store : (a a' b : Type 0) (from to : Option (List EntryData)) (out : Stream) (fault : KeepFault) (e : StoringFault) → FromEitherKeeper fault e → (a → NeverFails {X = Unit {0}} a' (Err fault)) → IsQuiet out
     → StoresTo (keepers a b from to) out (Err e)
 no_store a a' b from to out keeping.Failed e is never quiet = subst (λ (f : StoringFault). StoresTo (keepers a b from to) out (Err f)) (sym is) (λ steady. (never steady.0).no_fault refl, quiet)
 no_store a a' b from to out keeping.NoMemory e is never quiet = subst (λ (f : StoringFault). StoresTo (keepers a b from to) out (Err f)) (sym is) quiet
 
-pub no_database : (a b b' : Type 0) (from to : Option (List EntryData)) (out : Stream) (fault : KeepFault) (e : StoringFault) → FromKeeper fault e → (b → NeverFails {X = Unit {0}} b' (Err fault)) → IsQuiet out
+pub no_database : (a b b' : Type 0) (from to : Option (List EntryData)) (out : Stream) (fault : KeepFault) (e : StoringFault) → FromEitherKeeper fault e → (b → NeverFails {X = Unit {0}} b' (Err fault)) → IsQuiet out
     → StoresTo (keepers a b from to) out (Err e)
 no_database a b b' from to out keeping.Failed e is never quiet = subst (λ (f : StoringFault). StoresTo (keepers a b from to) out (Err f)) (sym is) (λ steady. (never steady.1).no_fault refl, quiet)
 no_database a b b' from to out keeping.NoMemory e is never quiet = subst (λ (f : StoringFault). StoresTo (keepers a b from to) out (Err f)) (sym is) quiet

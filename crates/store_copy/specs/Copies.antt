@@ -8,7 +8,7 @@ use Rattle.store_copy.specs.declared.fault.StoreFault.{StoreFault}
 use Rattle.store_copy.specs.declared.fault.StoreFault.TheVariants as faults
 
 -- the keeper still never fails, and this was no fault of it
-pub record NeverFaults {X : Type 0}
+pub record CausesNoFault {X : Type 0}
     (now : Type 0) (result : Result X StoreFault) (fault : StoreFault) : Type 0 where
   pub still : now
   pub no_fault : ¬ (IsErrOf result fault)

@@ -7,10 +7,10 @@ use Rattle.store_copy.specs.declared.fault.StoreFault.TheVariants as copying
 use Rattle.store_copy.specs.declared.storing_fault.StoringFault.{StoringFault}
 use Rattle.store_copy.specs.declared.storing_fault.StoringFault.TheVariants as faults
 
--- what a fault of a keeper becomes
-abbrev pub FromKeeper : KeepFault → StoringFault → Type 0
-FromKeeper keeping.Failed e = e ≡ faults.KeeperFault
-FromKeeper keeping.NoMemory e = e ≡ faults.NoMemory
+-- what a fault of either keeper becomes
+abbrev pub FromEitherKeeper : KeepFault → StoringFault → Type 0
+FromEitherKeeper keeping.Failed e = e ≡ faults.KeeperFault
+FromEitherKeeper keeping.NoMemory e = e ≡ faults.NoMemory
 
 -- what a fault of the copying becomes
 abbrev pub FromCopying : StoreFault → StoringFault → Type 0

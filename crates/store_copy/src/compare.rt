@@ -2,7 +2,7 @@
 ghost use Rattle.std.specs.Prelude.{◌≡◌, ◌≤◌, ◌↔◌, IsErrOf, IsTrue, Some};
 ghost use Rattle.std.specs.List.{slice_get};
 ghost use Rattle.geda_defs.specs.Causes.{HasRisen};
-ghost use Rattle.store_copy.specs.Copies.{NeverFaults};
+ghost use Rattle.store_copy.specs.Copies.{CausesNoFault};
 ghost use Rattle.store_copy.specs.steps.Comparing.{Agrees, AgreesSoFar};
 
 use crate::fault::StoreFault;
@@ -27,7 +27,7 @@ fn is_next_same<D: Keeper>(desk: &Desk, to: &mut D, serial: u32) -> Result<bool,
     ensures cause { IsErrOf result StoreFault.ToFault →
         HasRisen (D.faults to.old) (D.faults to.new) }
     ensures never { D.never_fails to.old →
-        NeverFaults (D.never_fails to.new) result StoreFault.ToFault }
+        CausesNoFault (D.never_fails to.new) result StoreFault.ToFault }
     ensures agrees { Agrees (D.rows to.old) desk.now.history serial result }
 {
     match to.load(serial) {
@@ -50,7 +50,7 @@ pub fn same_rows<D: Keeper>(desk: &Desk, to: &mut D) -> Result<u32, StoreFault>
     ensures cause { IsErrOf result StoreFault.ToFault →
         HasRisen (D.faults to.old) (D.faults to.new) }
     ensures never { D.never_fails to.old →
-        NeverFaults (D.never_fails to.new) result StoreFault.ToFault }
+        CausesNoFault (D.never_fails to.new) result StoreFault.ToFault }
     ensures agrees { AgreesSoFar (D.rows to.old) desk.now.history result }
 {
     // The length is asked so that the proof sees that it is small.

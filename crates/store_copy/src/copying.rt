@@ -1,7 +1,7 @@
 // The rows of one keeper in another.
 ghost use Rattle.std.specs.Prelude.{◌≡◌, ◌≤◌, IsErrOf};
 ghost use Rattle.geda_defs.specs.Causes.{HasRisen};
-ghost use Rattle.store_copy.specs.Copies.{NeverFaults, Stores};
+ghost use Rattle.store_copy.specs.Copies.{CausesNoFault, Stores};
 ghost use Rattle.store_copy.specs.steps.Filling.{Copies};
 
 use crate::compare::same_rows;
@@ -19,7 +19,7 @@ fn copy_rows<D: Keeper>(desk: &Desk, to: &mut D) -> Result<u32, StoreFault>
     ensures cause { IsErrOf result StoreFault.ToFault →
         HasRisen (D.faults to.old) (D.faults to.new) }
     ensures never { D.never_fails to.old →
-        NeverFaults (D.never_fails to.new) result StoreFault.ToFault }
+        CausesNoFault (D.never_fails to.new) result StoreFault.ToFault }
     ensures copies { Copies desk.now.history (D.rows to.old) result (D.rows to.new) }
 {
     let held = same_rows(desk, to)?;
@@ -49,9 +49,9 @@ pub fn store_rows<K: Keeper, D: Keeper>(
     ensures to_cause { IsErrOf result StoreFault.ToFault →
         HasRisen (D.faults to.old) (D.faults to.new) }
     ensures from_never { K.never_fails from.old →
-        NeverFaults (K.never_fails from.new) result StoreFault.FromFault }
+        CausesNoFault (K.never_fails from.new) result StoreFault.FromFault }
     ensures to_never { D.never_fails to.old →
-        NeverFaults (D.never_fails to.new) result StoreFault.ToFault }
+        CausesNoFault (D.never_fails to.new) result StoreFault.ToFault }
     ensures stores { Stores (K.rows from.old) (D.rows to.old) result (D.rows to.new) }
 {
     match read_rows(alloc, from) {

@@ -1,7 +1,7 @@
 // Putting the rows of a history into a keeper that has the first of them.
 ghost use Rattle.std.specs.Prelude.{◌≡◌, ◌≤◌, ◌<◌, ◌+◌, IsErrOf, MatchResult, length, take};
 ghost use Rattle.geda_defs.specs.Causes.{HasRisen};
-ghost use Rattle.store_copy.specs.Copies.{NeverFaults};
+ghost use Rattle.store_copy.specs.Copies.{CausesNoFault};
 ghost use Rattle.store_copy.specs.steps.Filling.{HasFirst, HasSome, IsOfTo};
 
 use crate::fault::StoreFault;
@@ -16,7 +16,7 @@ fn put_next<D: Keeper>(desk: &Desk, to: &mut D, serial: u32) -> Result<(), Store
     ensures cause { IsErrOf result StoreFault.ToFault →
         HasRisen (D.faults to.old) (D.faults to.new) }
     ensures never { D.never_fails to.old →
-        NeverFaults (D.never_fails to.new) result StoreFault.ToFault }
+        CausesNoFault (D.never_fails to.new) result StoreFault.ToFault }
     ensures kind { IsOfTo result }
     ensures rows { MatchResult result
         (λ _. HasFirst (serial + 1) desk.now.history (D.rows to.old) (D.rows to.new))
@@ -40,7 +40,7 @@ fn put_each<D: Keeper>(desk: &Desk, to: &mut D, serial: u32) -> Result<(), Store
     ensures cause { IsErrOf result StoreFault.ToFault →
         HasRisen (D.faults to.old) (D.faults to.new) }
     ensures never { D.never_fails to.old →
-        NeverFaults (D.never_fails to.new) result StoreFault.ToFault }
+        CausesNoFault (D.never_fails to.new) result StoreFault.ToFault }
     ensures kind { IsOfTo result }
     ensures rows { MatchResult result
         (λ _. HasFirst (length desk.now.history) desk.now.history (D.rows to.old) (D.rows to.new))
@@ -59,7 +59,7 @@ fn settle_rows<D: Keeper>(desk: &Desk, to: &mut D) -> Result<(), StoreFault>
     ensures cause { IsErrOf result StoreFault.ToFault →
         HasRisen (D.faults to.old) (D.faults to.new) }
     ensures never { D.never_fails to.old →
-        NeverFaults (D.never_fails to.new) result StoreFault.ToFault }
+        CausesNoFault (D.never_fails to.new) result StoreFault.ToFault }
     ensures kind { IsOfTo result }
     ensures rows { D.rows to.new ≡ D.rows to.old }
 {
@@ -78,7 +78,7 @@ pub fn put_rows<D: Keeper>(desk: &Desk, to: &mut D, serial: u32) -> Result<(), S
     ensures cause { IsErrOf result StoreFault.ToFault →
         HasRisen (D.faults to.old) (D.faults to.new) }
     ensures never { D.never_fails to.old →
-        NeverFaults (D.never_fails to.new) result StoreFault.ToFault }
+        CausesNoFault (D.never_fails to.new) result StoreFault.ToFault }
     ensures kind { IsOfTo result }
     ensures rows { MatchResult result
         (λ _. HasFirst (length desk.now.history) desk.now.history (D.rows to.old) (D.rows to.new))

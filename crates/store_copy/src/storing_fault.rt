@@ -1,7 +1,7 @@
 // Why a store is not copied.
 ghost use Rattle.std.specs.Prelude.{◌≡◌};
 ghost use Rattle.store_copy.specs.declared.storing_fault.StoringFault.TheVariants.{NoMemory, OutputFault};
-ghost use Rattle.store_copy.specs.Faults.{FromCopying, FromKeeper};
+ghost use Rattle.store_copy.specs.Faults.{FromCopying, FromEitherKeeper};
 
 use crate::fault::StoreFault;
 use keeper_core::KeepFault;
@@ -46,7 +46,7 @@ impl From<SinkFault> for StoringFault {
 }
 
 impl From<KeepFault> for StoringFault {
-    ghost from_gives = { FromKeeper };
+    ghost from_gives = { FromEitherKeeper };
 
     fn from(fault: KeepFault) -> StoringFault {
         match fault {

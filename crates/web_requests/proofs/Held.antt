@@ -7,15 +7,15 @@ use Rattle.edit_entries.specs.declared.fault.EditFault.{EditFault}
 use Rattle.edit_entries.specs.declared.fault.EditFault.TheVariants as faults
 use Rattle.edit_rules.specs.EditChanges.{Change}
 use Rattle.edit_rules.specs.Histories.{changes}
-use Rattle.edit_rules.specs.EarlyLines.{is_same_at, numbered, repeated, repeated_at}
-use Rattle.edit_rules.specs.Verdicts.{first_of, lines, verdict, verdict_by}
+use Rattle.edit_rules.specs.EarlyLines.{is_same_at, serial_of_number, repeated_serial, repeated_at}
+use Rattle.edit_rules.specs.Verdicts.{first_of, verdict_lines, verdict, verdict_by}
 use Rattle.edit_rules.specs.declared.verdict.Verdict.{Verdict}
 use Rattle.edit_rules.specs.declared.verdict.Verdict.TheVariants as verdicts
 use Rattle.serde_json.specs.Data.{Data}
 use Rattle.web_requests.specs.declared.request.Request.TheVariants.{Edit}
 use Rattle.web_requests.specs.Texts.{reply_text, status_line}
 use Rattle.web_requests.specs.Bodies.{fault_data, fault_status}
-use Rattle.web_requests.specs.Answers.{Acknowledges, IsAnswer, IsEditAnswer, json_reply}
+use Rattle.web_requests.specs.Answers.{Acknowledges, IsRequestAnswer, IsEditAnswer, json_reply}
 
 serial_in : Verdict → ℕ → ℕ
 serial_in (verdicts.Repeat serial) other = serial
@@ -49,7 +49,7 @@ stands_at h e (Some s) serial r = go (is_same_at (slice_get h s) e) refl r
     go false t f = absurd (let k = f in cc)
 
 pub held : (h : List EntryData) (e : EntryData) (serial : ℕ) → verdict h e ≡ verdicts.Repeat serial → slice_get h serial ≡ Some e
-held h e serial v = stands_at h e (numbered h e) serial (repeated_by (repeated h e) (first_of (lines h e)) (changes h e.edit) serial v)
+held h e serial v = stands_at h e (serial_of_number h e) serial (repeated_by (repeated_serial h e) (first_of (verdict_lines h e)) (changes h e.edit) serial v)
 
 -- the status of a refused edit
 is_refusal : (fault : EditFault) → (fault_status fault ≡ 409) ⊎ (fault_status fault ≡ 422)
@@ -96,7 +96,7 @@ refusal_unacknowledged status front closing body text (inl s) t a =
 refusal_unacknowledged status front closing body text (inr s) t a =
     not_refused (sym (refused_start front closing body) ∙ ap (λ n. take 12 (json_reply n front closing body)) (sym s) ∙ ap (take 12) (sym t) ∙ a)
 
-pub acknowledged : (h : List EntryData) (e : EntryData) (closing : Bool) (text : List ℕ) → IsAnswer h (Edit e) closing text → Acknowledges text
+pub acknowledged : (h : List EntryData) (e : EntryData) (closing : Bool) (text : List ℕ) → IsRequestAnswer h (Edit e) closing text → Acknowledges text
     → (serial : ℕ) × (slice_get h serial ≡ Some e)
 acknowledged h e closing text i a = go (verdict h e) refl i
   where

@@ -7,7 +7,7 @@ use Rattle.web_requests.specs.declared.request.Request.TheVariants.{Edit, Report
 use Rattle.web_requests.specs.declared.request.FixedRequest.TheVariants.{BadEdit, BadQuery, NoRoute, NotAllowed, NoSheet, NoSymbol}
 use Rattle.web_requests.specs.declared.route.Route.{Route}
 use Rattle.web_requests.specs.declared.route.Route.TheVariants as routes
-use Rattle.web_requests.specs.Paths.{path_of, query_of, route_at}
+use Rattle.web_requests.specs.Paths.{path_of_target, query_of_target, route_at}
 use Rattle.web_requests.specs.Requests.{IsAsked, IsByMethod, IsEditRequest, IsOnRoute, IsRequest, is_allowed}
 
 some_same : {A : Type 0} (x y : A) → Some x ≡ Some y → x ≡ y
@@ -58,4 +58,4 @@ one_on_route method path query body None r q a b = a ∙ sym b
 one_on_route method path query body (Some route) r q a b = one_by_method (is_allowed method route) route path query body r q a b
 
 pub one_request : (method target body : List ℕ) (r q : Request) → IsRequest method target body r → IsRequest method target body q → r ≡ q
-one_request method target body r q a b = one_on_route method (path_of target) (query_of target) body (route_at (path_of target)) r q a b
+one_request method target body r q a b = one_on_route method (path_of_target target) (query_of_target target) body (route_at (path_of_target target)) r q a b

@@ -13,8 +13,8 @@ use Rattle.matchit.specs.Seek.{first, has_slash}
 use Rattle.net_list.specs.declared.form.Form.TheVariants as forms
 use Rattle.web_requests.specs.declared.route.Route.{Route}
 use Rattle.web_requests.specs.declared.route.Route.TheVariants.{Edits, Net, Drc, Sheets, Sheet, Symbol, Objects}
-use Rattle.web_requests.specs.Paths.{is_slash, behind, is_segment, or_else, fixed, named, route_at}
-use Rattle.web_requests.specs.Rows.{text_row, name_row, route_rows}
+use Rattle.web_requests.specs.Paths.{is_path_separator, behind, is_segment, first_route, fixed, named_route, route_at}
+use Rattle.web_requests.specs.Rows.{path_row, name_row, route_rows}
 use Rattle.web_requests.proofs.Walks.{is_nil, takes, found, walk}
 
 -- bytes alone
@@ -63,11 +63,11 @@ text_test text path l = one_answer (takes text path) (bytes_eq path text)
     (text_takes text path l, λ e. ap (takes text) e ∙ text_taken text l)
     (bytes_eq-Decides path text)
 
-slash_same : (xs : List ℕ) → has_slash xs ≡ list_any is_slash xs
+slash_same : (xs : List ℕ) → has_slash xs ≡ list_any is_path_separator xs
 slash_same [] = refl
 slash_same (b ∷ xs) = go (b == 47) (slash_same xs)
   where
-    go : (e : Bool) → has_slash xs ≡ list_any is_slash xs → cond e true (has_slash xs) ≡ (e || list_any is_slash xs)
+    go : (e : Bool) → has_slash xs ≡ list_any is_path_separator xs → cond e true (has_slash xs) ≡ (e || list_any is_path_separator xs)
     go true tail = refl
     go false tail = tail
 
@@ -128,17 +128,17 @@ value_of None = None
 value_of (Some row) = Some row.value
 
 module _ (path : List ℕ) (rest : RowsOf (RouteOf Route)) (other : Option Route) (h : value_of (found rest path) ≡ other) where
-  pub text_first : (text : List ℕ) (route : Route) → literal text ≡ true → value_of (found (text_row text route ∷ rest) path) ≡ or_else (fixed text route path) other
-  text_first text route l = ap (λ t. value_of (cond t (Some (text_row text route).1) (found rest path))) (text_test text path l) ∙ go (bytes_eq path text)
+  pub text_first : (text : List ℕ) (route : Route) → literal text ≡ true → value_of (found (path_row text route ∷ rest) path) ≡ first_route (fixed text route path) other
+  text_first text route l = ap (λ t. value_of (cond t (Some (path_row text route).1) (found rest path))) (text_test text path l) ∙ go (bytes_eq path text)
     where
-      go : (t : Bool) → value_of (cond t (Some (text_row text route).1) (found rest path)) ≡ or_else (if t then Some route else None) other
+      go : (t : Bool) → value_of (cond t (Some (path_row text route).1) (found rest path)) ≡ first_route (if t then Some route else None) other
       go true = refl
       go false = h
 
-  pub name_first : (prefix : List ℕ) (route : Route) → literal prefix ≡ true → value_of (found (name_row prefix route ∷ rest) path) ≡ or_else (named prefix route path) other
+  pub name_first : (prefix : List ℕ) (route : Route) → literal prefix ≡ true → value_of (found (name_row prefix route ∷ rest) path) ≡ first_route (named_route prefix route path) other
   name_first prefix route l = ap (λ t. value_of (cond t (Some (name_row prefix route).1) (found rest path))) (name_test prefix path l) ∙ go (is_segment (behind prefix path))
     where
-      go : (t : Bool) → value_of (cond t (Some (name_row prefix route).1) (found rest path)) ≡ or_else (if t then Some route else None) other
+      go : (t : Bool) → value_of (cond t (Some (name_row prefix route).1) (found rest path)) ≡ first_route (if t then Some route else None) other
       go true = refl
       go false = h
 
@@ -147,7 +147,7 @@ abbrev rows_10 : RowsOf (RouteOf Route)
 rows_10 = name_row (codes "/symbols/") Symbol ∷ []
 
 abbrev rows_9 : RowsOf (RouteOf Route)
-rows_9 = text_row (codes "/sheets") Sheets ∷ rows_10
+rows_9 = path_row (codes "/sheets") Sheets ∷ rows_10
 
 abbrev rows_8 : RowsOf (RouteOf Route)
 rows_8 = name_row (codes "/sheets/") Sheet ∷ rows_9
@@ -156,22 +156,22 @@ abbrev rows_7 : RowsOf (RouteOf Route)
 rows_7 = name_row (codes "/objects/") Objects ∷ rows_8
 
 abbrev rows_6 : RowsOf (RouteOf Route)
-rows_6 = text_row (codes "/netlist/tango") (Net forms.Tango) ∷ rows_7
+rows_6 = path_row (codes "/netlist/tango") (Net forms.Tango) ∷ rows_7
 
 abbrev rows_5 : RowsOf (RouteOf Route)
-rows_5 = text_row (codes "/netlist/pcb") (Net forms.Pcb) ∷ rows_6
+rows_5 = path_row (codes "/netlist/pcb") (Net forms.Pcb) ∷ rows_6
 
 abbrev rows_4 : RowsOf (RouteOf Route)
-rows_4 = text_row (codes "/netlist/list") (Net forms.List) ∷ rows_5
+rows_4 = path_row (codes "/netlist/list") (Net forms.List) ∷ rows_5
 
 abbrev rows_3 : RowsOf (RouteOf Route)
-rows_3 = text_row (codes "/netlist/bom") (Net forms.Bom) ∷ rows_4
+rows_3 = path_row (codes "/netlist/bom") (Net forms.Bom) ∷ rows_4
 
 abbrev rows_2 : RowsOf (RouteOf Route)
-rows_2 = text_row (codes "/edits") Edits ∷ rows_3
+rows_2 = path_row (codes "/edits") Edits ∷ rows_3
 
 abbrev rows_1 : RowsOf (RouteOf Route)
-rows_1 = text_row (codes "/drc") Drc ∷ rows_2
+rows_1 = path_row (codes "/drc") Drc ∷ rows_2
 
 pub table : (path : List ℕ) → value_of (first route_rows path) ≡ route_at path
 table path =

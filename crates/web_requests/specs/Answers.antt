@@ -19,7 +19,7 @@ use Rattle.web_requests.specs.declared.request.FixedRequest.{FixedRequest}
 use Rattle.web_requests.specs.declared.request.FixedRequest.TheVariants.{BadEdit, BadQuery, NoRoute, NotAllowed, NoSheet, NoSymbol}
 use Rattle.web_requests.specs.declared.head.Content.TheVariants.{Text, Json}
 use Rattle.web_requests.specs.Texts.{reply_text}
-use Rattle.web_requests.specs.Bodies.{named, numbered, bad_edit, done, fault_data, fault_status}
+use Rattle.web_requests.specs.Bodies.{named_fault, numbered_fault, bad_edit, done_entry, fault_data, fault_status}
 
 -- a reply in JSON after so many entries
 abbrev pub json_reply : ℕ → ℕ → Bool → Data → List ℕ
@@ -52,7 +52,7 @@ method_reply allowed front closing =
       front = Some front;
       allowed = Some allowed;
       closing = closing;
-    }) (compact_text (named (codes "Method")))
+    }) (compact_text (named_fault (codes "Method")))
 
 -- a reply that stands on no history, with a fault by its name
 abbrev pub bare_reply : ℕ → Bool → List ℕ → List ℕ
@@ -63,7 +63,7 @@ bare_reply status closing fault =
       front = None;
       allowed = None;
       closing = closing;
-    }) (compact_text (named fault))
+    }) (compact_text (named_fault fault))
 
 -- there was no memory
 abbrev pub no_memory_reply : List ℕ
@@ -75,7 +75,7 @@ no_entry_reply = bare_reply 500 false (codes "NoEntry")
 
 -- an accepted edit could not be kept
 abbrev pub lost_reply : ℕ → Bool → List ℕ
-lost_reply front closing = json_reply 507 front closing (named (codes "KeeperFault"))
+lost_reply front closing = json_reply 507 front closing (named_fault (codes "KeeperFault"))
 
 -- a report wants a longer history than there is
 abbrev pub is_behind : Option ℕ → ℕ → Bool
@@ -90,55 +90,55 @@ first_id h serial = (project (take serial h)).next_id
 abbrev pub IsEditAnswer : List EntryData → Bool → List ℕ → Verdict → Type 0
 IsEditAnswer h closing text (Accept change) = ⊥
 IsEditAnswer h closing text (Repeat serial) =
-    text ≡ json_reply 200 (length h) closing (done (first_id h serial) serial)
+    text ≡ json_reply 200 (length h) closing (done_entry (first_id h serial) serial)
 IsEditAnswer h closing text (Refused fault) =
     text ≡ json_reply (fault_status fault) (length h) closing (fault_data fault)
 
 -- the text is the reply to a report that comes to this
-abbrev pub IsShown : ℕ → Bool → List ℕ → Result (List ℕ) ReportFault → Type 0
-IsShown front closing text (Ok body) = text ≡ report_reply front closing body
-IsShown front closing text (Err faults.NoSheet) =
-    text ≡ json_reply 404 front closing (named (codes "NoSheet"))
-IsShown front closing text (Err faults.NoSymbol) =
-    text ≡ json_reply 404 front closing (named (codes "NoSymbol"))
-IsShown front closing text (Err faults.TooManyInstances) =
-    text ≡ json_reply 422 front closing (named (codes "TooManyInstances"))
-IsShown front closing text (Err faults.NoMemory) = ⊥
+abbrev pub IsReportReply : ℕ → Bool → List ℕ → Result (List ℕ) ReportFault → Type 0
+IsReportReply front closing text (Ok body) = text ≡ report_reply front closing body
+IsReportReply front closing text (Err faults.NoSheet) =
+    text ≡ json_reply 404 front closing (named_fault (codes "NoSheet"))
+IsReportReply front closing text (Err faults.NoSymbol) =
+    text ≡ json_reply 404 front closing (named_fault (codes "NoSymbol"))
+IsReportReply front closing text (Err faults.TooManyInstances) =
+    text ≡ json_reply 422 front closing (named_fault (codes "TooManyInstances"))
+IsReportReply front closing text (Err faults.NoMemory) = ⊥
 
 -- a report on the project of a history comes to this, under the usual matrix
-abbrev pub ComesTo : List EntryData → What → Result (List ℕ) ReportFault → Type 0
-ComesTo h what outcome = ReportsTo (project h) usual what outcome
+abbrev pub ReportComesTo : List EntryData → What → Result (List ℕ) ReportFault → Type 0
+ReportComesTo h what outcome = ReportsTo (project h) usual what outcome
 
 -- the text is the reply to a report that wants a longer history
 abbrev pub IsBehindAnswer : List EntryData → Option ℕ → Bool → List ℕ → Type 0
 IsBehindAnswer h least closing text =
     (is_behind least (length h) ≡ true)
     × (text ≡ json_reply 409 (length h) closing
-    (numbered (codes "Behind") (codes "front") (length h)))
+    (numbered_fault (codes "Behind") (codes "front") (length h)))
 
 -- the text is the reply to a report that does not
 abbrev pub IsShownAnswer : List EntryData → Option ℕ → What → Bool → List ℕ → Type 0
 IsShownAnswer h least what closing text =
     (is_behind least (length h) ≡ false)
-    × (outcome : Result (List ℕ) ReportFault) × ComesTo h what outcome
-    × IsShown (length h) closing text outcome
+    × (outcome : Result (List ℕ) ReportFault) × ReportComesTo h what outcome
+    × IsReportReply (length h) closing text outcome
 
 -- the reply to a request that asks neither for an edit nor for a report, after so many entries
 abbrev pub fixed_reply : FixedRequest → ℕ → Bool → List ℕ
 fixed_reply (BadEdit pointer) front closing =
     json_reply 400 front closing (bad_edit pointer)
-fixed_reply BadQuery front closing = json_reply 400 front closing (named (codes "BadQuery"))
-fixed_reply NoRoute front closing = json_reply 404 front closing (named (codes "NoRoute"))
+fixed_reply BadQuery front closing = json_reply 400 front closing (named_fault (codes "BadQuery"))
+fixed_reply NoRoute front closing = json_reply 404 front closing (named_fault (codes "NoRoute"))
 fixed_reply (NotAllowed allowed) front closing = method_reply allowed front closing
-fixed_reply NoSheet front closing = json_reply 404 front closing (named (codes "NoSheet"))
-fixed_reply NoSymbol front closing = json_reply 404 front closing (named (codes "NoSymbol"))
+fixed_reply NoSheet front closing = json_reply 404 front closing (named_fault (codes "NoSheet"))
+fixed_reply NoSymbol front closing = json_reply 404 front closing (named_fault (codes "NoSymbol"))
 
 -- the text is the reply to a request after a history
-abbrev pub IsAnswer : List EntryData → Request → Bool → List ℕ → Type 0
-IsAnswer h (Edit entry) closing text = IsEditAnswer h closing text (verdict h entry)
-IsAnswer h (Report least what) closing text =
+abbrev pub IsRequestAnswer : List EntryData → Request → Bool → List ℕ → Type 0
+IsRequestAnswer h (Edit entry) closing text = IsEditAnswer h closing text (verdict h entry)
+IsRequestAnswer h (Report least what) closing text =
     IsBehindAnswer h least closing text ⊎ IsShownAnswer h least what closing text
-IsAnswer h (Fixed request) closing text = text ≡ fixed_reply request (length h) closing
+IsRequestAnswer h (Fixed request) closing text = text ≡ fixed_reply request (length h) closing
 
 -- the request asks for an edit or a report
 abbrev pub IsForService : Request → Type 0

@@ -12,16 +12,16 @@ abbrev pub fault_members : List ℕ → Members
 fault_members name = put (codes "fault") (string name) no_members
 
 -- a fault by its name
-abbrev pub named : List ℕ → Data
-named name = object (fault_members name)
+abbrev pub named_fault : List ℕ → Data
+named_fault name = object (fault_members name)
 
 -- a fault by its name and a number
-abbrev pub numbered : List ℕ → List ℕ → ℕ → Data
-numbered name key n = object (put key (number (unsigned n)) (fault_members name))
+abbrev pub numbered_fault : List ℕ → List ℕ → ℕ → Data
+numbered_fault name key n = object (put key (number (unsigned n)) (fault_members name))
 
 -- a text that the reader refuses, with the line
-abbrev pub bad_text : List ℕ → ℕ → Data
-bad_text kind at =
+abbrev pub bad_text_fault : List ℕ → ℕ → Data
+bad_text_fault kind at =
     object (put (codes "read") (string kind)
     (put (codes "line") (number (unsigned at)) (fault_members (codes "BadText"))))
 
@@ -31,50 +31,51 @@ bad_edit pointer =
     object (put (codes "pointer") (string pointer) (fault_members (codes "BadEdit")))
 
 -- an entry that stands in the history
-abbrev pub done : ℕ → ℕ → Data
-done first_id serial =
+abbrev pub done_entry : ℕ → ℕ → Data
+done_entry first_id serial =
     object (put (codes "serial") (number (unsigned serial))
     (put (codes "first_id") (number (unsigned first_id)) no_members))
 
--- the name of a reader's fault
-abbrev pub kind_name : ReadKind → List ℕ
-kind_name kinds.NoVersion = codes "NoVersion"
-kind_name kinds.BadFormat = codes "BadFormat"
-kind_name kinds.UnknownLetter = codes "UnknownLetter"
-kind_name kinds.FieldCount = codes "FieldCount"
-kind_name kinds.BadNumber = codes "BadNumber"
-kind_name kinds.OutOfRange = codes "OutOfRange"
-kind_name kinds.BadAngle = codes "BadAngle"
-kind_name kinds.CutShort = codes "CutShort"
-kind_name kinds.StrayBracket = codes "StrayBracket"
-kind_name kinds.NotAttribute = codes "NotAttribute"
-kind_name kinds.Nested = codes "Nested"
-kind_name kinds.NotUtf8 = codes "NotUtf8"
-kind_name kinds.TooLarge = codes "TooLarge"
+-- the name of a reader's fault, as it prints
+abbrev pub read_kind_name : ReadKind → List ℕ
+read_kind_name kinds.NoVersion = codes "NoVersion"
+read_kind_name kinds.BadFormat = codes "BadFormat"
+read_kind_name kinds.UnknownLetter = codes "UnknownLetter"
+read_kind_name kinds.FieldCount = codes "FieldCount"
+read_kind_name kinds.BadNumber = codes "BadNumber"
+read_kind_name kinds.OutOfRange = codes "OutOfRange"
+read_kind_name kinds.BadAngle = codes "BadAngle"
+read_kind_name kinds.CutShort = codes "CutShort"
+read_kind_name kinds.StrayBracket = codes "StrayBracket"
+read_kind_name kinds.NotAttribute = codes "NotAttribute"
+read_kind_name kinds.Nested = codes "Nested"
+read_kind_name kinds.NotUtf8 = codes "NotUtf8"
+read_kind_name kinds.TooLarge = codes "TooLarge"
 
 -- why an edit is refused, with its numbers
 abbrev pub fault_data : EditFault → Data
-fault_data faults.NoSheet = named (codes "NoSheet")
-fault_data faults.SheetExists = named (codes "SheetExists")
-fault_data faults.NoSymbol = named (codes "NoSymbol")
-fault_data faults.SymbolExists = named (codes "SymbolExists")
-fault_data (faults.NoObject id) = numbered (codes "NoObject") (codes "id") id
-fault_data (faults.NotOnKind id) = numbered (codes "NotOnKind") (codes "id") id
-fault_data (faults.BadText read line) = bad_text (kind_name read) line
-fault_data (faults.OutOfRange id) = numbered (codes "OutOfRange") (codes "id") id
-fault_data (faults.Stale newer) = numbered (codes "Stale") (codes "newer") newer
-fault_data faults.NotYours = named (codes "NotYours")
-fault_data (faults.UndoneAlready by) = numbered (codes "UndoneAlready") (codes "by") by
-fault_data (faults.UndoBlocked by) = numbered (codes "UndoBlocked") (codes "by") by
-fault_data (faults.SheetInUse id) = numbered (codes "SheetInUse") (codes "id") id
-fault_data (faults.BaseAhead front) = numbered (codes "BaseAhead") (codes "front") front
-fault_data (faults.NumberGap last) = numbered (codes "NumberGap") (codes "last") last
-fault_data (faults.NumberReused serial) = numbered (codes "NumberReused") (codes "serial") serial
-fault_data faults.TooManyObjects = named (codes "TooManyObjects")
-fault_data faults.ProjectFull = named (codes "ProjectFull")
-fault_data faults.HistoryFull = named (codes "HistoryFull")
-fault_data faults.NoSuchEntry = named (codes "NoSuchEntry")
-fault_data (faults.NoAttribute id) = numbered (codes "NoAttribute") (codes "id") id
+fault_data faults.NoSheet = named_fault (codes "NoSheet")
+fault_data faults.SheetExists = named_fault (codes "SheetExists")
+fault_data faults.NoSymbol = named_fault (codes "NoSymbol")
+fault_data faults.SymbolExists = named_fault (codes "SymbolExists")
+fault_data (faults.NoObject id) = numbered_fault (codes "NoObject") (codes "id") id
+fault_data (faults.NotOnKind id) = numbered_fault (codes "NotOnKind") (codes "id") id
+fault_data (faults.BadText read line) = bad_text_fault (read_kind_name read) line
+fault_data (faults.OutOfRange id) = numbered_fault (codes "OutOfRange") (codes "id") id
+fault_data (faults.Stale newer) = numbered_fault (codes "Stale") (codes "newer") newer
+fault_data faults.NotYours = named_fault (codes "NotYours")
+fault_data (faults.UndoneAlready by) = numbered_fault (codes "UndoneAlready") (codes "by") by
+fault_data (faults.UndoBlocked by) = numbered_fault (codes "UndoBlocked") (codes "by") by
+fault_data (faults.SheetInUse id) = numbered_fault (codes "SheetInUse") (codes "id") id
+fault_data (faults.BaseAhead front) = numbered_fault (codes "BaseAhead") (codes "front") front
+fault_data (faults.NumberGap last) = numbered_fault (codes "NumberGap") (codes "last") last
+fault_data (faults.NumberReused serial) =
+    numbered_fault (codes "NumberReused") (codes "serial") serial
+fault_data faults.TooManyObjects = named_fault (codes "TooManyObjects")
+fault_data faults.ProjectFull = named_fault (codes "ProjectFull")
+fault_data faults.HistoryFull = named_fault (codes "HistoryFull")
+fault_data faults.NoSuchEntry = named_fault (codes "NoSuchEntry")
+fault_data (faults.NoAttribute id) = numbered_fault (codes "NoAttribute") (codes "id") id
 
 -- 409 where the history has moved on, and else 422
 abbrev pub fault_status : EditFault → ℕ

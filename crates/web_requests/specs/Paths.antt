@@ -13,16 +13,16 @@ abbrev pub is_question : ℕ → Bool
 is_question b = b == 63
 
 -- the target up to its first `?`
-abbrev pub path_of : List ℕ → List ℕ
-path_of target = before_first is_question target
+abbrev pub path_of_target : List ℕ → List ℕ
+path_of_target target = before_first is_question target
 
 -- what is behind it
-abbrev pub query_of : List ℕ → List ℕ
-query_of target = after_first is_question target
+abbrev pub query_of_target : List ℕ → List ℕ
+query_of_target target = after_first is_question target
 
 -- the byte `/`
-abbrev pub is_slash : ℕ → Bool
-is_slash b = b == 47
+abbrev pub is_path_separator : ℕ → Bool
+is_path_separator b = b == 47
 
 -- what is behind this prefix, or nothing
 abbrev pub behind : List ℕ → List ℕ → List ℕ
@@ -32,34 +32,34 @@ behind prefix path =
 -- one or more bytes without `/`
 abbrev pub is_segment : List ℕ → Bool
 is_segment [] = false
-is_segment (b ∷ bytes) = not (list_any is_slash (b ∷ bytes))
+is_segment (b ∷ bytes) = not (list_any is_path_separator (b ∷ bytes))
 
 -- the first route, or else the second
-abbrev pub or_else : Option Route → Option Route → Option Route
-or_else (Some route) other = Some route
-or_else None other = other
+abbrev pub first_route : Option Route → Option Route → Option Route
+first_route (Some route) other = Some route
+first_route None other = other
 
 -- the route of a path that is this text
 abbrev pub fixed : List ℕ → Route → List ℕ → Option Route
 fixed text route path = if bytes_eq path text then Some route else None
 
 -- the route of a path that is this prefix and one part more
-abbrev pub named : List ℕ → Route → List ℕ → Option Route
-named prefix route path = if is_segment (behind prefix path) then Some route else None
+abbrev pub named_route : List ℕ → Route → List ℕ → Option Route
+named_route prefix route path = if is_segment (behind prefix path) then Some route else None
 
 -- the route of a path, as it stands
 abbrev pub route_at : List ℕ → Option Route
 route_at path =
-    or_else (fixed (codes "/drc") Drc path)
-    (or_else (fixed (codes "/edits") Edits path)
-    (or_else (fixed (codes "/netlist/bom") (Net forms.Bom) path)
-    (or_else (fixed (codes "/netlist/list") (Net forms.List) path)
-    (or_else (fixed (codes "/netlist/pcb") (Net forms.Pcb) path)
-    (or_else (fixed (codes "/netlist/tango") (Net forms.Tango) path)
-    (or_else (named (codes "/objects/") Objects path)
-    (or_else (named (codes "/sheets/") Sheet path)
-    (or_else (fixed (codes "/sheets") Sheets path)
-    (or_else (named (codes "/symbols/") Symbol path) None)))))))))
+    first_route (fixed (codes "/drc") Drc path)
+    (first_route (fixed (codes "/edits") Edits path)
+    (first_route (fixed (codes "/netlist/bom") (Net forms.Bom) path)
+    (first_route (fixed (codes "/netlist/list") (Net forms.List) path)
+    (first_route (fixed (codes "/netlist/pcb") (Net forms.Pcb) path)
+    (first_route (fixed (codes "/netlist/tango") (Net forms.Tango) path)
+    (first_route (named_route (codes "/objects/") Objects path)
+    (first_route (named_route (codes "/sheets/") Sheet path)
+    (first_route (fixed (codes "/sheets") Sheets path)
+    (first_route (named_route (codes "/symbols/") Symbol path) None)))))))))
 
 -- the one method of a route
 abbrev pub method_of : Route → Allowed

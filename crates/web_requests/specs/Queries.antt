@@ -32,5 +32,5 @@ least_said (value ∷ []) = number_said value
 least_said (value ∷ other ∷ values) = Bad
 
 -- what a query says
-abbrev pub least_of : List ℕ → Least
-least_of query = least_said (min_values (raw_pairs query))
+abbrev pub least_in_query : List ℕ → Least
+least_in_query query = least_said (min_values (raw_pairs query))

@@ -11,8 +11,8 @@ use Rattle.web_requests.specs.declared.request.Request.TheVariants.{Edit, Report
 use Rattle.web_requests.specs.declared.request.FixedRequest.TheVariants.{BadEdit, BadQuery, NoRoute, NotAllowed, NoSheet, NoSymbol}
 use Rattle.web_requests.specs.declared.route.Route.{Route}
 use Rattle.web_requests.specs.declared.route.Route.TheVariants as routes
-use Rattle.web_requests.specs.Paths.{path_of, query_of, behind, route_at, method_of, name_of_method}
-use Rattle.web_requests.specs.Queries.{least_of}
+use Rattle.web_requests.specs.Paths.{path_of_target, query_of_target, behind, route_at, method_of, name_of_method}
+use Rattle.web_requests.specs.Queries.{least_in_query}
 
 -- the body of an edit is this entry, or has this pointer as its first fault
 abbrev pub IsEditRequest : List ℕ → Request → Type 0
@@ -61,7 +61,7 @@ queried Bad route path = Fixed BadQuery
 -- what is asked on a route by its own method: a path, a query and a body
 abbrev pub IsAsked : Route → List ℕ → List ℕ → List ℕ → Request → Type 0
 IsAsked routes.Edits path query body request = IsEditRequest body request
-IsAsked route path query body request = request ≡ queried (least_of query) route path
+IsAsked route path query body request = request ≡ queried (least_in_query query) route path
 
 -- the same on a route, where its method is asked for, and where another is
 abbrev pub IsByMethod : Bool → Route → List ℕ → List ℕ → List ℕ → Request → Type 0
@@ -84,4 +84,5 @@ IsOnRoute method path query body (Some route) request =
 -- then its query or its body, then the name in its path.
 abbrev pub IsRequest : List ℕ → List ℕ → List ℕ → Request → Type 0
 IsRequest method target body request =
-    IsOnRoute method (path_of target) (query_of target) body (route_at (path_of target)) request
+    IsOnRoute method (path_of_target target) (query_of_target target) body
+    (route_at (path_of_target target)) request

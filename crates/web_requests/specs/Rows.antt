@@ -11,8 +11,8 @@ abbrev pub RouteRow : Type 0
 RouteRow = List ℕ × RouteOf Route
 
 -- the row of a path
-abbrev pub text_row : List ℕ → Route → RouteRow
-text_row text route = (text, record { pattern = text; text = text; names = []; value = route })
+abbrev pub path_row : List ℕ → Route → RouteRow
+path_row text route = (text, record { pattern = text; text = text; names = []; value = route })
 
 -- the row of a prefix and a name behind it
 abbrev pub name_row : List ℕ → Route → RouteRow
@@ -29,26 +29,26 @@ name_row prefix route = (
 -- the rows with no name in them
 abbrev pub fixed_rows : RowsOf (RouteOf Route)
 fixed_rows =
-    text_row (codes "/drc") Drc
-    ∷ text_row (codes "/edits") Edits
-    ∷ text_row (codes "/netlist/bom") (Net forms.Bom)
-    ∷ text_row (codes "/netlist/list") (Net forms.List)
-    ∷ text_row (codes "/netlist/pcb") (Net forms.Pcb)
-    ∷ text_row (codes "/netlist/tango") (Net forms.Tango)
-    ∷ text_row (codes "/sheets") Sheets
+    path_row (codes "/drc") Drc
+    ∷ path_row (codes "/edits") Edits
+    ∷ path_row (codes "/netlist/bom") (Net forms.Bom)
+    ∷ path_row (codes "/netlist/list") (Net forms.List)
+    ∷ path_row (codes "/netlist/pcb") (Net forms.Pcb)
+    ∷ path_row (codes "/netlist/tango") (Net forms.Tango)
+    ∷ path_row (codes "/sheets") Sheets
     ∷ []
 
 -- all rows
 abbrev pub route_rows : RowsOf (RouteOf Route)
 route_rows =
-    text_row (codes "/drc") Drc
-    ∷ text_row (codes "/edits") Edits
-    ∷ text_row (codes "/netlist/bom") (Net forms.Bom)
-    ∷ text_row (codes "/netlist/list") (Net forms.List)
-    ∷ text_row (codes "/netlist/pcb") (Net forms.Pcb)
-    ∷ text_row (codes "/netlist/tango") (Net forms.Tango)
+    path_row (codes "/drc") Drc
+    ∷ path_row (codes "/edits") Edits
+    ∷ path_row (codes "/netlist/bom") (Net forms.Bom)
+    ∷ path_row (codes "/netlist/list") (Net forms.List)
+    ∷ path_row (codes "/netlist/pcb") (Net forms.Pcb)
+    ∷ path_row (codes "/netlist/tango") (Net forms.Tango)
     ∷ name_row (codes "/objects/") Objects
     ∷ name_row (codes "/sheets/") Sheet
-    ∷ text_row (codes "/sheets") Sheets
+    ∷ path_row (codes "/sheets") Sheets
     ∷ name_row (codes "/symbols/") Symbol
     ∷ []

@@ -4,7 +4,8 @@ ghost use Rattle.std.specs.String.{string_bytes};
 ghost use Rattle.serde_json.specs.View.{view};
 ghost use Rattle.serde_json.specs.Written.{compact_text};
 ghost use Rattle.web_requests.specs.Bodies as spec;
-ghost use Rattle.web_requests.specs.Bodies.{bad_edit, bad_text, done, fault_data, named, numbered};
+ghost use Rattle.web_requests.specs.Bodies.{bad_edit, bad_text_fault, done_entry, fault_data};
+ghost use Rattle.web_requests.specs.Bodies.{named_fault, numbered_fault};
 
 use edit_entries::EditFault;
 use geda_grammar::ReadKind;
@@ -13,14 +14,14 @@ use std::alloc::{AllocError, Global};
 
 /// A fault by its name, as a value.
 fn named_value(alloc: Global, name: &str) -> Result<Value, AllocError>
-    ensures { IfOk result (λ v. view v ≡ named name.now) }
+    ensures { IfOk result (λ v. view v ≡ named_fault name.now) }
 {
     json!(in alloc; {"fault": name})
 }
 
 /// A fault by its name.
 pub fn named_body(alloc: Global, name: &str) -> Result<String, AllocError>
-    ensures { IfOk result (λ s. string_bytes s ≡ compact_text (named name.now)) }
+    ensures { IfOk result (λ s. string_bytes s ≡ compact_text (named_fault name.now)) }
 {
     let value = named_value(alloc, name)?;
     value.to_string(alloc)
@@ -28,7 +29,7 @@ pub fn named_body(alloc: Global, name: &str) -> Result<String, AllocError>
 
 /// A fault by its name and a number, as a value.
 fn numbered_value(alloc: Global, name: &str, key: &str, number: u32) -> Result<Value, AllocError>
-    ensures { IfOk result (λ v. view v ≡ numbered name.now key.now number) }
+    ensures { IfOk result (λ v. view v ≡ numbered_fault name.now key.now number) }
 {
     json!(in alloc; {"fault": name, (key): u64::from(number)})
 }
@@ -41,7 +42,7 @@ pub fn numbered_body(
     number: u32,
 ) -> Result<String, AllocError>
     ensures { IfOk result
-        (λ s. string_bytes s ≡ compact_text (numbered name.now key.now number)) }
+        (λ s. string_bytes s ≡ compact_text (numbered_fault name.now key.now number)) }
 {
     let value = numbered_value(alloc, name, key, number)?;
     value.to_string(alloc)
@@ -49,14 +50,14 @@ pub fn numbered_body(
 
 /// A text that the reader refuses, as a value.
 fn text_value(alloc: Global, kind: &str, line: u32) -> Result<Value, AllocError>
-    ensures { IfOk result (λ v. view v ≡ bad_text kind.now line) }
+    ensures { IfOk result (λ v. view v ≡ bad_text_fault kind.now line) }
 {
     json!(in alloc; {"fault": "BadText", "line": u64::from(line), "read": kind})
 }
 
 /// A text that the reader refuses.
 fn text_body(alloc: Global, kind: &str, line: u32) -> Result<String, AllocError>
-    ensures { IfOk result (λ s. string_bytes s ≡ compact_text (bad_text kind.now line)) }
+    ensures { IfOk result (λ s. string_bytes s ≡ compact_text (bad_text_fault kind.now line)) }
 {
     let value = text_value(alloc, kind, line)?;
     value.to_string(alloc)
@@ -79,22 +80,22 @@ pub fn pointed_body(alloc: Global, pointer: &str) -> Result<String, AllocError>
 
 /// An entry that stands in the history, as a value.
 fn done_value(alloc: Global, first_id: u32, serial: u32) -> Result<Value, AllocError>
-    ensures { IfOk result (λ v. view v ≡ done first_id serial) }
+    ensures { IfOk result (λ v. view v ≡ done_entry first_id serial) }
 {
     json!(in alloc; {"first_id": u64::from(first_id), "serial": u64::from(serial)})
 }
 
 /// An entry that stands in the history.
 pub fn done_body(alloc: Global, first_id: u32, serial: u32) -> Result<String, AllocError>
-    ensures { IfOk result (λ s. string_bytes s ≡ compact_text (done first_id serial)) }
+    ensures { IfOk result (λ s. string_bytes s ≡ compact_text (done_entry first_id serial)) }
 {
     let value = done_value(alloc, first_id, serial)?;
     value.to_string(alloc)
 }
 
-/// The name of a kind of fault.
-fn kind_name(kind: ReadKind) -> &'static str
-    ensures { result.now ≡ spec.kind_name kind }
+/// The name of why a reader refuses a text. It takes no memory.
+pub fn read_kind_name(kind: ReadKind) -> &'static str
+    ensures { result.now ≡ spec.read_kind_name kind }
 {
     match kind {
         ReadKind::NoVersion => "NoVersion",
@@ -124,7 +125,7 @@ pub fn fault_body(alloc: Global, fault: EditFault) -> Result<String, AllocError>
         EditFault::SymbolExists => named_body(alloc, "SymbolExists"),
         EditFault::NoObject { id } => numbered_body(alloc, "NoObject", "id", id),
         EditFault::NotOnKind { id } => numbered_body(alloc, "NotOnKind", "id", id),
-        EditFault::BadText { read, line } => text_body(alloc, kind_name(read), line),
+        EditFault::BadText { read, line } => text_body(alloc, read_kind_name(read), line),
         EditFault::OutOfRange { id } => numbered_body(alloc, "OutOfRange", "id", id),
         EditFault::Stale { newer } => numbered_body(alloc, "Stale", "newer", newer),
         EditFault::NotYours => named_body(alloc, "NotYours"),

@@ -5,7 +5,7 @@ ghost use Rattle.edit_rules.specs.Verdicts.{verdict};
 ghost use Rattle.edit_rules.specs.declared.verdict.Verdict.TheVariants.{Repeat};
 ghost use Rattle.web_requests.specs.declared.request.Request.{Request};
 ghost use Rattle.web_requests.specs.declared.request.Request.TheVariants.{Edit};
-ghost use Rattle.web_requests.specs.Answers.{Acknowledges, IsAnswer};
+ghost use Rattle.web_requests.specs.Answers.{Acknowledges, IsRequestAnswer};
 ghost use Rattle.web_requests.specs.Requests.{IsRequest};
 
 /// A message is one request only.
@@ -23,6 +23,6 @@ pub fn held_law()
 /// The entry of an edit that is answered 200 after a history stands in it.
 pub fn acknowledged_law()
     ensures { (h : List EntryData) (e : EntryData) (closing : Bool) (text : List ℕ) →
-        IsAnswer h (Edit e) closing text → Acknowledges text →
+        IsRequestAnswer h (Edit e) closing text → Acknowledges text →
         (serial : ℕ) × (slice_get h serial ≡ Some e) }
 {}

@@ -1,7 +1,7 @@
 // The target of a message, and what its query says.
 ghost use Rattle.std.specs.Prelude.{◌≡◌, IfOk};
-ghost use Rattle.web_requests.specs.Paths.{path_of, query_of};
-ghost use Rattle.web_requests.specs.Queries.{least_of, number_said};
+ghost use Rattle.web_requests.specs.Paths.{path_of_target, query_of_target};
+ghost use Rattle.web_requests.specs.Queries.{least_in_query, number_said};
 ghost use Rattle.web_requests.specs.steps.Reading.{said_with};
 
 use std::alloc::{AllocError, Global};
@@ -20,8 +20,8 @@ pub enum Least {
 
 /// The target up to its first `?`, and what is behind it.
 pub fn split_target(target: &str) -> (&str, &str)
-    ensures path { result.0.now ≡ path_of target.now }
-    ensures query { result.1.now ≡ query_of target.now }
+    ensures path { result.0.now ≡ path_of_target target.now }
+    ensures query { result.1.now ≡ query_of_target target.now }
 {
     match target.split_once('?') {
         Some((path, query)) => (path, query),
@@ -54,7 +54,7 @@ fn with_pair(least: Least, name: &str, value: &str) -> Least
 
 /// What a query says of `min`.
 pub fn least_in(alloc: Global, query: &[u8]) -> Result<Least, AllocError>
-    ensures { IfOk result (λ least. least ≡ least_of query.now) }
+    ensures { IfOk result (λ least. least ≡ least_in_query query.now) }
 {
     let mut least = Least::Absent;
     for pair in form_urlencoded::parse(alloc, query) {

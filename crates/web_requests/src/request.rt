@@ -2,7 +2,7 @@
 ghost use Rattle.std.specs.Prelude.{◌≡◌, Some, IfOk};
 ghost use Rattle.web_requests.specs.Paths as spec;
 ghost use Rattle.web_requests.specs.Paths.{name_of_method};
-ghost use Rattle.web_requests.specs.Queries.{least_of};
+ghost use Rattle.web_requests.specs.Queries.{least_in_query};
 ghost use Rattle.web_requests.specs.Requests.{IsAsked, IsEditRequest, IsOnRoute, IsRequest};
 ghost use Rattle.web_requests.specs.Requests.{named_of, queried, report_of};
 
@@ -164,7 +164,7 @@ fn queried_request(
     path: &str,
     query: &str,
 ) -> Result<Request, AllocError>
-    ensures { IfOk result (λ r. r ≡ queried (least_of query.now) route path.now) }
+    ensures { IfOk result (λ r. r ≡ queried (least_in_query query.now) route path.now) }
 {
     match least_in(alloc, query.as_bytes())? {
         Least::Absent => report_request(alloc, None, route, path),

@@ -1,7 +1,8 @@
 // The replies to requests, each in place of what stood there.
 ghost use Rattle.std.specs.Prelude.{◌≡◌, OnOk, codes, Some, None};
 ghost use Rattle.serde_json.specs.Written.{compact_text};
-ghost use Rattle.web_requests.specs.Bodies.{bad_edit, done, fault_data, named, numbered};
+ghost use Rattle.web_requests.specs.Bodies.{bad_edit, done_entry, fault_data, named_fault};
+ghost use Rattle.web_requests.specs.Bodies.{numbered_fault};
 ghost use Rattle.web_requests.specs.Bodies as bodies;
 ghost use Rattle.web_requests.specs.Texts.{reply_text};
 ghost use Rattle.web_requests.specs.Answers.{fixed_reply, json_reply, method_reply, report_reply};
@@ -89,7 +90,7 @@ pub fn write_named(
     closing: bool,
     name: &str,
 ) -> Result<(), AllocError>
-    ensures { OnOk result (text.new ≡ json_reply status front closing (named name.now)) }
+    ensures { OnOk result (text.new ≡ json_reply status front closing (named_fault name.now)) }
 {
     let body = named_body(alloc, name)?;
     write_json(text, status, front, closing, body.as_str())
@@ -103,7 +104,7 @@ pub fn write_behind(
     closing: bool,
 ) -> Result<(), AllocError>
     ensures { OnOk result (text.new ≡ json_reply 409 front closing
-        (numbered (codes "Behind") (codes "front") front)) }
+        (numbered_fault (codes "Behind") (codes "front") front)) }
 {
     let body = numbered_body(alloc, "Behind", "front", front)?;
     write_json(text, StatusCode::CONFLICT, front, closing, body.as_str())
@@ -132,7 +133,7 @@ pub fn write_done(
     front: u32,
     closing: bool,
 ) -> Result<(), AllocError>
-    ensures { OnOk result (text.new ≡ json_reply 200 front closing (done first_id serial)) }
+    ensures { OnOk result (text.new ≡ json_reply 200 front closing (done_entry first_id serial)) }
 {
     let body = done_body(alloc, first_id, serial)?;
     write_json(text, StatusCode::OK, front, closing, body.as_str())
@@ -175,7 +176,7 @@ fn write_missing(
     closing: bool,
     name: &str,
 ) -> Result<(), AllocError>
-    ensures { OnOk result (text.new ≡ json_reply 404 front closing (named name.now)) }
+    ensures { OnOk result (text.new ≡ json_reply 404 front closing (named_fault name.now)) }
 {
     write_named(alloc, text, StatusCode::NOT_FOUND, front, closing, name)
 }
@@ -187,7 +188,8 @@ fn write_bad_query(
     front: u32,
     closing: bool,
 ) -> Result<(), AllocError>
-    ensures { OnOk result (text.new ≡ json_reply 400 front closing (named (codes "BadQuery"))) }
+    ensures { OnOk result
+        (text.new ≡ json_reply 400 front closing (named_fault (codes "BadQuery"))) }
 {
     let status = StatusCode::BAD_REQUEST;
     write_named(alloc, text, status, front, closing, "BadQuery")

@@ -6,9 +6,9 @@ use Rattle.reports.specs.declared.what.What.{What}
 use Rattle.reports.specs.declared.fault.ReportFault.{ReportFault}
 use Rattle.reports.specs.declared.fault.ReportFault.TheVariants as faults
 use Rattle.web_requests.specs.Answers.{is_behind}
-use Rattle.web_http.specs.declared.shown.Shown.{Shown}
-use Rattle.web_http.specs.declared.shown.Shown.TheVariants as shown
-use Rattle.web_http.specs.Services.{Grows, Reports}
+use Rattle.hall_server.specs.declared.shown.Shown.{Shown}
+use Rattle.hall_server.specs.declared.shown.Shown.TheVariants as shown
+use Rattle.hall_server.specs.Services.{Grows, IsShownReport}
 
 -- what is shown of a report on a history of so many entries
 abbrev pub shown_of : ℕ → Result (List ℕ) ReportFault → Shown
@@ -25,7 +25,7 @@ IsWanted least wanted = (front : ℕ) → is_behind least front ≡ nat_lt front
 pub record IsReported (old new : SeatData) (least : Option ℕ) (what : What) (result : Shown)
     : Type 0 where
   pub grown : Grows old.seen new.seen
-  pub told : Reports new.seen least what result
+  pub told : IsShownReport new.seen least what result
   pub losses : new.losses ≡ old.losses
   pub refusals : old.refusals ≤ new.refusals
   pub refused : result ≡ shown.NoEntry → HasRisen old.refusals new.refusals

@@ -3,7 +3,7 @@ use mathlib.Core.List.{IsPrefix}
 use Rattle.edit_entries.specs.Entries.{EntryData}
 use Rattle.hall_log.specs.Histories.{IsHistory}
 use Rattle.web_requests.specs.Answers.{is_behind}
-use Rattle.web_http.specs.declared.shown.Shown.TheVariants.{Behind}
+use Rattle.hall_server.specs.declared.shown.Shown.TheVariants.{Behind}
 use Rattle.hall_server.proofs.SeatReports.{answered_look, refused_look}
 use Rattle.hall_server.proofs.seat_reports.behind.Goals as goal
 

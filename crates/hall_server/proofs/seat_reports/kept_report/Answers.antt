@@ -1,4 +1,4 @@
-use Rattle.kept_reports.specs.KeptTexts.{what_of}
+use Rattle.hall_server.specs.steps.KeptTexts.{what_of}
 use Rattle.hall_server.proofs.SeatReports.{after_look, refused_look}
 use Rattle.hall_server.proofs.seat_reports.kept_report.Goals as goal
 

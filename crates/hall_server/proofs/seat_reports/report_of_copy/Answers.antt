@@ -1,6 +1,6 @@
 use Rattle.std.proofs.Common.{rules, ◌≡◌, ◌∙◌, List, IfOk, ap, subst}
 use Rattle.edit_entries.specs.Entries.{EntryData}
-use Rattle.kept_reports.specs.KeptTexts.{what_of}
+use Rattle.hall_server.specs.steps.KeptTexts.{what_of}
 use Rattle.hall_server.proofs.SeatReports.{look_reported, refused_look, was_shown}
 use Rattle.hall_server.proofs.seat_reports.report_of_copy.Goals as goal
 

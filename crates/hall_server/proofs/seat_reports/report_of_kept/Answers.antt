@@ -2,9 +2,9 @@ use Rattle.std.proofs.Common.{◌≡◌, ◌∙◌, ◌≤◌, false, List, ap, 
 use mathlib.Core.List.{IsPrefix}
 use Rattle.edit_entries.specs.Entries.{EntryData}
 use Rattle.hall_log.specs.Histories.{IsHistory}
-use Rattle.kept_reports.specs.KeptTexts.{IsText, what_of}
+use Rattle.hall_server.specs.steps.KeptTexts.{IsReportText, what_of}
 use Rattle.web_requests.specs.Answers.{is_behind}
-use Rattle.web_http.specs.declared.shown.Shown.TheVariants.{Text}
+use Rattle.hall_server.specs.declared.shown.Shown.TheVariants.{Text}
 use Rattle.hall_server.proofs.SeatReports.{answered_look, refused_look}
 use Rattle.hall_server.proofs.seat_reports.report_of_kept.Goals as goal
 
@@ -25,6 +25,6 @@ returns g c =
     (subst IsHistory same c.len.ensures.history) (
       c.len.ensures.length ∙ ap length same,
       subst (λ (h : List EntryData). is_behind c.args.least (length h) ≡ false) same c.requires.enough,
-      subst (λ (h : List EntryData). IsText h c.args.kind c.args.body) same c.requires.text,
+      subst (λ (h : List EntryData). IsReportText h c.args.kind c.args.body) same c.requires.text,
     )
     learned.2 later (λ e. cc e)

@@ -1,8 +1,8 @@
 use Rattle.std.proofs.Common.{refl}
 use Rattle.serde_json.specs.View.{view}
-use Rattle.web_requests.specs.Bodies.{named}
+use Rattle.web_requests.specs.Bodies.{named_fault}
 use Rattle.web_requests.proofs.BodyTexts.{body_text}
 use Rattle.web_requests.proofs.body.named_body.Goals as goal
 
 pub returns : goal.returns
-returns c = body_text c.to_string.result (view c.in_ok-value.value) (named c.args.name.now) c.in_ok-value.ensures (refl) c.to_string.ensures.text
+returns c = body_text c.to_string.result (view c.in_ok-value.value) (named_fault c.args.name.now) c.in_ok-value.ensures (refl) c.to_string.ensures.text

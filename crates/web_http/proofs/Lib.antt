@@ -1,6 +1,0 @@
-mod Counting
-mod Replying
-mod Completing
-mod EndTexts
-mod Served
-mod Responses

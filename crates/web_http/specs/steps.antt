@@ -1,3 +1,0 @@
--- Steps of the code and of the proofs; no public clause cites them.
-pub mod Pieces
-pub mod Responding
