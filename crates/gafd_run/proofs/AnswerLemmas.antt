@@ -14,8 +14,8 @@ use Rattle.gafd_run.specs.declared.fault.RunFault.TheVariants as faults
 use Rattle.spice_out.specs.declared.fault.SpiceFault.{SpiceFault}
 use Rattle.spice_out.specs.Faults.{spice_fault}
 use Rattle.spice_out.specs.SpiceText.{spice_text}
-use Rattle.gafd_run.specs.Answers.{AnswerData, ByNetList, ByNets, CircuitOf, FillsTo, Opened, Outcome, SheetsOf, SheetsTo, TextOf, all_well, circuit, circuit_or_fault, done, filled, filled_down}
-use Rattle.gafd_run.specs.Faults.{table_fault}
+use Rattle.gafd_run.specs.Answers.{AnswerData, ByNetList, ByNets, CircuitOf, FillsTo, Opened, Outcome, SheetsOf, SheetsTo, TextOf, all_well, circuit, circuit_or_fault, done, fill_outcome, filled_down}
+use Rattle.gafd_run.specs.Faults.{table_file_fault}
 use Rattle.table_files.specs.declared.fault.TableFileFault.{TableFileFault}
 use Rattle.table_files.specs.FilledFiles.{FilledData, filled_file}
 
@@ -83,12 +83,12 @@ module _ (Good : AnswerData → Type 0) where
   of_opened Next good told sheet outcome (Ok h, come, next) = good h outcome next
   of_opened Next good told sheet outcome (Err fault, come, is) = as_one (Err fault) outcome is tt
 
-  by_filled : (end : Result FilledData TableFileFault) → ((f : FilledData) → Good (filled_down f)) → OfAnswer Good (result_map_both filled_down table_fault end)
+  by_filled : (end : Result FilledData TableFileFault) → ((f : FilledData) → Good (filled_down f)) → OfAnswer Good (result_map_both filled_down table_file_fault end)
   by_filled (Ok f) good = good f
   by_filled (Err fault) good = tt
 
   -- of a table that is filled into it
   pub of_filled : ((f : FilledData) → Good (filled_down f)) → (told : Option Files) (sheet table : List ℕ) (h : List EntryData) → EachBy Good (FillsTo told sheet table h)
   of_filled good told sheet table h outcome come =
-      of_some told (λ known end. FileComesTo (faults.Missing table) (λ bytes e. e ≡ filled sheet table h bytes) (known table) end)
-      (λ files. by_file table (λ bytes e. e ≡ filled sheet table h bytes) (λ bytes end is. as_one (filled sheet table h bytes) end is (by_filled (filled_file h sheet table bytes) good)) (files table)) outcome come
+      of_some told (λ known end. FileComesTo (faults.Missing table) (λ bytes e. e ≡ fill_outcome sheet table h bytes) (known table) end)
+      (λ files. by_file table (λ bytes e. e ≡ fill_outcome sheet table h bytes) (λ bytes end is. as_one (fill_outcome sheet table h bytes) end is (by_filled (filled_file h sheet table bytes) good)) (files table)) outcome come

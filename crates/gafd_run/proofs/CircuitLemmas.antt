@@ -4,7 +4,7 @@ use Rattle.project_model.specs.Projects.{ProjectData}
 use Rattle.net_list.specs.declared.nets.Nets.{Nets}
 use Rattle.spice_out.specs.declared.fault.SpiceFault.{SpiceFault}
 use Rattle.spice_out.specs.declared.fault.SpiceFault.TheVariants as spice_faults
-use Rattle.spice_out.specs.Faults.{Fails, spice_fault}
+use Rattle.spice_out.specs.Faults.{SpiceFails, spice_fault}
 use Rattle.spice_out.specs.SpiceText.{spice_text}
 use Rattle.gafd_run.specs.Answers.{AnswerData, CircuitOf, all_well, circuit, circuit_or_fault}
 use Rattle.gafd_run.specs.Faults.{circuit_fault}
@@ -18,6 +18,6 @@ module _ (p : ProjectData) where
       by_list p circuit nets (Ok answer) lists (ap Ok (made ∙ ap all_well is) ∙ sym (ap (circuit_or_fault (spice_text nets)) none))
 
   -- a package has a fault
-  pub circuit_refused : (nets : Nets) (e : SpiceFault) → Lists p nets → Fails e (spice_fault nets) → ComesOf (CircuitOf p) (Err (circuit_fault e))
+  pub circuit_refused : (nets : Nets) (e : SpiceFault) → Lists p nets → SpiceFails e (spice_fault nets) → ComesOf (CircuitOf p) (Err (circuit_fault e))
   circuit_refused nets spice_faults.NoMemory lists fails = tt
   circuit_refused nets e lists fails = by_list p circuit nets (Err (circuit_fault e)) lists (sym (ap (circuit_or_fault (spice_text nets)) fails))

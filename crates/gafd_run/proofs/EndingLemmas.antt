@@ -20,7 +20,7 @@ use Rattle.store_copy.specs.Storing.{Keepers, StoresTo}
 use Rattle.store_copy.specs.declared.storing_fault.StoringFault.TheVariants as storing_faults
 use Rattle.gafd_run.specs.declared.fault.RunFault.{RunFault}
 use Rattle.gafd_run.specs.declared.fault.RunFault.TheVariants as faults
-use Rattle.gafd_run.specs.Answers.{AnswerData, ComesTo, FillsTo, Outcome, RenumbersTo, SheetsTo, checked, is_symbol_name, listed, symbols_reported, tabled, written_down}
+use Rattle.gafd_run.specs.Answers.{AnswerData, ComesTo, FillsTo, Outcome, RenumbersTo, SheetsTo, checked_under, is_symbol_name, listed, symbols_reported, tabled, written_down}
 use Rattle.gafd_run.specs.Endings.{Completes, IsCheck, IsLeft, IsServing, IsStoring, RunEnds, Served, ServingEnds, Stored, StoringEnds, served_status, stored_status}
 use Rattle.gafd_run.specs.Faults.{error_line, renumber_fault, status_of}
 use Rattle.gafd_run.specs.Runs.{Ends, EndsWith, SaidLine, outcome_status}
@@ -45,7 +45,7 @@ good told None answer is = as_one (IsGood None) (Err faults.Usage) (Ok answer) i
 good told (Some (commands.Netlist form names)) answer come = of_sheets (IsGood (Some (commands.Netlist form names))) (listed form) (λ p nets. inl refl) told names (Ok answer) come
 good told (Some (commands.Spice names)) answer come = of_circuit (IsGood (Some (commands.Spice names))) (λ text. inl refl) told names (Ok answer) come
 good told (Some (commands.Drc matrix names)) answer (Ok levels, come, checks) =
-    of_sheets (IsGood (Some (commands.Drc matrix names))) (checked levels) (λ p nets. of_check (Some (commands.Drc matrix names)) (checked levels p nets) _ tt refl) told names (Ok answer) checks
+    of_sheets (IsGood (Some (commands.Drc matrix names))) (checked_under levels) (λ p nets. of_check (Some (commands.Drc matrix names)) (checked_under levels p nets) _ tt refl) told names (Ok answer) checks
 good told (Some (commands.Drc matrix names)) answer (Err fault, come, is) = as_one (IsGood (Some (commands.Drc matrix names))) (Err fault) (Ok answer) is tt
 good told (Some (commands.Export name)) answer come = of_text (IsGood (Some (commands.Export name))) (is_symbol_name name) name (λ text. inl refl) told (Ok answer) come
 good told (Some (commands.Symcheck names)) answer (Ok files, come, is) = as_one (IsGood (Some (commands.Symcheck names))) (Ok (symbols_reported files)) (Ok answer) is (of_check (Some (commands.Symcheck names)) (symbols_reported files) _ tt refl)

@@ -2,7 +2,7 @@
 use Rattle.std.proofs.Common.{◌≡◌, Ok, Err, sym, ap, ◌∙◌}
 use Rattle.std.specs.Result.{result_map_both}
 use Rattle.project_model.specs.Projects.{ProjectData}
-use Rattle.renum_files.specs.RenumberedFiles.{Gives, RenumberedData, renumbered_files}
+use Rattle.renum_files.specs.RenumberedFiles.{GivesRenumbered, RenumberedData, renumbered_files}
 use Rattle.renum_files.specs.declared.fault.RenumberFault.{RenumberFault}
 use Rattle.renum_files.specs.declared.fault.RenumberFault.TheVariants as renumber_faults
 use Rattle.gafd_run.specs.Answers.{AnswerData, RenumbersTo, written_down}
@@ -14,6 +14,6 @@ pub numbering_done : (p : ProjectData) (r : RenumberedData) (answer : AnswerData
 numbering_done p r answer is made = ap Ok made ∙ sym (ap (result_map_both written_down renumber_fault) is)
 
 -- or not
-pub numbering_failed : (p : ProjectData) (e : RenumberFault) → Gives (λ (r : RenumberedData). r) (Err e) (renumbered_files p) → ComesOf (RenumbersTo p) (Err (renumber_fault e))
+pub numbering_failed : (p : ProjectData) (e : RenumberFault) → GivesRenumbered (λ (r : RenumberedData). r) (Err e) (renumbered_files p) → ComesOf (RenumbersTo p) (Err (renumber_fault e))
 numbering_failed p renumber_faults.NoMemory is = tt
 numbering_failed p renumber_faults.ProjectFull is = sym (ap (result_map_both written_down renumber_fault) is)

@@ -15,7 +15,7 @@ use Rattle.project_files.specs.FileReads.{Then}
 use Rattle.project_files.specs.Gathering.{ProjectFiles}
 use Rattle.project_files.proofs.OneProject.{IsOne, after_one, file_one, gathers_one, read_one, then_one}
 use Rattle.gafd_run.specs.declared.fault.RunFault.TheVariants as faults
-use Rattle.gafd_run.specs.Answers.{AnswerData, ByNetList, ByNets, CircuitOf, ComesTo, FillsTo, IsFixed, MatrixComesTo, Opened, OpensTo, Outcome, RenumbersTo, SheetsOf, SheetsTo, SymbolsOf, TextOf, as_run, checked, circuit, filled, is_symbol_name, listed, opened, symbols_reported, tabled}
+use Rattle.gafd_run.specs.Answers.{AnswerData, ByNetList, ByNets, CircuitOf, ComesTo, FillsTo, IsFixed, MatrixComesTo, Opened, OpensTo, Outcome, RenumbersTo, SheetsOf, SheetsTo, SymbolsOf, TextOf, as_run, checked_under, circuit, fill_outcome, is_symbol_name, listed, opened_history, symbols_reported, tabled}
 use Rattle.net_names.proofs.Uniqueness.{same_lists}
 use Rattle.sym_check.specs.declared.report.CheckedFile.{CheckedFile}
 use Rattle.symbol_files.proofs.OneCheck.{checks_one}
@@ -53,7 +53,7 @@ symbols_one files names first second (read, come, p) (other, does, q) =
 -- what comes of a sheet that is opened
 opened_one : (files : Files) (sheet : List ℕ) (Next : List EntryData → Outcome → Type 0) → ((h : List EntryData) → IsOne (Next h)) → IsOne (Opened (Some files) sheet Next)
 opened_one files sheet Next one first second (read, come, p) (other, does, q) =
-    after_one (OpensTo sheet files) Next (file_one (faults.Missing sheet) (λ bytes end. end ≡ opened sheet bytes) (λ bytes one other is so. is ∙ sym so) (files sheet)) one read other first second come does p q
+    after_one (OpensTo sheet files) Next (file_one (faults.Missing sheet) (λ bytes end. end ≡ opened_history sheet bytes) (λ bytes one other is so. is ∙ sym so) (files sheet)) one read other first second come does p q
 
 -- so a command comes to one
 pub same_outcomes : (files : Files) (command : Option Command) (first second : Outcome) → IsFixed command → ComesTo (Some files) command first → ComesTo (Some files) command second → first ≡ second
@@ -61,13 +61,13 @@ same_outcomes files None first second fixed p q = p ∙ sym q
 same_outcomes files (Some (commands.Netlist form names)) first second fixed p q = of_sheets_one (listed form) (record { sheets = files; symbols = files }) names first second p q
 same_outcomes files (Some (commands.Spice names)) first second fixed p q = sheets_one CircuitOf (nets_one circuit) (record { sheets = files; symbols = files }) names first second p q
 same_outcomes files (Some (commands.Drc matrix names)) first second fixed (read, come, p) (other, does, q) =
-    after_one (MatrixComesTo files matrix) (λ (levels : List Level). SheetsOf (checked levels) (record { sheets = files; symbols = files }) names) (matrix_one files matrix) (λ levels. of_sheets_one (checked levels) (record { sheets = files; symbols = files }) names) read other first second come does p q
+    after_one (MatrixComesTo files matrix) (λ (levels : List Level). SheetsOf (checked_under levels) (record { sheets = files; symbols = files }) names) (matrix_one files matrix) (λ levels. of_sheets_one (checked_under levels) (record { sheets = files; symbols = files }) names) read other first second come does p q
 same_outcomes files (Some (commands.Export name)) first second fixed p q = file_one (faults.Missing name) _ (text_one (is_symbol_name name) name) (files name) first second p q
 same_outcomes files (Some (commands.Symcheck names)) first second fixed p q = symbols_one files names first second p q
 same_outcomes files (Some (commands.Renumber names)) first second fixed p q = sheets_one RenumbersTo (λ project one other is so. is ∙ sym so) (record { sheets = files; symbols = files }) names first second p q
 same_outcomes files (Some (commands.Table sheet)) first second fixed p q = opened_one files sheet (λ h end. end ≡ tabled sheet h) (λ h one other is so. is ∙ sym so) first second p q
 same_outcomes files (Some (commands.Fill sheet table)) first second fixed p q =
-    opened_one files sheet (FillsTo (Some files) sheet table) (λ h. file_one (faults.Missing table) (λ bytes end. end ≡ filled sheet table h bytes) (λ bytes one other is so. is ∙ sym so) (files table)) first second p q
+    opened_one files sheet (FillsTo (Some files) sheet table) (λ h. file_one (faults.Missing table) (λ bytes end. end ≡ fill_outcome sheet table h bytes) (λ bytes one other is so. is ∙ sym so) (files table)) first second p q
 same_outcomes files (Some (commands.Work start count)) first second fixed p q = absurd fixed
 same_outcomes files (Some (commands.Serve address store)) first second fixed p q = absurd p
 same_outcomes files (Some (commands.Store store database)) first second fixed p q = absurd p

@@ -11,7 +11,7 @@ use Rattle.outside.specs.Counts.{Counts}
 use Rattle.renum_files.specs.RenumberedFiles.{File}
 use Rattle.sinks.specs.Streams.{Stream}
 use Rattle.gafd_run.specs.declared.fault.RunFault.TheVariants as faults
-use Rattle.gafd_run.specs.Answers.{AnswerData, ComesTo, IsReading, Outcome, checked, is_symbol_name, listed, tabled}
+use Rattle.gafd_run.specs.Answers.{AnswerData, ComesTo, IsReading, Outcome, checked_under, is_symbol_name, listed, tabled}
 use Rattle.gafd_run.specs.Runs.{EndsWith, KeepsUnless, StopsWriting}
 use Rattle.gafd_run.specs.Writing.{FolderRun, WroteFiles, folder_run}
 use Rattle.gafd_run.proofs.AnswerLemmas.{as_done, as_one, of_circuit, of_opened, of_sheets, of_text}
@@ -25,7 +25,7 @@ writes_none : (told : Option Files) (command : Option Command) → IsReading com
 writes_none told None reading answer is = as_one WritesNone (Err faults.Usage) (Ok answer) is tt
 writes_none told (Some (commands.Netlist form names)) reading answer come = of_sheets WritesNone (listed form) (λ p nets. refl) told names (Ok answer) come
 writes_none told (Some (commands.Spice names)) reading answer come = of_circuit WritesNone (λ text. refl) told names (Ok answer) come
-writes_none told (Some (commands.Drc matrix names)) reading answer (Ok levels, come, then) = of_sheets WritesNone (checked levels) (λ p nets. refl) told names (Ok answer) then
+writes_none told (Some (commands.Drc matrix names)) reading answer (Ok levels, come, then) = of_sheets WritesNone (checked_under levels) (λ p nets. refl) told names (Ok answer) then
 writes_none told (Some (commands.Drc matrix names)) reading answer (Err fault, come, is) = as_one WritesNone (Err fault) (Ok answer) is tt
 writes_none told (Some (commands.Export name)) reading answer come = of_text WritesNone (is_symbol_name name) name (λ text. refl) told (Ok answer) come
 writes_none told (Some (commands.Symcheck names)) reading answer (Ok files, come, is) = as_one WritesNone _ (Ok answer) is refl

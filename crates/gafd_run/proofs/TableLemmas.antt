@@ -21,11 +21,11 @@ use Rattle.project_files.proofs.Passing.{risen}
 use Rattle.project_files.specs.ProjectFiles.{OfSome}
 use Rattle.project_files.proofs.Reading.{HoldsOfWhole, read_whole}
 use Rattle.table_files.specs.FilledFiles.{FilledData, filled_file}
-use Rattle.table_files.specs.OpenedFiles.{Gives, opened_file, opened_value}
+use Rattle.table_files.specs.OpenedFiles.{GivesTableFile, opened_file, opened_value}
 use Rattle.table_files.specs.declared.fault.TableFileFault.{TableFileFault}
 use Rattle.table_files.specs.declared.fault.TableFileFault.TheVariants as table_faults
-use Rattle.gafd_run.specs.Answers.{AnswerData, FillsTo, Opened, OpensTo, Outcome, filled, filled_down, opened}
-use Rattle.gafd_run.specs.Faults.{table_fault}
+use Rattle.gafd_run.specs.Answers.{AnswerData, FillsTo, Opened, OpensTo, Outcome, fill_outcome, filled_down, opened_history}
+use Rattle.gafd_run.specs.Faults.{table_file_fault}
 use Rattle.gafd_run.specs.declared.fault.RunFault.{RunFault}
 use Rattle.gafd_run.specs.declared.fault.RunFault.TheVariants as faults
 use Rattle.gafd_run.specs.steps.Passing.{AnswerOf, ComesOf, FromFolder}
@@ -63,19 +63,19 @@ opened_whole sheet whole = go (sheet_value (take 4194305 whole)) refl
     go (Err (kind, line)) e = ap (opened_value sheet (take 4194305 whole)) e ∙ sym (ap (opened_value sheet whole) (part_fault whole kind line e))
 
 pub opens_whole : (sheet : List ℕ) (read : Result (List EntryData) RunFault)
-    → HoldsOfWhole (λ file. FileComesTo (faults.Missing sheet) (λ bytes end. end ≡ opened sheet bytes) file read)
+    → HoldsOfWhole (λ file. FileComesTo (faults.Missing sheet) (λ bytes end. end ≡ opened_history sheet bytes) file read)
 opens_whole sheet read None h = h
-opens_whole sheet read (Some whole) h = h ∙ ap (result_map_both (λ (e : List EntryData). e) table_fault) (opened_whole sheet whole)
+opens_whole sheet read (Some whole) h = h ∙ ap (result_map_both (λ (e : List EntryData). e) table_file_fault) (opened_whole sheet whole)
 
 -- a sheet that is opened, or not
 pub opens_done : (sheet bytes : List ℕ) (desk : DeskView) → opened_file sheet bytes ≡ Ok desk.history → OpensAs sheet bytes (Ok desk)
-opens_done sheet bytes desk is = sym (ap (result_map_both (λ (e : List EntryData). e) table_fault) is)
+opens_done sheet bytes desk is = sym (ap (result_map_both (λ (e : List EntryData). e) table_file_fault) is)
 
-pub opens_failed : (sheet bytes : List ℕ) (e : TableFileFault) → Gives (λ (d : DeskView). d.history) (Err e) (opened_file sheet bytes) → ComesOf (OpensAs sheet bytes) (Err (table_fault e))
+pub opens_failed : (sheet bytes : List ℕ) (e : TableFileFault) → GivesTableFile (λ (d : DeskView). d.history) (Err e) (opened_file sheet bytes) → ComesOf (OpensAs sheet bytes) (Err (table_file_fault e))
 opens_failed sheet bytes table_faults.NoMemory is = tt
-opens_failed sheet bytes (table_faults.Refused file line kind) is = sym (ap (result_map_both (λ (e : List EntryData). e) table_fault) is)
-opens_failed sheet bytes (table_faults.EditRefused file fault) is = sym (ap (result_map_both (λ (e : List EntryData). e) table_fault) is)
-opens_failed sheet bytes (table_faults.TableRefused file row kind) is = sym (ap (result_map_both (λ (e : List EntryData). e) table_fault) is)
+opens_failed sheet bytes (table_faults.Refused file line kind) is = sym (ap (result_map_both (λ (e : List EntryData). e) table_file_fault) is)
+opens_failed sheet bytes (table_faults.EditRefused file fault) is = sym (ap (result_map_both (λ (e : List EntryData). e) table_file_fault) is)
+opens_failed sheet bytes (table_faults.TableRefused file row kind) is = sym (ap (result_map_both (λ (e : List EntryData). e) table_file_fault) is)
 
 long_of : (n k : ℕ) → nat_lt 4194304 n ≡ true → k ≡ min 4194305 n → nat_lt 4194304 k ≡ true
 long_of n k e is = grind (arith, nat_tests)
@@ -92,20 +92,20 @@ filled_whole h sheet table whole = go (nat_lt 4194304 (length whole)) refl
     go false e = ap (filled_file h sheet table) (take_all 4194305 whole (short_of (length whole) e))
 
 pub fills_whole : (sheet table : List ℕ) (h : List EntryData) (outcome : Outcome)
-    → HoldsOfWhole (λ file. FileComesTo (faults.Missing table) (λ bytes end. end ≡ filled sheet table h bytes) file outcome)
+    → HoldsOfWhole (λ file. FileComesTo (faults.Missing table) (λ bytes end. end ≡ fill_outcome sheet table h bytes) file outcome)
 fills_whole sheet table h outcome None k = k
-fills_whole sheet table h outcome (Some whole) k = k ∙ ap (result_map_both filled_down table_fault) (filled_whole h sheet table whole)
+fills_whole sheet table h outcome (Some whole) k = k ∙ ap (result_map_both filled_down table_file_fault) (filled_whole h sheet table whole)
 
 -- a table that is filled in, or not
-pub fill_done : (h : List EntryData) (sheet table bytes : List ℕ) (f : FilledData) (answer : AnswerData) → filled_file h sheet table bytes ≡ Ok f → answer ≡ filled_down f → Ok answer ≡ filled sheet table h bytes
-fill_done h sheet table bytes f answer is made = ap Ok made ∙ sym (ap (result_map_both filled_down table_fault) is)
+pub fill_done : (h : List EntryData) (sheet table bytes : List ℕ) (f : FilledData) (answer : AnswerData) → filled_file h sheet table bytes ≡ Ok f → answer ≡ filled_down f → Ok answer ≡ fill_outcome sheet table h bytes
+fill_done h sheet table bytes f answer is made = ap Ok made ∙ sym (ap (result_map_both filled_down table_file_fault) is)
 
-pub fill_failed : (h : List EntryData) (sheet table bytes : List ℕ) (e : TableFileFault) → Gives (λ (f : FilledData). f) (Err e) (filled_file h sheet table bytes)
-    → ComesOf (λ (end : Outcome). end ≡ filled sheet table h bytes) (Err (table_fault e))
+pub fill_failed : (h : List EntryData) (sheet table bytes : List ℕ) (e : TableFileFault) → GivesTableFile (λ (f : FilledData). f) (Err e) (filled_file h sheet table bytes)
+    → ComesOf (λ (end : Outcome). end ≡ fill_outcome sheet table h bytes) (Err (table_file_fault e))
 fill_failed h sheet table bytes table_faults.NoMemory is = tt
-fill_failed h sheet table bytes (table_faults.Refused file line kind) is = sym (ap (result_map_both filled_down table_fault) is)
-fill_failed h sheet table bytes (table_faults.EditRefused file fault) is = sym (ap (result_map_both filled_down table_fault) is)
-fill_failed h sheet table bytes (table_faults.TableRefused file row kind) is = sym (ap (result_map_both filled_down table_fault) is)
+fill_failed h sheet table bytes (table_faults.Refused file line kind) is = sym (ap (result_map_both filled_down table_file_fault) is)
+fill_failed h sheet table bytes (table_faults.EditRefused file fault) is = sym (ap (result_map_both filled_down table_file_fault) is)
+fill_failed h sheet table bytes (table_faults.TableRefused file row kind) is = sym (ap (result_map_both filled_down table_file_fault) is)
 
 -- what a later call answers that a folder was lent to, as the answer of a whole
 pub answer_later : {A : Type 0} (before between now : ℕ) (P Q : Result A RunFault → Type 0) (outcome : Result A RunFault) → before ≤ between
@@ -124,7 +124,7 @@ some_kept (Some old) (Some new) P kept p = subst P (λ i name. kept name i) p
 
 pub fills_before : (old new : Option Files) (sheet table : List ℕ) (h : List EntryData) (outcome : Outcome) → KeepsFiles old new → FillsTo new sheet table h outcome → FillsTo old sheet table h outcome
 fills_before old new sheet table h outcome kept fills =
-    some_kept old new (λ known. FileComesTo (faults.Missing table) (λ bytes end. end ≡ filled sheet table h bytes) (known table) outcome) kept fills
+    some_kept old new (λ known. FileComesTo (faults.Missing table) (λ bytes end. end ≡ fill_outcome sheet table h bytes) (known table) outcome) kept fills
 
 -- a fault of the folder is that of the program
 pub folder_failed : {A T : Type 0} (old now : ℕ) (P : Result A RunFault → Type 0) (e : FolderFault) (f : RunFault) → FromFolder e f → HasCause {T = T} old now (Err e) folder.Failed → AnswerOf (counts old now) P (Err f)

@@ -17,7 +17,7 @@ use Rattle.net_list.specs.declared.form.Form.{Form}
 use Rattle.backends.specs.Forms.{net_text}
 use Rattle.pin_matrix.specs.declared.level.Level.{Level}
 use Rattle.pin_matrix.specs.Matrices.{usual}
-use Rattle.pin_matrix.specs.MatrixFiles.{document_of, matrix_in}
+use Rattle.pin_matrix.specs.MatrixFiles.{matrix_in, toml_document}
 use Rattle.toml.specs.Data.{Members}
 use Rattle.reports.specs.NetLists.{CheckData, HasNetList, checked as check_of}
 use Rattle.spice_out.specs.declared.fault.SpiceFault.{SpiceFault}
@@ -31,12 +31,12 @@ use Rattle.project_files.specs.FileReads.{FileComesTo, ReadAs, Then}
 use Rattle.project_files.specs.Gathering.{ProjectFiles}
 use Rattle.project_files.specs.ProjectFiles.{GathersTo, OfFiles, OfSome}
 use Rattle.sym_check.specs.declared.report.CheckedFile.{CheckedFile}
-use Rattle.sym_check.specs.Report.{all_found, is_error, report_text}
+use Rattle.sym_check.specs.Report.{all_found, is_symbol_error, symbol_report_text}
 use Rattle.symbol_files.specs.CheckedFiles.{ChecksFrom}
 use Rattle.renum_files.specs.RenumberedFiles.{File, RenumberedData, renumbered_files}
 use Rattle.table_files.specs.FilledFiles.{FilledData, filled_file}
 use Rattle.table_files.specs.OpenedFiles.{opened_file}
-use Rattle.gafd_run.specs.Faults.{circuit_fault, renumber_fault, run_fault, table_fault}
+use Rattle.gafd_run.specs.Faults.{circuit_fault, renumber_fault, run_fault, table_file_fault}
 use Rattle.gafd_run.specs.declared.fault.RunFault.{RunFault}
 use Rattle.gafd_run.specs.declared.fault.RunFault.TheVariants as faults
 
@@ -104,13 +104,13 @@ abbrev pub CircuitOf : ProjectData → Outcome → Type 0
 CircuitOf = ByNets circuit
 
 -- the report of a check; its status is 7 where an error is among what was found
-abbrev pub reported : CheckData → AnswerData
-reported check =
+abbrev pub check_reported : CheckData → AnswerData
+check_reported check =
     record { text = check.text; status = if check.has_error then 7 else 0; files = [] }
 
 -- the report of the check under a matrix
-abbrev pub checked : List Level → ProjectData → Nets → AnswerData
-checked matrix project nets = reported (check_of project matrix nets)
+abbrev pub checked_under : List Level → ProjectData → Nets → AnswerData
+checked_under matrix project nets = check_reported (check_of project matrix nets)
 
 -- the matrix of a document, if its rows are those of one
 abbrev pub matrix_or_fault : List ℕ → Option (List Level) → Result (List Level) RunFault
@@ -118,16 +118,16 @@ matrix_or_fault file None = Err (faults.BadRows file)
 matrix_or_fault file (Some matrix) = Ok matrix
 
 -- the matrix of bytes, if they are a document
-abbrev pub matrix_of : List ℕ → Option Members → Result (List Level) RunFault
-matrix_of file None = Err (faults.BadToml file)
-matrix_of file (Some document) = matrix_or_fault file (matrix_in document)
+abbrev pub matrix_of_document : List ℕ → Option Members → Result (List Level) RunFault
+matrix_of_document file None = Err (faults.BadToml file)
+matrix_of_document file (Some document) = matrix_or_fault file (matrix_in document)
 
 -- what the file of a matrix comes to; where none is named, that is the usual matrix
 abbrev pub MatrixComesTo : Files → Option (List ℕ) → Result (List Level) RunFault → Type 0
 MatrixComesTo files None matrix = matrix ≡ Ok usual
 MatrixComesTo files (Some file) matrix =
-    FileComesTo (faults.Missing file) (λ bytes read. read ≡ matrix_of file (document_of bytes))
-    (files file) matrix
+    FileComesTo (faults.Missing file)
+    (λ bytes read. read ≡ matrix_of_document file (toml_document bytes)) (files file) matrix
 
 -- a file with this name is a symbol
 abbrev pub is_symbol_name : List ℕ → Bool
@@ -146,13 +146,13 @@ abbrev pub CheckOf : Option Files → Option (List ℕ) → List (List ℕ) → 
 CheckOf files matrix names outcome =
     (read : Result (List Level) RunFault) × OfSome files (λ known. MatrixComesTo known matrix read)
     × Then read
-    (λ levels end. OfFiles files (λ known. SheetsOf (checked levels) known names end)) outcome
+    (λ levels end. OfFiles files (λ known. SheetsOf (checked_under levels) known names end)) outcome
 
 -- the report on symbols; its status is 7 where an error is among what was found
 abbrev pub symbols_reported : List CheckedFile → AnswerData
 symbols_reported files = record {
-  text = report_text files;
-  status = if list_any is_error (all_found files) then 7 else 0;
+  text = symbol_report_text files;
+  status = if list_any is_symbol_error (all_found files) then 7 else 0;
   files = [];
 }
 
@@ -176,13 +176,14 @@ RenumbersTo project outcome =
     outcome ≡ result_map_both written_down renumber_fault (renumbered_files project)
 
 -- the sheet of a file as the history of the edit that adds it
-abbrev pub opened : List ℕ → List ℕ → Result (List EntryData) RunFault
-opened sheet bytes = result_map_both (λ h. h) table_fault (opened_file sheet bytes)
+abbrev pub opened_history : List ℕ → List ℕ → Result (List EntryData) RunFault
+opened_history sheet bytes = result_map_both (λ h. h) table_file_fault (opened_file sheet bytes)
 
 -- what the file of a sheet comes to, opened so
 abbrev pub OpensTo : List ℕ → Files → Result (List EntryData) RunFault → Type 0
 OpensTo sheet files read =
-    FileComesTo (faults.Missing sheet) (λ bytes end. end ≡ opened sheet bytes) (files sheet) read
+    FileComesTo (faults.Missing sheet) (λ bytes end. end ≡ opened_history sheet bytes)
+    (files sheet) read
 
 -- what comes of the file of a sheet that is opened
 abbrev pub Opened :
@@ -204,15 +205,15 @@ abbrev pub filled_down : FilledData → AnswerData
 filled_down f = record { text = fill_line f.count; status = 0; files = f.files }
 
 -- what filling a table into a sheet comes to
-abbrev pub filled : List ℕ → List ℕ → List EntryData → List ℕ → Outcome
-filled sheet table h bytes =
-    result_map_both filled_down table_fault (filled_file h sheet table bytes)
+abbrev pub fill_outcome : List ℕ → List ℕ → List EntryData → List ℕ → Outcome
+fill_outcome sheet table h bytes =
+    result_map_both filled_down table_file_fault (filled_file h sheet table bytes)
 
 -- the same of the file of the table, which is read after that of the sheet
 abbrev pub FillsTo : Option Files → List ℕ → List ℕ → List EntryData → Outcome → Type 0
 FillsTo files sheet table h outcome = OfSome files
-    (λ known. FileComesTo (faults.Missing table) (λ bytes end. end ≡ filled sheet table h bytes)
-    (known table) outcome)
+    (λ known. FileComesTo (faults.Missing table)
+    (λ bytes end. end ≡ fill_outcome sheet table h bytes) (known table) outcome)
 
 -- what so many steps of the work from a start come to: their text goes out
 abbrev pub WorkOf : ℕ → ℕ → Outcome → Type 0

@@ -3,8 +3,6 @@ use Rattle.std.specs.Prelude.{ℕ, List, ◌++◌, codes}
 use Rattle.std.specs.Fmt.{decimal}
 use Rattle.edit_entries.specs.declared.fault.EditFault.{EditFault}
 use Rattle.edit_entries.specs.declared.fault.EditFault.TheVariants as edit_faults
-use Rattle.geda_grammar.specs.declared.kind.ReadKind.{ReadKind}
-use Rattle.geda_grammar.specs.declared.kind.ReadKind.TheVariants as kinds
 use Rattle.project_files.specs.declared.fault.FileFault.{FileFault}
 use Rattle.project_files.specs.declared.fault.FileFault.TheVariants as file_faults
 use Rattle.renum_files.specs.declared.fault.RenumberFault.{RenumberFault}
@@ -20,6 +18,7 @@ use Rattle.table_files.specs.declared.fault.TableFileFault.{TableFileFault}
 use Rattle.table_files.specs.declared.fault.TableFileFault.TheVariants as table_faults
 use Rattle.table_files.specs.declared.fault.TableKind.{TableKind}
 use Rattle.table_files.specs.declared.fault.TableKind.TheVariants as table_kinds
+use Rattle.web_requests.specs.Bodies.{read_kind_name}
 use Rattle.gafd_run.specs.declared.fault.RunFault.{RunFault}
 use Rattle.gafd_run.specs.declared.fault.RunFault.TheVariants as faults
 
@@ -46,11 +45,11 @@ renumber_fault renumber_faults.ProjectFull = faults.ProjectFull
 renumber_fault renumber_faults.NoMemory = faults.NoMemory
 
 -- a fault of a sheet or of its table, as the program ends with it
-abbrev pub table_fault : TableFileFault → RunFault
-table_fault (table_faults.Refused file line kind) = faults.Refused file line kind
-table_fault (table_faults.EditRefused file fault) = faults.EditRefused file fault
-table_fault (table_faults.TableRefused file row kind) = faults.TableRefused file row kind
-table_fault table_faults.NoMemory = faults.NoMemory
+abbrev pub table_file_fault : TableFileFault → RunFault
+table_file_fault (table_faults.Refused file line kind) = faults.Refused file line kind
+table_file_fault (table_faults.EditRefused file fault) = faults.EditRefused file fault
+table_file_fault (table_faults.TableRefused file row kind) = faults.TableRefused file row kind
+table_file_fault table_faults.NoMemory = faults.NoMemory
 
 -- a fault that is met in serving, as the program ends with it
 abbrev pub serve_fault : ServeFault → RunFault
@@ -94,22 +93,6 @@ status_of (faults.RowDiffers serial) = 10
 status_of faults.NoPlace = 11
 status_of faults.NoMemory = 71
 
--- the name of a kind, as it prints
-abbrev pub kind_name : ReadKind → List ℕ
-kind_name kinds.NoVersion = codes "NoVersion"
-kind_name kinds.BadFormat = codes "BadFormat"
-kind_name kinds.UnknownLetter = codes "UnknownLetter"
-kind_name kinds.FieldCount = codes "FieldCount"
-kind_name kinds.BadNumber = codes "BadNumber"
-kind_name kinds.OutOfRange = codes "OutOfRange"
-kind_name kinds.BadAngle = codes "BadAngle"
-kind_name kinds.CutShort = codes "CutShort"
-kind_name kinds.StrayBracket = codes "StrayBracket"
-kind_name kinds.NotAttribute = codes "NotAttribute"
-kind_name kinds.Nested = codes "Nested"
-kind_name kinds.NotUtf8 = codes "NotUtf8"
-kind_name kinds.TooLarge = codes "TooLarge"
-
 -- the name of why an edit is refused
 abbrev pub edit_fault_name : EditFault → List ℕ
 edit_fault_name edit_faults.NoSheet = codes "NoSheet"
@@ -149,7 +132,7 @@ abbrev pub error_line : RunFault → List ℕ
 error_line (faults.Missing file) = codes "gafd: " ++ file ++ codes ": missing\n"
 error_line (faults.Refused file line kind) =
     codes "gafd: " ++ file ++ codes ":" ++ decimal line
-    ++ codes ": " ++ kind_name kind ++ codes "\n"
+    ++ codes ": " ++ read_kind_name kind ++ codes "\n"
 error_line (faults.EditRefused file fault) =
     codes "gafd: " ++ file ++ codes ": " ++ edit_fault_name fault ++ codes "\n"
 error_line (faults.TableRefused file row kind) =

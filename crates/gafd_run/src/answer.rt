@@ -1,7 +1,7 @@
 // What each command answers. The program ends with the answer, so that a net list is left to the
 // system, which takes all memory back at once.
 ghost use Rattle.std.specs.Prelude.{◌≡◌, ◌≢◌, ◌≤◌, ◌-◌, ◌^◌, AllPairs, IfOk, true, false, min, string_bytes};
-ghost use Rattle.pin_matrix.specs.MatrixFiles.{document_of};
+ghost use Rattle.pin_matrix.specs.MatrixFiles.{toml_document};
 ghost use Rattle.geda_defs.specs.Contents.{KeepsFiles};
 ghost use Rattle.command_words.specs.Commands.{IsAskable, most_steps};
 ghost use Rattle.command_words.specs.declared.command.Command.TheVariants.{Drc, Export, Netlist};
@@ -9,9 +9,9 @@ ghost use Rattle.command_words.specs.declared.command.Command.TheVariants.{Renum
 ghost use Rattle.command_words.specs.declared.command.Command.TheVariants.{Symcheck};
 ghost use Rattle.outside.specs.Counts.{counts};
 ghost use Rattle.project_files.specs.Measures.{LeavesIds, symbols_text};
-ghost use Rattle.gafd_run.specs.Answers.{ByNetList, CircuitOf, TextOf, WorkOf, checked};
-ghost use Rattle.gafd_run.specs.Answers.{RenumbersTo, is_symbol_name, listed, matrix_of};
-ghost use Rattle.gafd_run.specs.Answers.{renumber_line, reported};
+ghost use Rattle.gafd_run.specs.Answers.{ByNetList, CircuitOf, TextOf, WorkOf, checked_under};
+ghost use Rattle.gafd_run.specs.Answers.{RenumbersTo, is_symbol_name, listed, matrix_of_document};
+ghost use Rattle.gafd_run.specs.Answers.{check_reported, renumber_line};
 ghost use Rattle.gafd_run.specs.Answers.{symbols_reported, written_down};
 ghost use Rattle.gafd_run.specs.steps.Checking.{MatrixFrom};
 ghost use Rattle.gafd_run.specs.steps.Passing.{AnswerOf, ComesOf, IsOnFiles, Over};
@@ -28,7 +28,7 @@ use project_files::{
 };
 use project_model::Project;
 use renum_files::{FileText, RenumberedFiles, renumbered_files};
-use reports::{Check, Form, check, net_list};
+use reports::{Check, Form, check_and_nets, net_list};
 use spice_out::spice_text;
 use std::alloc::{AllocError, Global};
 use std::marker::Model;
@@ -98,7 +98,7 @@ fn circuit(alloc: Global, project: &Project) -> Result<Answer, RunFault>
 
 /// The answer of a check.
 fn reported(alloc: Global, check: Check) -> Answer
-    ensures { result ≡ reported check }
+    ensures { result ≡ check_reported check }
 {
     Answer {
         text: check.text,
@@ -107,11 +107,15 @@ fn reported(alloc: Global, check: Check) -> Answer
     }
 }
 
-/// The report of the check of a project under a matrix.
-fn checked(alloc: Global, matrix: &Matrix, project: &Project) -> Result<Answer, RunFault>
-    ensures { ComesOf (ByNetList (checked matrix.now) project.now.contents) result }
+/// The report of the check of a project under a matrix. The memory of the project and of its net
+/// list is left to the system, which takes it back as the program ends.
+fn checked(alloc: Global, matrix: &Matrix, project: Project) -> Result<Answer, RunFault>
+    ensures { ComesOf (ByNetList (checked_under matrix.now) project.contents) result }
 {
-    Ok(reported(alloc, check(alloc, matrix, project)?))
+    let (check, nets) = check_and_nets(alloc, matrix, &project)?;
+    forget(nets);
+    forget(project);
+    Ok(reported(alloc, check))
 }
 
 /// The canonical text of the sheet that these bytes spell.
@@ -176,7 +180,7 @@ fn spice<F: Folder>(alloc: Global, names: Items<Name>, folder: &mut F) -> Result
 
 /// The matrix that the bytes of a file are.
 fn matrix_in(alloc: Global, file: Name, bytes: &[u8]) -> Result<Matrix, RunFault>
-    ensures { ComesOf (λ read. read ≡ matrix_of file (document_of bytes.now)) result }
+    ensures { ComesOf (λ read. read ≡ matrix_of_document file (toml_document bytes.now)) result }
 {
     match Matrix::read(alloc, bytes) {
         Ok(matrix) => Ok(matrix),
@@ -220,7 +224,7 @@ fn drc<F: Folder>(
 {
     let matrix = matrix_of(alloc, matrix, folder)?;
     let project = project_of(alloc, names.as_slice(), folder)?;
-    checked(alloc, &matrix, &project)
+    checked(alloc, &matrix, project)
 }
 
 fn export<F: Folder>(alloc: Global, file: Name, folder: &mut F) -> Result<Answer, RunFault>

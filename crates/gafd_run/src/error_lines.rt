@@ -3,7 +3,7 @@ ghost use Rattle.std.specs.Prelude.{◌≡◌, ◌++◌, IfOk, IsErr, codes, str
 ghost use Rattle.std.specs.Fmt.{decimal};
 ghost use Rattle.std.specs.Cow.{cow_str_bytes};
 ghost use Rattle.printed_texts.specs.PrintedTexts.{word};
-ghost use Rattle.gafd_run.specs.Faults.{edit_fault_name, error_line, kind_name, status_of};
+ghost use Rattle.gafd_run.specs.Faults.{edit_fault_name, error_line, status_of};
 ghost use Rattle.gafd_run.specs.Faults.{table_kind_name};
 ghost use Rattle.outside.specs.Counts.{counts};
 ghost use Rattle.sinks.specs.Streams.{stream};
@@ -12,13 +12,13 @@ ghost use Rattle.gafd_run.specs.steps.Passing.{Reports, TakesMemory};
 
 use crate::fault::RunFault;
 use edit_entries::EditFault;
-use geda_grammar::ReadKind;
 use geda_model::Line;
 use printed_texts::name_words;
 use sinks::Sink;
 use std::alloc::{AllocError, Global};
 use std::borrow::CowStr;
 use table_files::TableKind;
+use web_requests::read_kind_name;
 
 const OUT_OF_MEMORY: &str = "gafd: out of memory\n";
 
@@ -48,26 +48,6 @@ fn status_of(fault: &RunFault) -> u8
         RunFault::RowDiffers { .. } => 10,
         RunFault::NoPlace => 11,
         RunFault::NoMemory => 71,
-    }
-}
-
-fn kind_name(kind: ReadKind) -> &'static str
-    ensures { result.now ≡ kind_name kind }
-{
-    match kind {
-        ReadKind::NoVersion => "NoVersion",
-        ReadKind::BadFormat => "BadFormat",
-        ReadKind::UnknownLetter => "UnknownLetter",
-        ReadKind::FieldCount => "FieldCount",
-        ReadKind::BadNumber => "BadNumber",
-        ReadKind::OutOfRange => "OutOfRange",
-        ReadKind::BadAngle => "BadAngle",
-        ReadKind::CutShort => "CutShort",
-        ReadKind::StrayBracket => "StrayBracket",
-        ReadKind::NotAttribute => "NotAttribute",
-        ReadKind::Nested => "Nested",
-        ReadKind::NotUtf8 => "NotUtf8",
-        ReadKind::TooLarge => "TooLarge",
     }
 }
 
@@ -170,7 +150,7 @@ fn error_line(alloc: Global, fault: &RunFault) -> Result<CowStr<'static>, AllocE
     match fault {
         RunFault::Missing { file } => file_line(alloc, file.as_str(), ": missing\n"),
         RunFault::Refused { file, line, kind } => {
-            let text = refused_line(alloc, file.as_str(), *line, kind_name(*kind))?;
+            let text = refused_line(alloc, file.as_str(), *line, read_kind_name(*kind))?;
             Ok(CowStr::Owned(text))
         }
         RunFault::EditRefused { file, fault } => {

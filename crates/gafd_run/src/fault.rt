@@ -1,7 +1,7 @@
 // Why the program ends otherwise than with an answer.
 ghost use Rattle.std.specs.Prelude.{◌≡◌};
 ghost use Rattle.gafd_run.specs.Faults.{circuit_fault, renumber_fault, run_fault, serve_fault};
-ghost use Rattle.gafd_run.specs.Faults.{table_fault};
+ghost use Rattle.gafd_run.specs.Faults.{table_file_fault};
 ghost use Rattle.gafd_run.specs.Faults.{storing_fault};
 ghost use Rattle.gafd_run.specs.steps.Passing.{FromElaboration, FromFolder, FromWords};
 ghost use Rattle.gafd_run.specs.declared.fault.RunFault.TheVariants.{NoMemory, OutputFault};
@@ -213,7 +213,7 @@ impl From<RenumberFault> for RunFault {
 }
 
 impl From<TableFileFault> for RunFault {
-    ghost from_gives = { λ fault e. e ≡ table_fault fault };
+    ghost from_gives = { λ fault e. e ≡ table_file_fault fault };
 
     fn from(fault: TableFileFault) -> RunFault {
         match fault {

@@ -5,7 +5,7 @@ ghost use Rattle.command_words.specs.declared.command.Command.TheVariants.{Fill,
 ghost use Rattle.outside.specs.Counts.{counts};
 ghost use Rattle.attr_table.specs.SheetTables.{table_text};
 ghost use Rattle.edit_rules.specs.Histories.{project};
-ghost use Rattle.gafd_run.specs.Answers.{FillsTo, all_well, fill_line, filled, filled_down};
+ghost use Rattle.gafd_run.specs.Answers.{FillsTo, all_well, fill_line, fill_outcome, filled_down};
 ghost use Rattle.gafd_run.specs.steps.Passing.{AnswerOf, ComesOf, Over};
 ghost use Rattle.gafd_run.specs.steps.Tables.{OpenedFrom, OpensAs};
 
@@ -92,7 +92,8 @@ fn filled_in(
     table: &Name,
     bytes: &[u8],
 ) -> Result<Answer, RunFault>
-    ensures { ComesOf (λ end. end ≡ filled sheet.now table.now desk.history bytes.now) result }
+    ensures { ComesOf
+        (λ end. end ≡ fill_outcome sheet.now table.now desk.history bytes.now) result }
 {
     let filled = filled_file(alloc, desk, sheet, table, bytes)?;
     Ok(filled_down(alloc, filled)?)

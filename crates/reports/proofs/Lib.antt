@@ -1,3 +1,3 @@
 mod NetListLemmas
-mod ReportLemmas
+pub mod ReportLemmas
 mod RowLemmas

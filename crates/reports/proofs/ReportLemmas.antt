@@ -10,7 +10,7 @@ use Rattle.pin_matrix.specs.declared.level.Level.{Level}
 use Rattle.reports.specs.declared.fault.ReportFault.{ReportFault}
 use Rattle.reports.specs.declared.fault.ReportFault.TheVariants as faults
 use Rattle.reports.specs.declared.what.What.TheVariants.{Net, Drc}
-use Rattle.reports.specs.NetLists.{CheckData, Elaborates, OfNetList, checked, seen}
+use Rattle.reports.specs.NetLists.{CheckData, Elaborates, OfNetList, checked, seen_text}
 use Rattle.reports.specs.Reports.{Reports}
 use Rattle.reports.specs.Faults.{FromElaboration}
 use Rattle.reports.proofs.NetListLemmas.{further}
@@ -25,7 +25,7 @@ pub net_told : (p : ProjectData) (matrix : List Level) (form : Form) (text : Lis
 net_told p matrix form text made = further elaboration.TooManyInstances (net_text form) (λ t. t) as_report p (Ok text) made
 
 -- a net list that there is not
-pub net_refused : (p : ProjectData) (matrix : List Level) (form : Form) (f : ElabFault) (r : Result (Vec ℕ Global) ReportFault) → IsErrAnd r (FromElaboration f) → Elaborates (OfNetList elaboration.TooManyInstances (net_text form) p) (Err f) → Reports p matrix (Net form) (seen r)
+pub net_refused : (p : ProjectData) (matrix : List Level) (form : Form) (f : ElabFault) (r : Result (Vec ℕ Global) ReportFault) → IsErrAnd r (FromElaboration f) → Elaborates (OfNetList elaboration.TooManyInstances (net_text form) p) (Err f) → Reports p matrix (Net form) (seen_text r)
 net_refused p matrix form f (Ok text) is made = absurd is
 net_refused p matrix form elaboration.TooManyInstances (Err e) is made = rw is (further elaboration.TooManyInstances (net_text form) (λ t. t) as_report p (Err elaboration.TooManyInstances) made)
 net_refused p matrix form elaboration.NoMemory (Err e) is made = rw is tt

@@ -44,5 +44,5 @@ Elaborates Comes (Err faults.NoMemory) = ⊤
 Elaborates Comes outcome = Comes outcome
 
 -- a text as contracts see it
-abbrev pub seen : {E : Type 0} → Result (Vec ℕ Global) E → Result (List ℕ) E
-seen result = result_map_both (λ text. text.items) (λ fault. fault) result
+abbrev pub seen_text : {E : Type 0} → Result (Vec ℕ Global) E → Result (List ℕ) E
+seen_text result = result_map_both (λ text. text.items) (λ fault. fault) result

@@ -10,7 +10,7 @@ use Rattle.reports.specs.declared.fault.ReportFault.TheVariants as faults
 use Rattle.reports.specs.declared.what.What.{What}
 use Rattle.reports.specs.declared.what.What.TheVariants.{Net, Drc, Sheet, Symbol, Objects, Sheets}
 use Rattle.reports.specs.NetLists.{OfNetList, checked}
-use Rattle.reports.specs.SheetTexts.{objects_text, sheet_of, sheets_text}
+use Rattle.reports.specs.SheetTexts.{objects_text, sheet_under, sheets_text}
 
 -- the text of what is there; a fault, where nothing is
 abbrev pub text_or : {A : Type 0} →
@@ -26,7 +26,8 @@ ReportsTo p matrix (Net form) outcome =
 ReportsTo p matrix Drc outcome =
     OfNetList faults.TooManyInstances (λ nets. (checked p matrix nets).text) p outcome
 ReportsTo p matrix (Sheet name) outcome =
-    outcome ≡ text_or faults.NoSheet (λ head. sheet_text (sheet_of p name head)) (get p.sheets name)
+    outcome ≡ text_or faults.NoSheet (λ head. sheet_text (sheet_under p name head))
+    (get p.sheets name)
 ReportsTo p matrix (Symbol name) outcome =
     outcome ≡ text_or faults.NoSymbol symbol_text (get p.symbols name)
 ReportsTo p matrix (Objects name) outcome =

@@ -19,18 +19,18 @@ abbrev pub objects_on : ProjectData → List ℕ → List (ℕ × Placed)
 objects_on p name = filter (is_on name) (entries p.objects)
 
 -- a sheet of a project under its version line
-abbrev pub sheet_of : ProjectData → List ℕ → HeadData → SheetData
-sheet_of p name head =
+abbrev pub sheet_under : ProjectData → List ℕ → HeadData → SheetData
+sheet_under p name head =
     record { head = head; objects = map (λ row. row.1.object) (objects_on p name) }
 
 -- the letter of an object
-abbrev pub letter_of : Body → ℕ
-letter_of (bodies.Shape s) = byte_of (letter_of_shape s)
-letter_of (bodies.Component c) = byte_of letters.Component
+abbrev pub object_letter : Body → ℕ
+object_letter (bodies.Shape s) = byte_of (letter_of_shape s)
+object_letter (bodies.Component c) = byte_of letters.Component
 
 -- an object: its id and its letter
 abbrev pub object_line : ℕ × Placed → List ℕ
-object_line row = ended (decimal row.0 ++ 32 ∷ letter_of row.1.object.body ∷ [])
+object_line row = ended (decimal row.0 ++ 32 ∷ object_letter row.1.object.body ∷ [])
 
 -- a line for each object of a sheet, by id
 abbrev pub objects_text : ProjectData → List ℕ → List ℕ

@@ -2,8 +2,8 @@
 ghost use Rattle.std.specs.Prelude.{◌≡◌};
 ghost use Rattle.std.specs.FinMap.{get};
 ghost use Rattle.geda_grammar.specs.Canonical.{sheet_text as canonical, symbol_text};
-ghost use Rattle.reports.specs.NetLists.{seen};
-ghost use Rattle.reports.specs.SheetTexts.{objects_text, sheet_of};
+ghost use Rattle.reports.specs.NetLists.{seen_text};
+ghost use Rattle.reports.specs.SheetTexts.{objects_text, sheet_under};
 ghost use Rattle.reports.specs.Reports.{Reports, text_or};
 ghost use Rattle.reports.specs.steps.Faults.{Told};
 
@@ -21,8 +21,8 @@ use std::alloc::{AllocError, Global};
 /// The canonical text of the sheet of a name.
 fn sheet_report(alloc: Global, project: &Project, name: &Name) -> Result<Vec<u8>, ReportFault>
     ensures { Told (text_or ReportFault.NoSheet
-        (λ head. canonical (sheet_of project.now.contents name.now head))
-        (get project.now.contents.sheets name.now)) (seen result) }
+        (λ head. canonical (sheet_under project.now.contents name.now head))
+        (get project.now.contents.sheets name.now)) (seen_text result) }
 {
     let head = project.head(name).ok_or(ReportFault::NoSheet)?;
     Ok(sheet_text(alloc, project, name, head)?)
@@ -31,7 +31,7 @@ fn sheet_report(alloc: Global, project: &Project, name: &Name) -> Result<Vec<u8>
 /// The canonical text of the symbol of a name.
 fn symbol_report(alloc: Global, project: &Project, name: &Name) -> Result<Vec<u8>, ReportFault>
     ensures { Told (text_or ReportFault.NoSymbol symbol_text
-        (get project.now.contents.symbols name.now)) (seen result) }
+        (get project.now.contents.symbols name.now)) (seen_text result) }
 {
     let symbol = project.symbol(name).ok_or(ReportFault::NoSymbol)?;
     Ok(symbol_text(alloc, symbol)?)
@@ -40,7 +40,7 @@ fn symbol_report(alloc: Global, project: &Project, name: &Name) -> Result<Vec<u8
 /// The lines of the objects of the sheet of a name.
 fn objects_report(alloc: Global, project: &Project, name: &Name) -> Result<Vec<u8>, ReportFault>
     ensures { Told (text_or ReportFault.NoSheet (λ head. objects_text project.now.contents name.now)
-        (get project.now.contents.sheets name.now)) (seen result) }
+        (get project.now.contents.sheets name.now)) (seen_text result) }
 {
     if project.head(name).is_none() {
         return Err(ReportFault::NoSheet);
@@ -60,7 +60,7 @@ pub fn report(
     matrix: &Matrix,
 ) -> Result<Vec<u8>, ReportFault>
     ensures { Reports board.now.project matrix.now what.now
-        (seen result) }
+        (seen_text result) }
 {
     let project = board.project();
     match what {

@@ -19,5 +19,5 @@ pub use check_report::Check;
 pub use each_report::report;
 pub use fault::ReportFault;
 pub use net_list::Form;
-pub use net_lists::{check, net_list, net_report};
+pub use net_lists::{check, check_and_nets, net_list, net_report};
 pub use what::What;

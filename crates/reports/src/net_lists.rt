@@ -2,7 +2,7 @@
 ghost use Rattle.sheet_groups.specs.Conductors.{sheet_conductors};
 ghost use Rattle.sheet_groups.specs.Groups.{AreGroups};
 ghost use Rattle.backends.specs.Forms.{net_text};
-ghost use Rattle.reports.specs.NetLists.{Elaborates, OfNetList, checked, seen};
+ghost use Rattle.reports.specs.NetLists.{Elaborates, OfNetList, checked, seen_text};
 
 use crate::check_report::{Check, reported};
 use backends::net_text;
@@ -39,7 +39,7 @@ fn net_report_by(
     requires { AreGroups (sheet_conductors project.now.contents) groups.now }
     ensures { Elaborates
         (OfNetList ElabFault.TooManyInstances (net_text form) project.now.contents)
-        (seen result) }
+        (seen_text result) }
 {
     let hierarchy = elaborate(alloc, project)?;
     let nets = join(alloc, project, &hierarchy, groups)?;
@@ -52,7 +52,7 @@ fn net_report_by(
 pub fn net_report(alloc: Global, form: Form, project: &Project) -> Result<Vec<u8>, ElabFault>
     ensures { Elaborates
         (OfNetList ElabFault.TooManyInstances (net_text form) project.now.contents)
-        (seen result) }
+        (seen_text result) }
 {
     let groups = local_groups(alloc, project)?;
     net_report_by(alloc, form, project, &groups)
@@ -62,14 +62,34 @@ pub fn net_report(alloc: Global, form: Form, project: &Project) -> Result<Vec<u8
 pub(crate) fn board_report(alloc: Global, form: Form, board: &Board) -> Result<Vec<u8>, ElabFault>
     ensures { Elaborates
         (OfNetList ElabFault.TooManyInstances (net_text form) board.now.project)
-        (seen result) }
+        (seen_text result) }
 {
     let groups = board.local_groups(alloc)?;
     net_report_by(alloc, form, board.project(), &groups)
 }
 
-/// The report of the check of a project with these groups, under a matrix. Its objects in instances
-/// are made once, for the net list and for the findings.
+/// The report of the check of a project with these groups, under a matrix, and the net list that
+/// it is made by. Its objects in instances are made once, for the net list and for the findings.
+fn check_and_nets_by(
+    alloc: Global,
+    matrix: &Matrix,
+    project: &Project,
+    groups: &[(Key, Key)],
+) -> Result<(Check, Nets), ElabFault>
+    requires { AreGroups (sheet_conductors project.now.contents) groups.now }
+    ensures { Elaborates
+        (OfNetList ElabFault.TooManyInstances
+        (λ nets. (checked project.now.contents matrix.now nets, nets))
+        project.now.contents) result }
+{
+    let hierarchy = elaborate(alloc, project)?;
+    let objects = InstanceObjects::of(alloc, project, hierarchy.instances.as_slice())?;
+    let nets = join_objects(alloc, &objects, groups)?;
+    let found = findings_on(alloc, &objects, hierarchy.lost.as_slice(), &nets, matrix)?;
+    Ok((reported(alloc, &found)?, nets))
+}
+
+/// The report of the check of a project with these groups, under a matrix.
 fn check_by(
     alloc: Global,
     matrix: &Matrix,
@@ -81,11 +101,26 @@ fn check_by(
         (OfNetList ElabFault.TooManyInstances (checked project.now.contents matrix.now)
         project.now.contents) result }
 {
-    let hierarchy = elaborate(alloc, project)?;
-    let objects = InstanceObjects::of(alloc, project, hierarchy.instances.as_slice())?;
-    let nets = join_objects(alloc, &objects, groups)?;
-    let found = findings_on(alloc, &objects, hierarchy.lost.as_slice(), &nets, matrix)?;
-    Ok(reported(alloc, &found)?)
+    let (check, _) = check_and_nets_by(alloc, matrix, project, groups)?;
+    Ok(check)
+}
+
+/// The report of the check of a project under a matrix, and the net list that it is made by, for
+/// who leaves its memory to the system (docs/RULES.md, "Findings").
+///
+/// `TooManyInstances` exactly where the limits of a hierarchy are exceeded.
+pub fn check_and_nets(
+    alloc: Global,
+    matrix: &Matrix,
+    project: &Project,
+) -> Result<(Check, Nets), ElabFault>
+    ensures { Elaborates
+        (OfNetList ElabFault.TooManyInstances
+        (λ nets. (checked project.now.contents matrix.now nets, nets))
+        project.now.contents) result }
+{
+    let groups = local_groups(alloc, project)?;
+    check_and_nets_by(alloc, matrix, project, &groups)
 }
 
 /// The report of the check of a project under a matrix (docs/RULES.md, "Findings").

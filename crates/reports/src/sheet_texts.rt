@@ -9,8 +9,8 @@ ghost use Rattle.geda_model.specs.declared.object.Body.TheVariants as bodies;
 ghost use Rattle.geda_grammar.specs.Canonical.{sheet_text};
 ghost use Rattle.printed_texts.specs.PrintedTexts.{word};
 ghost use Rattle.instance_objects.specs.SheetIds.{AreIdsBySheet};
-ghost use Rattle.reports.specs.SheetTexts.{letter_of, object_line, objects_on, objects_text};
-ghost use Rattle.reports.specs.SheetTexts.{sheet_line, sheet_of, sheets_text};
+ghost use Rattle.reports.specs.SheetTexts.{object_letter, object_line, objects_on, objects_text};
+ghost use Rattle.reports.specs.SheetTexts.{sheet_line, sheet_under, sheets_text};
 ghost use Rattle.reports.specs.steps.Rows.{row_text};
 
 use geda_model::{Body, Head, Items, Name, Object, Shape};
@@ -72,7 +72,7 @@ pub fn sheet_text(
     head: &Head,
 ) -> Result<Vec<u8>, AllocError>
     ensures { IfOk result
-        (λ text. text.items ≡ sheet_text (sheet_of project.now.contents name.now head.now)) }
+        (λ text. text.items ≡ sheet_text (sheet_under project.now.contents name.now head.now)) }
 {
     let rows = objects_on(alloc, project, name)?;
     let mut text = head_text(alloc, head)?;
@@ -81,7 +81,7 @@ pub fn sheet_text(
 }
 
 fn letter_of_shape(shape: &Shape) -> u8
-    ensures { result ≡ letter_of (bodies.Shape shape.now) }
+    ensures { result ≡ object_letter (bodies.Shape shape.now) }
 {
     match shape {
         Shape::Straight { .. } => b'L',
@@ -98,7 +98,7 @@ fn letter_of_shape(shape: &Shape) -> u8
 }
 
 fn letter_of(body: &Body) -> u8
-    ensures { result ≡ letter_of body.now }
+    ensures { result ≡ object_letter body.now }
 {
     match body {
         Body::Shape(shape) => letter_of_shape(shape),
@@ -114,7 +114,7 @@ fn put_object_line(
     object: &Object,
 ) -> Result<(), AllocError>
     ensures { OnOk result (text.new.items ≡ text.old.items ++ ended
-        (decimal id ++ 32 ∷ letter_of object.now.body ∷ [])) }
+        (decimal id ++ 32 ∷ object_letter object.now.body ∷ [])) }
 {
     let number = format!(in alloc; "{id} ")?;
     text.extend_from_slice(number.as_bytes())?;

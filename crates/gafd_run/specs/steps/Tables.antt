@@ -6,7 +6,7 @@ use Rattle.edit_desk.specs.Desks.{DeskView}
 use Rattle.edit_entries.specs.Entries.{EntryData}
 use Rattle.geda_defs.specs.Contents.{Files}
 use Rattle.project_files.specs.ProjectFiles.{OfSome}
-use Rattle.gafd_run.specs.Answers.{OpensTo, opened}
+use Rattle.gafd_run.specs.Answers.{OpensTo, opened_history}
 use Rattle.gafd_run.specs.declared.fault.RunFault.{RunFault}
 
 -- the history of a desk, or the fault
@@ -15,7 +15,7 @@ history_in read = result_map_both (λ desk. desk.history) (λ fault. fault) read
 
 -- what the bytes of a sheet come to, opened as a desk
 abbrev pub OpensAs : List ℕ → List ℕ → Result DeskView RunFault → Type 0
-OpensAs sheet bytes read = history_in read ≡ opened sheet bytes
+OpensAs sheet bytes read = history_in read ≡ opened_history sheet bytes
 
 -- what its file comes to
 abbrev pub OpenedFrom : Option Files → List ℕ → Result DeskView RunFault → Type 0

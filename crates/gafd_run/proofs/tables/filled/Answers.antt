@@ -3,7 +3,7 @@ use Rattle.std.proofs.lemmas.Result.{err_from_is_err_and}
 use Rattle.project_files.specs.FileReads.{FileComesTo}
 use Rattle.project_files.proofs.Reading.{bytes_in, of_read}
 use Rattle.gafd_run.specs.Answers.{FillsTo, Outcome}
-use Rattle.gafd_run.specs.Answers.{filled as filling}
+use Rattle.gafd_run.specs.Answers.{fill_outcome}
 use Rattle.gafd_run.specs.declared.fault.RunFault.TheVariants as faults
 use Rattle.gafd_run.specs.steps.Passing.{ComesOf}
 use Rattle.gafd_run.proofs.Passing.{answer_from}
@@ -16,9 +16,9 @@ returns-in-Some-clause-answer g c =
     let table = c.args.table.now in
     let h = c.args.desk.history in
     let files = g.F.Folder.files c.args.folder.now in
-    answer_from _ (λ (end : Outcome). end ≡ filling sheet table h c.in-Some.bytes.items) (FillsTo files sheet table h) c.filled_in.result
-    (λ r is. of_read bytes_in table c.as_str.result.now files (Some c.in-Some.bytes) c.read.result (λ file. FileComesTo (faults.Missing table) (λ bytes end. end ≡ filling sheet table h bytes) file r) c.as_str.ensures.text (c.in_ok-bytes.was ∙ ap Ok c.in-Some.is) (fills_whole sheet table h r) c.read.ensures.file is)
-    (subst (λ (bytes : List ℕ). ComesOf (λ (end : Outcome). end ≡ filling sheet table h bytes) c.filled_in.result) c.deref.ensures.value c.filled_in.ensures)
+    answer_from _ (λ (end : Outcome). end ≡ fill_outcome sheet table h c.in-Some.bytes.items) (FillsTo files sheet table h) c.filled_in.result
+    (λ r is. of_read bytes_in table c.as_str.result.now files (Some c.in-Some.bytes) c.read.result (λ file. FileComesTo (faults.Missing table) (λ bytes end. end ≡ fill_outcome sheet table h bytes) file r) c.as_str.ensures.text (c.in_ok-bytes.was ∙ ap Ok c.in-Some.is) (fills_whole sheet table h r) c.read.ensures.file is)
+    (subst (λ (bytes : List ℕ). ComesOf (λ (end : Outcome). end ≡ fill_outcome sheet table h bytes) c.filled_in.result) c.deref.ensures.value c.filled_in.ensures)
 
 pub returns-in_ok-clone-in-None-clause-answer : goal.returns-in_ok-clone-in-None-clause-answer
 returns-in_ok-clone-in-None-clause-answer g c =
@@ -27,7 +27,7 @@ returns-in_ok-clone-in-None-clause-answer g c =
     let h = c.args.desk.history in
     let files = g.F.Folder.files c.args.folder.now in
     subst (λ (n : List ℕ). FillsTo files sheet table h (Err (faults.Missing n))) (sym c.in_ok-clone-in-None.ensures.cases)
-    (of_read bytes_in table c.as_str.result.now files None c.read.result (λ file. FileComesTo (faults.Missing table) (λ bytes end. end ≡ filling sheet table h bytes) file (Err (faults.Missing table))) c.as_str.ensures.text (c.in_ok-bytes.was ∙ ap Ok c.in-None.is) (fills_whole sheet table h (Err (faults.Missing table))) c.read.ensures.file refl)
+    (of_read bytes_in table c.as_str.result.now files None c.read.result (λ file. FileComesTo (faults.Missing table) (λ bytes end. end ≡ fill_outcome sheet table h bytes) file (Err (faults.Missing table))) c.as_str.ensures.text (c.in_ok-bytes.was ∙ ap Ok c.in-None.is) (fills_whole sheet table h (Err (faults.Missing table))) c.read.ensures.file refl)
 
 pub returns-in_err-bytes-clause-answer : goal.returns-in_err-bytes-clause-answer
 returns-in_err-bytes-clause-answer g c =
