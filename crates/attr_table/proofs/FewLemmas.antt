@@ -16,9 +16,9 @@ use Rattle.project_model.specs.Projects.{ProjectData}
 use Rattle.project_model.specs.declared.change.Placed.{Placed}
 use Rattle.attr_table.specs.declared.fault.TableFault.{TableFault}
 use Rattle.attr_table.specs.Filling.{filled_by, filled_components}
-use Rattle.attr_table.specs.Records.{Record, each_after, first_field, later_fields}
+use Rattle.attr_table.specs.Records.{Record, each_after, first_record_field, later_fields}
 use Rattle.attr_table.specs.SheetTables.{component_in, components_in, numbered_in}
-use Rattle.attr_table.specs.TableFaults.{bad_value_column, component_at, component_named, first_fault, has_no_text, head_faults, id_of, is_bad_id, is_named_in, names_id, row_after, row_faults, table_fault, when}
+use Rattle.attr_table.specs.TableFaults.{bad_value_column, component_at, component_named, first_table_fault, has_no_text, head_faults, id_of, is_bad_id, is_named_in, names_id, row_after, row_faults, table_fault, fault_if}
 use Rattle.attr_table.specs.declared.fault.TableFault.TheVariants as faults
 
 none_of : {A : Type 0} {P : Type 0} (x : A) → Some x ≡ None → P
@@ -31,17 +31,17 @@ falsely_too : {P : Type 0} → false ≡ true → P
 falsely_too e = absurd (let t : false ≡ true = e in cc)
 
 -- no fault in all is none in each part
-pub no_fault_left : (xs ys : List (Option TableFault)) → first_fault (xs ++ ys) ≡ None → (first_fault xs ≡ None) × (first_fault ys ≡ None)
+pub no_fault_left : (xs ys : List (Option TableFault)) → first_table_fault (xs ++ ys) ≡ None → (first_table_fault xs ≡ None) × (first_table_fault ys ≡ None)
 no_fault_left [] ys e = (refl, e)
 no_fault_left (None ∷ xs) ys e = no_fault_left xs ys e
 no_fault_left (Some fault ∷ xs) ys e = none_of fault e
 
-when_none : (b : Bool) (fault : TableFault) → when b fault ≡ None → b ≡ false
+when_none : (b : Bool) (fault : TableFault) → fault_if b fault ≡ None → b ≡ false
 when_none true fault e = none_of fault e
 when_none false fault e = refl
 
 -- the parts of a list of faults that has none
-pub head_none : (o : Option TableFault) (rest : List (Option TableFault)) → first_fault (o ∷ rest) ≡ None → (o ≡ None) × (first_fault rest ≡ None)
+pub head_none : (o : Option TableFault) (rest : List (Option TableFault)) → first_table_fault (o ∷ rest) ≡ None → (o ≡ None) × (first_table_fault rest ≡ None)
 head_none None rest e = (refl, e)
 head_none (Some fault) rest e = none_of fault e
 
@@ -65,7 +65,7 @@ map_none f None e = refl
 map_none f (Some x) e = none_of (f x) e
 
 pub good_row : (p : ProjectData) (sheet : List ℕ) (head : Record) (earlier : List Record) (fields : Record)
-    → first_fault (row_faults p sheet head (earlier, fields)) ≡ None → IsGoodRow p sheet head earlier fields
+    → first_table_fault (row_faults p sheet head (earlier, fields)) ≡ None → IsGoodRow p sheet head earlier fields
 good_row p sheet head earlier fields e =
     let a = head_none _ _ e in
     let b = head_none _ _ a.1 in
@@ -82,30 +82,30 @@ good_row p sheet head earlier fields e =
 pub record HasComponent (p : ProjectData) (sheet : List ℕ) (earlier : List Record) (fields : Record) : Type 0 where
   pub id : ℕ
   pub o : ObjectData
-  pub named : id_of (first_field fields) ≡ Some id
+  pub named : id_of (first_record_field fields) ≡ Some id
   pub there : component_at p sheet id ≡ Some o
   pub fresh : list_any (names_id id) earlier ≡ false
 
 pub good_id : (p : ProjectData) (sheet : List ℕ) (earlier : List Record) (fields : Record) → is_bad_id p sheet earlier fields ≡ false → HasComponent p sheet earlier fields
-good_id p sheet earlier fields e = by (id_of (first_field fields)) refl (or_parts (not (is_some (component_named p sheet (first_field fields)))) (is_named_in earlier (id_of (first_field fields))) e)
+good_id p sheet earlier fields e = by (id_of (first_record_field fields)) refl (or_parts (not (is_some (component_named p sheet (first_record_field fields)))) (is_named_in earlier (id_of (first_record_field fields))) e)
   where
-    found : (id : ℕ) → id_of (first_field fields) ≡ Some id → list_any (names_id id) earlier ≡ false → (m : Option ObjectData) → component_at p sheet id ≡ m
+    found : (id : ℕ) → id_of (first_record_field fields) ≡ Some id → list_any (names_id id) earlier ≡ false → (m : Option ObjectData) → component_at p sheet id ≡ m
         → not (is_some m) ≡ false → HasComponent p sheet earlier fields
     found id named fresh None there gone = falsely gone
     found id named fresh (Some o) there gone = record { id = id; o = o; named = named; there = there; fresh = fresh }
 
-    by : (m : Option ℕ) → id_of (first_field fields) ≡ m
-        → (not (is_some (option_and_then (component_at p sheet) (id_of (first_field fields)))) ≡ false) × (is_named_in earlier (id_of (first_field fields)) ≡ false)
+    by : (m : Option ℕ) → id_of (first_record_field fields) ≡ m
+        → (not (is_some (option_and_then (component_at p sheet) (id_of (first_record_field fields)))) ≡ false) × (is_named_in earlier (id_of (first_record_field fields)) ≡ false)
         → HasComponent p sheet earlier fields
     by None named h = falsely (let t : true ≡ false = rw named at h.0 in t)
     by (Some id) named h = found id named (rw named at h.1) (component_at p sheet id) refl (rw named at h.0)
 
 -- the ids that records name
 abbrev pub ids_of : List Record → List ℕ
-ids_of rows = filter_map (λ (fields : Record). id_of (first_field fields)) rows
+ids_of rows = filter_map (λ (fields : Record). id_of (first_record_field fields)) rows
 
 abbrev pub AreGoodRows : ProjectData → List ℕ → Record → List Record → List Record → Type 0
-AreGoodRows p sheet head earlier rows = first_fault (flat_map (row_faults p sheet head) (each_after earlier rows)) ≡ None
+AreGoodRows p sheet head earlier rows = first_table_fault (flat_map (row_faults p sheet head) (each_after earlier rows)) ≡ None
 
 -- each is there, is no earlier one, and none stands twice
 pub record AreIds (p : ProjectData) (sheet : List ℕ) (earlier rows : List Record) : Type 0 where

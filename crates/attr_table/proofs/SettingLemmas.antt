@@ -5,7 +5,7 @@ use Rattle.std.proofs.lemmas.Bool.Decides.{nat_tests}
 use Rattle.edit_attr.specs.Attributes.{with_attr}
 use Rattle.edit_attr.specs.FirstPoints.{first_point}
 use Rattle.geda_model.specs.Sheets.{ObjectData}
-use Rattle.attr_table.specs.Cells.{Cell, can_be_set, counts, is_bad_cell, set_cell, set_cells}
+use Rattle.attr_table.specs.Cells.{Cell, can_be_set, cell_counts, is_bad_cell, set_cell, set_cells}
 use Rattle.attr_table.specs.Filling.{if_counts}
 use Rattle.attr_table.specs.TableFaults.{first_column}
 use Rattle.attr_table.specs.steps.Places.{texts_set}
@@ -22,19 +22,19 @@ any_counts {X} p (x ∷ xs) = by (p x) (any_counts p xs)
     by false h = h
 
 -- where none is bad, those that count can be set
-all_good : (o : ObjectData) (cells : List Cell) → list_any (is_bad_cell o) cells ≡ false → list_all can_be_set (filter (counts o) cells) ≡ true
+all_good : (o : ObjectData) (cells : List Cell) → list_any (is_bad_cell o) cells ≡ false → list_all can_be_set (filter (cell_counts o) cells) ≡ true
 all_good o [] e = refl
 all_good o (cell ∷ cells) e =
     let parts = first_good (is_bad_cell o) cell cells e in
-    by (counts o cell) refl parts.0 (all_good o cells parts.1)
+    by (cell_counts o cell) refl parts.0 (all_good o cells parts.1)
   where
-    by : (b : Bool) → counts o cell ≡ b → is_bad_cell o cell ≡ false → list_all can_be_set (filter (counts o) cells) ≡ true
-        → list_all can_be_set (cond b (cell ∷ filter (counts o) cells) (filter (counts o) cells)) ≡ true
+    by : (b : Bool) → cell_counts o cell ≡ b → is_bad_cell o cell ≡ false → list_all can_be_set (filter (cell_counts o) cells) ≡ true
+        → list_all can_be_set (cond b (cell ∷ filter (cell_counts o) cells) (filter (cell_counts o) cells)) ≡ true
     by true is good h = rw (can_set o cell is good) h
     by false is good h = h
 
 pub good_counting : (o : ObjectData) (column : ℕ) (cells : List Cell) → first_column (is_bad_cell o) column cells ≡ None
-    → list_all can_be_set (filter (counts o) cells) ≡ true
+    → list_all can_be_set (filter (cell_counts o) cells) ≡ true
 good_counting o column cells e = all_good o cells (none_bad (is_bad_cell o) column cells e)
 
 -- an object whose texts are those with these cells set
@@ -45,8 +45,8 @@ object_set o [] = refl
 object_set o (cell ∷ cells) = object_set (set_cell o cell) cells
 
 -- what is made of a component, where a cell counts and where none does
-pub made_none : (cells : List Cell) (id : ℕ) (o : ObjectData) → (length (filter (counts o) cells) == 0) ≡ true → if_counts cells id o ≡ None
-made_none cells id o e = rw (any_counts (counts o) cells, e) refl
+pub made_none : (cells : List Cell) (id : ℕ) (o : ObjectData) → (length (filter (cell_counts o) cells) == 0) ≡ true → if_counts cells id o ≡ None
+made_none cells id o e = rw (any_counts (cell_counts o) cells, e) refl
 
-pub made_some : (cells : List Cell) (id : ℕ) (o : ObjectData) → (length (filter (counts o) cells) == 0) ≡ false → if_counts cells id o ≡ Some (id, set_cells o cells)
-made_some cells id o e = rw (any_counts (counts o) cells, e) refl
+pub made_some : (cells : List Cell) (id : ℕ) (o : ObjectData) → (length (filter (cell_counts o) cells) == 0) ≡ false → if_counts cells id o ≡ Some (id, set_cells o cells)
+made_some cells id o e = rw (any_counts (cell_counts o) cells, e) refl

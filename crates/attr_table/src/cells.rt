@@ -9,11 +9,11 @@ ghost use Rattle.geda_model.specs.Limits.{most_lines};
 ghost use Rattle.geda_model.specs.Ranges.{line_feeds};
 ghost use Rattle.attr_rules.specs.Attributes.{value_if};
 ghost use Rattle.attr_rules.specs.Splits.{split_of, starts_well};
-ghost use Rattle.edit_attr.specs.Attributes.{attr_line, place_of};
+ghost use Rattle.edit_attr.specs.Attributes.{attr_line, attr_place};
 ghost use Rattle.edit_attr.specs.FirstPoints.{first_point};
-ghost use Rattle.attr_table.specs.Cells.{can_be_set, cells_of, counts, is_bad_cell, is_cr};
+ghost use Rattle.attr_table.specs.Cells.{can_be_set, cells_of, cell_counts, is_bad_cell, is_cr};
 ghost use Rattle.attr_table.specs.Cells.{set_cell};
-ghost use Rattle.attr_table.specs.Filling.{Answers};
+ghost use Rattle.attr_table.specs.Filling.{AnswersTable};
 ghost use Rattle.attr_table.specs.steps.LentTexts.{texts};
 ghost use Rattle.attr_table.specs.steps.Places.{ArePlaces, text_set, texts_set};
 ghost use Rattle.attr_table.specs.steps.Rows.{bad_value_of};
@@ -49,7 +49,7 @@ impl<'a> Model for Cell<'a> {
 /// no memory.
 fn counts(object: &Object, firsts: &BTreeMap<&str, usize>, cell: &Cell<'_>) -> bool
     requires { ArePlaces object.now.attrs firsts.now }
-    ensures { result ≡ counts object.now cell.now }
+    ensures { result ≡ cell_counts object.now cell.now }
 {
     if cell.value.is_empty() {
         return false;
@@ -132,7 +132,7 @@ fn put_counting<'a>(
     requires places { ArePlaces object.now.attrs firsts.now }
     ensures good { IfOk result (λ good. good ≡ not (is_bad_cell object.now cell.entry)) }
     ensures cells { IfOk result (λ good. good ≡ true → counting.new.items
-        ≡ counting.old.items ++ filter (counts object.now) (cell.entry ∷ [])) }
+        ≡ counting.old.items ++ filter (cell_counts object.now) (cell.entry ∷ [])) }
 {
     if !counts(object, firsts, &cell) {
         return Ok(true);
@@ -158,9 +158,9 @@ pub fn counting<'a>(
     requires few { length names.now + 1 ≤ 4294967295 }
     requires texts { list_all is_utf8 (fields_of source.now) ≡ true }
     requires width { length (fields_of source.now) ≡ length names.now + 1 }
-    ensures { Answers (λ v. v.items) result
+    ensures { AnswersTable (λ v. v.items) result
         (bad_value_of row object.now (cells_of (texts names.now) (fields_of source.now)))
-        (filter (counts object.now) (cells_of (texts names.now) (fields_of source.now))) }
+        (filter (cell_counts object.now) (cells_of (texts names.now) (fields_of source.now))) }
 {
     let mut counting = Vec::new(alloc);
     for place in 0..names.len() {
@@ -184,7 +184,7 @@ fn put_value(
 ) -> Result<(), AllocError>
     requires good { can_be_set (name.now, value.now) ≡ true }
     requires at { IsOnSheet at }
-    requires place { place ≡ place_of name.now texts.old.items }
+    requires place { place ≡ attr_place name.now texts.old.items }
     ensures { OnOk result
         (texts.new.items ≡ text_set at texts.old.items (name.now, value.now)) }
 {

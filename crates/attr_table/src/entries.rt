@@ -1,7 +1,7 @@
 // The entries of a table.
 ghost use Rattle.std.specs.Prelude.{◌≡◌, ◌+◌, ◌≤◌, IfOk, length, min};
 ghost use Rattle.geda_grammar.specs.Canonical.{object_text};
-ghost use Rattle.attr_table.specs.Filling.{Answers, entries_from, entry_of, filled_components};
+ghost use Rattle.attr_table.specs.Filling.{AnswersTable, entries_from, component_entry, filled_components};
 ghost use Rattle.attr_table.specs.Filling.{table_entries};
 ghost use Rattle.attr_table.specs.Records.{records_of};
 ghost use Rattle.attr_table.specs.SheetTables.{components_in};
@@ -36,7 +36,8 @@ fn entry_of(
     object: &Object,
 ) -> Result<Entry, AllocError>
     requires { 1 ≤ number }
-    ensures { IfOk result (λ entry. entry ≡ entry_of session.now number base (id, object.now)) }
+    ensures { IfOk result (λ entry. entry ≡
+        component_entry session.now number base (id, object.now)) }
 {
     let text = object_block(alloc, object)?;
     let session = session.clone()?;
@@ -83,7 +84,7 @@ pub fn components_of(
     table: &[u8],
 ) -> Result<Vec<(u32, Object)>, TableFault>
     requires short { length table.now ≤ 4294967295 }
-    ensures made { Answers (λ v. v.items) result
+    ensures made { AnswersTable (λ v. v.items) result
         (table_fault project.now.contents sheet.now (records_of table.now))
         (filled_components project.now.contents sheet.now (records_of table.now)) }
     ensures few { IfOk result
@@ -117,7 +118,7 @@ pub fn entries_of(
     requires first { 1 ≤ first }
     requires last { first + min (length (components_in project.now.contents sheet.now))
         (length table.now) ≤ 4294967295 }
-    ensures { Answers (λ v. v.items) result
+    ensures { AnswersTable (λ v. v.items) result
         (table_fault project.now.contents sheet.now (records_of table.now))
         (table_entries project.now.contents sheet.now (records_of table.now)
         session.now first base) }

@@ -3,10 +3,10 @@ ghost use Rattle.std.specs.Prelude.{◌≡◌, ◌+◌, ◌≤◌, ◌∷◌, �
 ghost use Rattle.std.specs.List.{filter_map};
 ghost use Rattle.std.specs.Str.{bytes_eq};
 ghost use Rattle.csv.specs.Records.{fields_of};
-ghost use Rattle.attr_table.specs.Filling.{Answers, filled_by, filled_components};
-ghost use Rattle.attr_table.specs.Records.{first_field, later_fields};
+ghost use Rattle.attr_table.specs.Filling.{AnswersTable, filled_by, filled_components};
+ghost use Rattle.attr_table.specs.Records.{first_record_field, later_fields};
 ghost use Rattle.attr_table.specs.SheetTables.{head_record};
-ghost use Rattle.attr_table.specs.TableFaults.{first_fault, table_fault};
+ghost use Rattle.attr_table.specs.TableFaults.{first_table_fault, table_fault};
 ghost use Rattle.attr_table.specs.steps.LentTexts.{texts};
 ghost use Rattle.attr_table.specs.steps.Rows.{AreNarrow, faults_after, field_bytes, name_faults};
 ghost use Rattle.attr_table.specs.steps.Rows.{records_now};
@@ -27,7 +27,7 @@ fn is_id(field: &[u8]) -> bool
 }
 
 fn begins_with_id(head: &ByteRecord) -> bool
-    ensures { result ≡ bytes_eq (first_field (fields_of head.now)) (codes "id") }
+    ensures { result ≡ bytes_eq (first_record_field (fields_of head.now)) (codes "id") }
 {
     match head.get(0) {
         Some(field) => is_id(field),
@@ -44,8 +44,8 @@ fn fill_named(
 ) -> Result<Vec<(u32, Object)>, TableFault>
     requires few { length names.now + 1 ≤ 4294967295 }
     requires rows { length rows.now + 1 ≤ 4294967295 }
-    ensures { Answers (λ v. v.items) result
-        (first_fault (name_faults (texts names.now)
+    ensures { AnswersTable (λ v. v.items) result
+        (first_table_fault (name_faults (texts names.now)
         ++ faults_after project.now.contents sheet.now (head_record (texts names.now))
         (head_record (texts names.now) ∷ []) (records_now rows.now)))
         (filter_map (filled_by project.now.contents sheet.now (texts names.now))
@@ -65,10 +65,10 @@ fn fill_texts(
     rows: &[ByteRecord],
 ) -> Result<Vec<(u32, Object)>, TableFault>
     requires narrow { field_bytes (texts fields.now) ≤ 4294967296 }
-    requires first { bytes_eq (first_field (texts fields.now)) (codes "id") ≡ true }
+    requires first { bytes_eq (first_record_field (texts fields.now)) (codes "id") ≡ true }
     requires rows { length rows.now + 1 ≤ 4294967295 }
-    ensures { Answers (λ v. v.items) result
-        (first_fault (name_faults (later_fields (texts fields.now))
+    ensures { AnswersTable (λ v. v.items) result
+        (first_table_fault (name_faults (later_fields (texts fields.now))
         ++ faults_after project.now.contents sheet.now (texts fields.now)
         (texts fields.now ∷ []) (records_now rows.now)))
         (filter_map (filled_by project.now.contents sheet.now (later_fields (texts fields.now)))
@@ -89,7 +89,7 @@ fn fill_under(
 ) -> Result<Vec<(u32, Object)>, TableFault>
     requires narrow { field_bytes (fields_of head.now) ≤ 4294967296 }
     requires rows { length rows.now + 1 ≤ 4294967295 }
-    ensures { Answers (λ v. v.items) result
+    ensures { AnswersTable (λ v. v.items) result
         (table_fault project.now.contents sheet.now (fields_of head.now ∷ records_now rows.now))
         (filled_components project.now.contents sheet.now
         (fields_of head.now ∷ records_now rows.now)) }
@@ -112,7 +112,7 @@ pub fn fill(
 ) -> Result<Vec<(u32, Object)>, TableFault>
     requires few { length records.now ≤ 4294967295 }
     requires narrow { AreNarrow 4294967296 (records_now records.now) }
-    ensures { Answers (λ v. v.items) result
+    ensures { AnswersTable (λ v. v.items) result
         (table_fault project.now.contents sheet.now (records_now records.now))
         (filled_components project.now.contents sheet.now (records_now records.now)) }
 {

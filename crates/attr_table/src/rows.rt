@@ -5,9 +5,9 @@ ghost use Rattle.std.specs.List.{filter_map, list_all};
 ghost use Rattle.std.specs.Str.{is_utf8};
 ghost use Rattle.csv.specs.Records.{fields_of};
 ghost use Rattle.attr_table.specs.Cells.{cells_of};
-ghost use Rattle.attr_table.specs.Filling.{Answers, filled_by, if_counts};
-ghost use Rattle.attr_table.specs.TableFaults.{first_fault, names_id};
-ghost use Rattle.attr_table.specs.Records.{first_field};
+ghost use Rattle.attr_table.specs.Filling.{AnswersTable, filled_by, if_counts};
+ghost use Rattle.attr_table.specs.TableFaults.{first_table_fault, names_id};
+ghost use Rattle.attr_table.specs.Records.{first_record_field};
 ghost use Rattle.attr_table.specs.SheetTables.{head_record};
 ghost use Rattle.attr_table.specs.steps.LentTexts.{texts};
 ghost use Rattle.attr_table.specs.steps.Rows.{bad_value_of, faults_after, field_faults_if, has_id};
@@ -37,7 +37,7 @@ fn fill_component(
     requires few { length names.now + 1 ≤ 4294967295 }
     requires texts { list_all is_utf8 (fields_of source.now) ≡ true }
     requires width { length (fields_of source.now) ≡ length names.now + 1 }
-    ensures { Answers (λ o. o) result
+    ensures { AnswersTable (λ o. o) result
         (bad_value_of row object.now (cells_of (texts names.now) (fields_of source.now)))
         (if_counts (cells_of (texts names.now) (fields_of source.now)) id object.now) }
 {
@@ -66,9 +66,10 @@ fn fill_texts(
 ) -> Result<Option<(u32, Object)>, TableFault>
     requires few { length names.now + 1 ≤ 4294967295 }
     requires texts { list_all is_utf8 (fields_of source.now) ≡ true }
-    ensures answer { Answers (λ o. o) result
-        (first_fault (field_faults_if project.now.contents sheet.now (texts names.now) row
-        (is_refused_id project.now.contents sheet.now seen.old (first_field (fields_of source.now)))
+    ensures answer { AnswersTable (λ o. o) result
+        (first_table_fault (field_faults_if project.now.contents sheet.now (texts names.now) row
+        (is_refused_id project.now.contents sheet.now seen.old
+        (first_record_field (fields_of source.now)))
         (fields_of source.now)))
         (filled_by project.now.contents sheet.now (texts names.now) (fields_of source.now)) }
     ensures ids { OnOk result
@@ -92,9 +93,10 @@ fn fill_row(
     row: u32,
 ) -> Result<Option<(u32, Object)>, TableFault>
     requires few { length names.now + 1 ≤ 4294967295 }
-    ensures answer { Answers (λ o. o) result
-        (first_fault (row_faults_if project.now.contents sheet.now (texts names.now) row
-        (is_refused_id project.now.contents sheet.now seen.old (first_field (fields_of source.now)))
+    ensures answer { AnswersTable (λ o. o) result
+        (first_table_fault (row_faults_if project.now.contents sheet.now (texts names.now) row
+        (is_refused_id project.now.contents sheet.now seen.old
+        (first_record_field (fields_of source.now)))
         (fields_of source.now)))
         (filled_by project.now.contents sheet.now (texts names.now) (fields_of source.now)) }
     ensures ids { OnOk result
@@ -118,9 +120,10 @@ fn fill_next(
     row: u32,
 ) -> Result<(), TableFault>
     requires few { length names.now + 1 ≤ 4294967295 }
-    ensures answer { Answers (λ _. made.new.items) result
-        (first_fault (row_faults_if project.now.contents sheet.now (texts names.now) row
-        (is_refused_id project.now.contents sheet.now seen.old (first_field (fields_of source.now)))
+    ensures answer { AnswersTable (λ _. made.new.items) result
+        (first_table_fault (row_faults_if project.now.contents sheet.now (texts names.now) row
+        (is_refused_id project.now.contents sheet.now seen.old
+        (first_record_field (fields_of source.now)))
         (fields_of source.now)))
         (made.old.items ++ option_to_list
         (filled_by project.now.contents sheet.now (texts names.now) (fields_of source.now))) }
@@ -147,8 +150,9 @@ pub fn fill_rows(
 ) -> Result<Vec<(u32, Object)>, TableFault>
     requires few { length names.now + 1 ≤ 4294967295 }
     requires rows { length rows.now + 1 ≤ 4294967295 }
-    ensures { Answers (λ v. v.items) result
-        (first_fault (faults_after project.now.contents sheet.now (head_record (texts names.now))
+    ensures { AnswersTable (λ v. v.items) result
+        (first_table_fault
+        (faults_after project.now.contents sheet.now (head_record (texts names.now))
         (head_record (texts names.now) ∷ []) (records_now rows.now)))
         (filter_map (filled_by project.now.contents sheet.now (texts names.now))
         (records_now rows.now)) }

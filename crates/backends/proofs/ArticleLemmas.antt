@@ -9,7 +9,7 @@ use Rattle.std.proofs.lemmas.List.Folds.{list_any-append}
 use Rattle.std.proofs.lemmas.Slice.Eq.{bytes_eq-Decides}
 use Rattle.std.proofs.lemmas.Bool.{and_parts, or_parts}
 use Rattle.net_list.specs.declared.package.Package.{Package}
-use Rattle.backends.specs.BillText.{ArticleData, article_of, packages_of, same_article, with_article}
+use Rattle.backends.specs.BillText.{ArticleData, article_of, article_packages, same_article, with_article}
 
 abbrev article : List ℕ → List ℕ → List ℕ → ArticleData
 article device value footprint =
@@ -83,10 +83,10 @@ kept_all [] xs a has = has
 kept_all (b ∷ bs) xs a has = kept_all bs (with_article xs b) a (kept_with xs a b has)
 
 -- an article that is not among those of packages has none of the packages
-pub none_of : (ps : List Package) (xs : List ArticleData) (a : ArticleData) → list_any (same_article a) (fold with_article xs (map article_of ps)) ≡ false → packages_of ps a ≡ []
+pub none_of : (ps : List Package) (xs : List ArticleData) (a : ArticleData) → list_any (same_article a) (fold with_article xs (map article_of ps)) ≡ false → article_packages ps a ≡ []
 none_of [] xs a none = refl
 none_of (p ∷ rest) xs a none = go (same_article a (article_of p)) refl (none_of rest (with_article xs (article_of p)) a none)
   where
-    go : (t : Bool) → same_article a (article_of p) ≡ t → packages_of rest a ≡ [] → (if t then p ∷ packages_of rest a else packages_of rest a) ≡ []
+    go : (t : Bool) → same_article a (article_of p) ≡ t → article_packages rest a ≡ [] → (if t then p ∷ article_packages rest a else article_packages rest a) ≡ []
     go true e again = absurd (true≢false (sym (kept_all (map article_of rest) (with_article xs (article_of p)) a (has_with xs a (article_of p) e)) ∙ none))
     go false e again = again

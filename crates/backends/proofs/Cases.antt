@@ -9,7 +9,7 @@ use Rattle.net_list.specs.declared.nets.NetSort.{NetSort}
 use Rattle.net_list.specs.declared.nets.NetSort.TheVariants as sorts
 use Rattle.net_list.specs.declared.nets.Nets.{Nets}
 use Rattle.net_list.specs.declared.form.Form.TheVariants as forms
-use Rattle.backends.specs.CsvRecords.{field_text}
+use Rattle.backends.specs.CsvRecords.{csv_field}
 use Rattle.backends.specs.Forms.{net_text}
 
 -- a resistor with this value and without a footprint
@@ -61,5 +61,5 @@ unfolding digits
 one_record = refl
 
 -- a comma and a quotation mark call for quotes
-quoted : field_text (codes "5%, \"red\"") ≡ codes "\"5%, \"\"red\"\"\""
+quoted : csv_field (codes "5%, \"red\"") ≡ codes "\"5%, \"\"red\"\"\""
 quoted = refl

@@ -7,15 +7,15 @@ use Rattle.std.proofs.lemmas.List.Folds.{flat_map-map}
 use Rattle.std.proofs.lemmas.List.Sums.{fold-append}
 use Rattle.std.proofs.lemmas.Bool.{or_parts}
 use Rattle.net_list.specs.declared.package.Package.{Package}
-use Rattle.backends.specs.BillText.{ArticleData, article_of, articles_of, group_text, packages_of, same_article, with_article}
+use Rattle.backends.specs.BillText.{ArticleData, article_of, article_packages, articles_of, group_text, same_article, with_article}
 use Rattle.backends.specs.steps.Groups.{GroupData, group_in, group_record, group_seen, groups_of, with_member, with_package}
 use Rattle.backends.specs.declared.articles.Group.{Group}
 use Rattle.backends.proofs.ArticleLemmas.{Once, none_of, once_all, same_exact, same_self, same_turned}
 
-packages_behind : (ps : List Package) (p : Package) (a : ArticleData) (t : Bool) → same_article a (article_of p) ≡ t → packages_of (ps ++ p ∷ []) a ≡ packages_of ps a ++ (if t then p ∷ [] else [])
+packages_behind : (ps : List Package) (p : Package) (a : ArticleData) (t : Bool) → same_article a (article_of p) ≡ t → article_packages (ps ++ p ∷ []) a ≡ article_packages ps a ++ (if t then p ∷ [] else [])
 packages_behind ps p a t is =
     filter-append (λ q. same_article a (article_of q)) ps (p ∷ [])
-    ∙ ap (λ (s : Bool). packages_of ps a ++ (if s then p ∷ [] else [])) is
+    ∙ ap (λ (s : Bool). article_packages ps a ++ (if s then p ∷ [] else [])) is
 
 abbrev with_members : ArticleData → List Package → GroupData
 with_members a members = record { article = a; members = members }
@@ -24,7 +24,7 @@ its_group : (ps : List Package) (p : Package) (a : ArticleData) → same_article
 its_group ps p a is = ap (with_members a) (packages_behind ps p a true is)
 
 other_group : (ps : List Package) (p : Package) (a : ArticleData) → same_article a (article_of p) ≡ false → group_in (ps ++ p ∷ []) a ≡ group_in ps a
-other_group ps p a is = ap (with_members a) (packages_behind ps p a false is ∙ append-nil (packages_of ps a))
+other_group ps p a is = ap (with_members a) (packages_behind ps p a false is ∙ append-nil (article_packages ps a))
 
 other_groups : (ps : List Package) (p : Package) (xs : List ArticleData) → list_any (same_article (article_of p)) xs ≡ false → map (group_in (ps ++ p ∷ [])) xs ≡ map (group_in ps) xs
 other_groups ps p [] none = refl
@@ -59,16 +59,16 @@ in_groups : (ps : List Package) (a : ArticleData) (xs : List ArticleData) → li
 in_groups ps a [] = refl
 in_groups ps a (x ∷ rest) = ap (λ (t : Bool). same_article a x || t) (in_groups ps a rest)
 
-joins_new : (ps : List Package) (p : Package) (xs : List ArticleData) → list_any (same_article (article_of p)) xs ≡ false → packages_of ps (article_of p) ≡ []
+joins_new : (ps : List Package) (p : Package) (xs : List ArticleData) → list_any (same_article (article_of p)) xs ≡ false → article_packages ps (article_of p) ≡ []
     → with_package (map (group_in ps) xs) p ≡ map (group_in (ps ++ p ∷ [])) (xs ++ article_of p ∷ [])
 joins_new ps p xs none empty =
     let a : ArticleData = article_of p in
-    let members : packages_of (ps ++ p ∷ []) a ≡ p ∷ [] = packages_behind ps p a true (same_self a) ∙ ap (λ (qs : List Package). qs ++ p ∷ []) empty in
+    let members : article_packages (ps ++ p ∷ []) a ≡ p ∷ [] = packages_behind ps p a true (same_self a) ∙ ap (λ (qs : List Package). qs ++ p ∷ []) empty in
     begins p (map (group_in ps) xs) (in_groups ps a xs ∙ none)
     ∙ ap₂ (λ (gs : List GroupData) (qs : List Package). gs ++ with_members a qs ∷ []) (sym (other_groups ps p xs none)) (sym members)
     ∙ sym (map-append (group_in (ps ++ p ∷ [])) xs (a ∷ []))
 
-joins : (ps : List Package) (p : Package) (xs : List ArticleData) → Once xs → (list_any (same_article (article_of p)) xs ≡ false → packages_of ps (article_of p) ≡ [])
+joins : (ps : List Package) (p : Package) (xs : List ArticleData) → Once xs → (list_any (same_article (article_of p)) xs ≡ false → article_packages ps (article_of p) ≡ [])
     → with_package (map (group_in ps) xs) p ≡ map (group_in (ps ++ p ∷ [])) (with_article xs (article_of p))
 joins ps p xs once empty = go (list_any (same_article (article_of p)) xs) refl
   where

@@ -4,7 +4,7 @@ use Rattle.std.specs.List.{flat_map, list_any}
 use Rattle.csv.specs.Writing.{default_writer, escaped, fields_text, is_blank, needs_quotes, quoted, row_text}
 use Rattle.csv.specs.Writing as csv
 use Rattle.csv.specs.Quoting.{needs_byte}
-use Rattle.backends.specs.CsvRecords.{doubled, field_text, is_special, record_text}
+use Rattle.backends.specs.CsvRecords.{csv_field, doubled, is_special, record_text}
 
 regrouped : (a b c d e : Bool) → (a || b || (c || d) || (false && e) || false) ≡ (a || (b || (c || d)))
 regrouped true b c d e = refl
@@ -29,11 +29,11 @@ unfolding escaped
 escaped_doubled [] = refl
 escaped_doubled (b ∷ rest) = one_doubled (b == 34) b (escaped default_writer rest) ∙ ap (λ (xs : List ℕ). (if b == 34 then 34 ∷ b ∷ [] else b ∷ []) ++ xs) (escaped_doubled rest)
 
-same_field : (text : List ℕ) → csv.field_text default_writer text ≡ field_text text
+same_field : (text : List ℕ) → csv.field_text default_writer text ≡ csv_field text
 same_field text =
     ap₂ (λ (t : Bool) (xs : List ℕ). if t then 34 ∷ (xs ++ 34 ∷ []) else text) (any_special text) (escaped_doubled text)
 
-same_fields : (fields : List (List ℕ)) → fields_text default_writer fields ≡ flat_map (λ f. 44 ∷ field_text f) fields
+same_fields : (fields : List (List ℕ)) → fields_text default_writer fields ≡ flat_map (λ f. 44 ∷ csv_field f) fields
 unfolding fields_text
 same_fields [] = refl
 same_fields (f ∷ rest) = ap₂ (λ (xs ys : List ℕ). 44 ∷ (xs ++ ys)) (same_field f) (same_fields rest)
@@ -44,4 +44,4 @@ same_record [] several = absurd (omega arith)
 same_record (f ∷ []) several = absurd (omega arith)
 same_record (f ∷ g ∷ rest) several =
     ap₂ (λ (xs ys : List ℕ). (xs ++ ys) ++ 10 ∷ []) (same_field f) (same_fields (g ∷ rest))
-    ∙ append_assoc (field_text f) (flat_map (λ h. 44 ∷ field_text h) (g ∷ rest)) (10 ∷ [])
+    ∙ append_assoc (csv_field f) (flat_map (λ h. 44 ∷ csv_field h) (g ∷ rest)) (10 ∷ [])

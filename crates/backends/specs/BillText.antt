@@ -39,19 +39,19 @@ abbrev pub articles_of : List Package → List ArticleData
 articles_of packages = fold with_article [] (map article_of packages)
 
 -- the packages of an article
-abbrev pub packages_of : List Package → ArticleData → List Package
-packages_of packages a = filter (λ p. same_article a (article_of p)) packages
+abbrev pub article_packages : List Package → ArticleData → List Package
+article_packages packages a = filter (λ p. same_article a (article_of p)) packages
 
 -- the fields of a group: device, value, footprint, the refdes of its packages parted by one space,
 -- and their count
-abbrev pub fields_of : ArticleData → List Package → List (List ℕ)
-fields_of a members =
+abbrev pub bill_fields : ArticleData → List Package → List (List ℕ)
+bill_fields a members =
     flat a.device ∷ flat a.value ∷ flat a.footprint ∷ spaced (map (λ p. word p.refdes) members)
     ∷ decimal (length members) ∷ []
 
 -- the record of the packages of an article
 abbrev pub group_text : List Package → ArticleData → List ℕ
-group_text packages a = record_text (fields_of a (packages_of packages a))
+group_text packages a = record_text (bill_fields a (article_packages packages a))
 
 -- the names of the fields
 abbrev pub head_fields : List (List ℕ)

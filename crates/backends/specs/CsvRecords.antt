@@ -11,10 +11,10 @@ abbrev pub doubled : List ℕ → List ℕ
 doubled text = flat_map (λ b. if b == 34 then 34 ∷ b ∷ [] else b ∷ []) text
 
 -- a field: between quotes where something calls for them
-abbrev pub field_text : List ℕ → List ℕ
-field_text text = if list_any is_special text then 34 ∷ (doubled text ++ 34 ∷ []) else text
+abbrev pub csv_field : List ℕ → List ℕ
+csv_field text = if list_any is_special text then 34 ∷ (doubled text ++ 34 ∷ []) else text
 
 -- a record: its fields, parted by commas
 abbrev pub record_text : List (List ℕ) → List ℕ
 record_text [] = []
-record_text (field ∷ rest) = field_text field ++ (flat_map (λ f. 44 ∷ field_text f) rest ++ 10 ∷ [])
+record_text (field ∷ rest) = csv_field field ++ (flat_map (λ f. 44 ∷ csv_field f) rest ++ 10 ∷ [])

@@ -11,8 +11,8 @@ use Rattle.backends.specs.ListText.{member_text}
 use Rattle.backends.specs.Joined.{joined_nets}
 
 -- lines, each ended
-abbrev pub lines : List (List ℕ) → List ℕ
-lines texts = flat_map ended texts
+abbrev pub ended_lines : List (List ℕ) → List ℕ
+ended_lines texts = flat_map ended texts
 
 -- a value, or `unknown` for an absent one
 abbrev pub known : Option (List ℕ) → List ℕ
@@ -21,13 +21,13 @@ known (Some value) = flat value
 
 -- a package between brackets: refdes, footprint, device and value
 abbrev pub package_block : Package → List ℕ
-package_block p = lines (codes "[" ∷ word p.refdes ∷ known p.footprint ∷ known p.device
+package_block p = ended_lines (codes "[" ∷ word p.refdes ∷ known p.footprint ∷ known p.device
     ∷ known p.value ∷ codes "]" ∷ [])
 
 -- a net between parentheses: its name and its members
 abbrev pub net_block : Net → List ℕ
-net_block n = lines (codes "(" ∷ word n.name ∷ []) ++ (lines (map member_text n.members)
-    ++ lines (codes ")" ∷ []))
+net_block n = ended_lines (codes "(" ∷ word n.name ∷ []) ++ (ended_lines (map member_text n.members)
+    ++ ended_lines (codes ")" ∷ []))
 
 -- the packages, then the nets that join pins
 abbrev pub tango_text : Nets → List ℕ

@@ -5,7 +5,8 @@ ghost use Rattle.geda_defs.specs.Lines.{ended};
 ghost use Rattle.printed_texts.specs.PrintedTexts.{word};
 ghost use Rattle.backends.specs.Joined.{is_joined, joined_nets};
 ghost use Rattle.backends.specs.ListText.{member_text};
-ghost use Rattle.backends.specs.TangoText.{known, lines, net_block, package_block, tango_text};
+ghost use Rattle.backends.specs.TangoText.{ended_lines, known, net_block, package_block};
+ghost use Rattle.backends.specs.TangoText.{tango_text};
 
 use crate::joined::is_joined;
 use crate::net_lines::put_member;
@@ -77,7 +78,7 @@ fn put_member_line(out: &mut Vec<u8>, member: &Member) -> Result<(), AllocError>
 
 fn put_member_lines(out: &mut Vec<u8>, members: &[Member]) -> Result<(), AllocError>
     ensures { OnOk result (out.new.items ≡ out.old.items
-        ++ lines (map member_text members.now)) }
+        ++ ended_lines (map member_text members.now)) }
 {
     for member in members {
         put_member_line(out, member)?;

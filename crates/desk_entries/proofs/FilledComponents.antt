@@ -18,13 +18,13 @@ use Rattle.project_model.specs.Projects.{ProjectData}
 use Rattle.project_model.specs.declared.change.Placed.{Placed}
 use Rattle.edit_entries.specs.Entries.{IsU32}
 use Rattle.edit_entries.specs.Ids.{greatest_u32}
-use Rattle.edit_attr.specs.Attributes.{attr_line, is_named, new_label, set_text, with_attr, with_content}
+use Rattle.edit_attr.specs.Attributes.{attr_line, is_attr_named, new_label, set_text, with_attr, with_content}
 use Rattle.edit_attr.specs.FirstPoints.{first_point}
-use Rattle.attr_table.specs.Cells.{Cell, cells_of, counts, is_bad_cell, set_cell, set_cells}
+use Rattle.attr_table.specs.Cells.{Cell, cells_of, cell_counts, is_bad_cell, set_cell, set_cells}
 use Rattle.attr_table.specs.Filling.{filled_at, filled_by, if_counts}
-use Rattle.attr_table.specs.Records.{Record, each_after, first_field, later_fields}
+use Rattle.attr_table.specs.Records.{Record, each_after, first_record_field, later_fields}
 use Rattle.attr_table.specs.SheetTables.{Numbered, component_in, if_component}
-use Rattle.attr_table.specs.TableFaults.{component_at, component_named, first_column, id_of, is_number, row_faults, second_column}
+use Rattle.attr_table.specs.TableFaults.{component_at, component_named, first_column, id_of, is_id_text, row_faults, second_column}
 use Rattle.attr_table.proofs.CellLemmas.{can_set, cell_content, none_bad}
 use Rattle.attr_table.proofs.FewLemmas.{AreGoodRows, HasComponent, IsGoodRow, apart_id, are_ids, good_id, good_row, ids_of, no_fault_left}
 
@@ -65,7 +65,7 @@ content_in_range content t is h = record {
 texts_in_range : (name content : List ℕ) (p : Point) (ts : List TextData) → IsContent content → IsCoordinate p.x → IsCoordinate p.y → AllByRecursion IsText ts
     → AllByRecursion IsText (set_text name content p ts)
 texts_in_range name content p [] is x y h = (label_in_range content p is x y, tt)
-texts_in_range name content p (t ∷ ts) is x y h = by (is_named name t) (texts_in_range name content p ts is x y h.1)
+texts_in_range name content p (t ∷ ts) is x y h = by (is_attr_named name t) (texts_in_range name content p ts is x y h.1)
   where
     by : (b : Bool) → AllByRecursion IsText (set_text name content p ts) → AllByRecursion IsText (cond b (with_content content t ∷ ts) (t ∷ set_text name content p ts))
     by true rest = (content_in_range content t is h.0, h.1)
@@ -127,14 +127,14 @@ later_utf8 : (fields : Record) → list_all is_utf8 fields ≡ true → list_all
 later_utf8 [] e = refl
 later_utf8 (field ∷ fields) e = (and_parts (is_utf8 field) (list_all is_utf8 fields) e).1
 
-cells_good : (o : ObjectData) (cells : List Cell) → AllByRecursion IsTextCell cells → list_any (is_bad_cell o) cells ≡ false → AllByRecursion IsCell (filter (counts o) cells)
+cells_good : (o : ObjectData) (cells : List Cell) → AllByRecursion IsTextCell cells → list_any (is_bad_cell o) cells ≡ false → AllByRecursion IsCell (filter (cell_counts o) cells)
 cells_good o [] t e = tt
 cells_good o (cell ∷ cells) t e =
     let parts = or_parts (is_bad_cell o cell) (list_any (is_bad_cell o) cells) e in
-    by (counts o cell) refl parts.0 (cells_good o cells t.1 parts.1)
+    by (cell_counts o cell) refl parts.0 (cells_good o cells t.1 parts.1)
   where
-    by : (b : Bool) → counts o cell ≡ b → is_bad_cell o cell ≡ false → AllByRecursion IsCell (filter (counts o) cells)
-        → AllByRecursion IsCell (cond b (cell ∷ filter (counts o) cells) (filter (counts o) cells))
+    by : (b : Bool) → cell_counts o cell ≡ b → is_bad_cell o cell ≡ false → AllByRecursion IsCell (filter (cell_counts o) cells)
+        → AllByRecursion IsCell (cond b (cell ∷ filter (cell_counts o) cells) (filter (cell_counts o) cells))
     by true is good rest = (cell_content cell.0 cell.1 t.0.0 t.0.1 (can_set o cell is good), rest)
     by false is good rest = rest
 
@@ -143,15 +143,15 @@ not_not true e = refl
 not_not false e = clash e
 
 small_id : (field : List ℕ) (id : ℕ) → id_of field ≡ Some id → IsU32 id
-small_id field id e = by (is_number field && nat_le (digits_value 10 field) greatest_u32) refl e
+small_id field id e = by (is_id_text field && nat_le (digits_value 10 field) greatest_u32) refl e
   where
     same_number : (m n : ℕ) → Some m ≡ Some n → m ≡ n
     same_number m n f = cc
 
-    by : (b : Bool) → (is_number field && nat_le (digits_value 10 field) greatest_u32) ≡ b → cond b (Some (digits_value 10 field)) None ≡ Some id → IsU32 id
+    by : (b : Bool) → (is_id_text field && nat_le (digits_value 10 field) greatest_u32) ≡ b → cond b (Some (digits_value 10 field)) None ≡ Some id → IsU32 id
     by true is f =
         subst IsU32 (same_number (digits_value 10 field) id f)
-        (leb-true (digits_value 10 field) greatest_u32 (and_parts (is_number field) (nat_le (digits_value 10 field) greatest_u32) is).1)
+        (leb-true (digits_value 10 field) greatest_u32 (and_parts (is_id_text field) (nat_le (digits_value 10 field) greatest_u32) is).1)
     by false is f = absurd (let t : None ≡ Some id = f in cc)
 
 -- where an object was found
@@ -201,16 +201,16 @@ made_of p sheet head earlier fields h good text =
     let found = was_found p sheet h.id h.o h.there in
     let cells = cells_of (later_fields head) fields in
     let own : list_all is_utf8 fields ≡ true = not_not (list_all is_utf8 fields) good.text in
-    let named : component_named p sheet (first_field fields) ≡ Some h.o = ap (option_and_then (component_at p sheet)) h.named ∙ h.there in
+    let named : component_named p sheet (first_record_field fields) ≡ Some h.o = ap (option_and_then (component_at p sheet)) h.named ∙ h.there in
     let quiet : first_column (is_bad_cell h.o) second_column cells ≡ None = rw named at good.value in
     let each = cells_good h.o cells (zipped (later_fields head) (later_fields fields) (later_utf8 head text) (later_utf8 fields own)) (none_bad (is_bad_cell h.o) second_column cells quiet) in
     record {
       placed = found.placed;
       there = found.there;
       home = found.home;
-      small = small_id (first_field fields) h.id h.named;
-      body = kept_body h.o (filter (counts h.o) cells) ∙ ap (λ (o : ObjectData). o.body) (sym found.object);
-      range = λ range. (cells_set h.o (filter (counts h.o) cells) each (good_component h.o (subst ObjectIsInRange found.object range) found.component)).range;
+      small = small_id (first_record_field fields) h.id h.named;
+      body = kept_body h.o (filter (cell_counts h.o) cells) ∙ ap (λ (o : ObjectData). o.body) (sym found.object);
+      range = λ range. (cells_set h.o (filter (cell_counts h.o) cells) each (good_component h.o (subst ObjectIsInRange found.object range) found.component)).range;
     }
 
 -- all of them, none of which stands twice
@@ -229,13 +229,13 @@ or_kept false b c e f = f e
 fewer_ids : (p : ProjectData) (sheet : List ℕ) (names : List (List ℕ)) (rows : List Record) (id : ℕ) → list_any (eqb id) (ids_of rows) ≡ false
     → list_any (eqb id) (map (λ (d : Numbered). d.0) (made_by p sheet names rows)) ≡ false
 fewer_ids p sheet names [] id e = refl
-fewer_ids p sheet names (fields ∷ rows) id e = by (id_of (first_field fields)) e (fewer_ids p sheet names rows id)
+fewer_ids p sheet names (fields ∷ rows) id e = by (id_of (first_record_field fields)) e (fewer_ids p sheet names rows id)
   where
     here : (own : ℕ) (m : Option ObjectData) → (eqb id own || list_any (eqb id) (ids_of rows)) ≡ false
         → (list_any (eqb id) (ids_of rows) ≡ false → list_any (eqb id) (map (λ (d : Numbered). d.0) (made_by p sheet names rows)) ≡ false)
         → list_any (eqb id) (map (λ (d : Numbered). d.0) (cons_option (option_and_then (if_counts (cells_of names fields) own) m) (made_by p sheet names rows))) ≡ false
     here own None f later = later (or_parts (eqb id own) (list_any (eqb id) (ids_of rows)) f).1
-    here own (Some o) f later = counted (list_any (counts o) (cells_of names fields))
+    here own (Some o) f later = counted (list_any (cell_counts o) (cells_of names fields))
       where
         counted : (b : Bool)
             → list_any (eqb id) (map (λ (d : Numbered). d.0) (cons_option (cond b (Some (own, set_cells o (cells_of names fields))) None) (made_by p sheet names rows))) ≡ false
@@ -260,7 +260,7 @@ rows_filled p sheet head earlier (fields ∷ rows) text good =
     let rest = rows_filled p sheet head (earlier ++ fields ∷ []) rows text parts.1 in
     let cells = cells_of (later_fields head) fields in
     rw (h.named, h.there)
-    (by h (made_of p sheet head earlier fields h row text) (fewer_ids p sheet (later_fields head) rows h.id apart) rest (list_any (counts h.o) cells))
+    (by h (made_of p sheet head earlier fields h row text) (fewer_ids p sheet (later_fields head) rows h.id apart) rest (list_any (cell_counts h.o) cells))
   where
     by : (h : HasComponent p sheet earlier fields) → IsFilled p sheet (h.id, set_cells h.o (cells_of (later_fields head) fields))
         → list_any (eqb h.id) (map (λ (d : Numbered). d.0) (made_by p sheet (later_fields head) rows)) ≡ false

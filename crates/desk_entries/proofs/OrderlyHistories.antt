@@ -10,10 +10,10 @@ use Rattle.std.proofs.Math.Seq.{take-append_seam}
 use Rattle.geda_defs.proofs.Bytes.{bytes_same}
 use Rattle.project_model.specs.declared.change.Placed.{Placed}
 use Rattle.edit_entries.specs.Entries.{EntryData}
-use Rattle.edit_rules.specs.EarlyLines.{last_number, number_at, number_gap, number_of}
+use Rattle.edit_rules.specs.EarlyLines.{last_number, number_at, number_gap, entry_number}
 use Rattle.edit_rules.specs.Histories.{changes, last_place, project}
-use Rattle.edit_rules.specs.Naming.{is_numbered, is_of_session}
-use Rattle.edit_rules.specs.Verdicts.{Legal, lines, verdict}
+use Rattle.edit_rules.specs.Naming.{has_session_number, is_of_session}
+use Rattle.edit_rules.specs.Verdicts.{Legal, verdict_lines, verdict}
 use Rattle.edit_rules.specs.declared.verdict.Verdict.TheVariants.{Accept}
 use Rattle.edit_rules.proofs.Accepting.{accepted, no_fault, none_at, when_none}
 use Rattle.edit_rules.proofs.LongerHistories.{last_push, last_within, project_push}
@@ -23,7 +23,7 @@ clash e = absurd (cc e)
 
 -- no number of a session is above its last, and the objects are no more than they may be
 pub record IsOrderly (h : List EntryData) : Type 0 where
-  pub above : (session : List ℕ) (m : ℕ) → last_number h session < m → last_place (is_numbered session m) h ≡ None
+  pub above : (session : List ℕ) (m : ℕ) → last_number h session < m → last_place (has_session_number session m) h ≡ None
   pub few : finite.len (project h).objects ≤ 400000
 
 pub get_seam : (h : List EntryData) (e : EntryData) (es : List EntryData) → slice_get (h ++ e ∷ es) (length h) ≡ Some e
@@ -39,7 +39,7 @@ get_front (x ∷ h) e (suc k) lt = get_front h e k (omega arith)
 pub last_own : (h : List EntryData) (e : EntryData) (session : List ℕ) → bytes_eq session e.session ≡ true → last_number (h ++ e ∷ []) session ≡ e.number
 last_own h e session is =
     ap (number_at (h ++ e ∷ [])) (last_push (is_of_session session) h e ∙ ap (λ (b : Bool). cond b (Some (length h)) (last_place (is_of_session session) h)) is)
-    ∙ ap number_of (get_seam h e [])
+    ∙ ap entry_number (get_seam h e [])
 
 last_other : (h : List EntryData) (e : EntryData) (session : List ℕ) → bytes_eq session e.session ≡ false → last_number (h ++ e ∷ []) session ≡ last_number h session
 last_other h e session is =
@@ -48,7 +48,7 @@ last_other h e session is =
   where
     by : (o : Option ℕ) → IfSome o (λ k. k < length h) → number_at (h ++ e ∷ []) o ≡ number_at h o
     by None lt = refl
-    by (Some k) lt = ap number_of (get_front h e k lt)
+    by (Some k) lt = ap entry_number (get_front h e k lt)
 
 apart : (m n : ℕ) → m < n → (m == n) ≡ false
 apart m n lt = grind (arith, nat_tests)
@@ -61,16 +61,16 @@ and_false true b e = e
 and_false false b e = refl
 
 -- an entry of a number that is not this one
-pub number_push : (h : List EntryData) (e : EntryData) (session : List ℕ) (m : ℕ) → is_numbered session m e ≡ false → last_place (is_numbered session m) h ≡ None
-    → last_place (is_numbered session m) (h ++ e ∷ []) ≡ None
+pub number_push : (h : List EntryData) (e : EntryData) (session : List ℕ) (m : ℕ) → has_session_number session m e ≡ false → last_place (has_session_number session m) h ≡ None
+    → last_place (has_session_number session m) (h ++ e ∷ []) ≡ None
 number_push h e session m other none =
-    last_push (is_numbered session m) h e ∙ ap (λ (b : Bool). cond b (Some (length h)) (last_place (is_numbered session m) h)) other ∙ none
+    last_push (has_session_number session m) h e ∙ ap (λ (b : Bool). cond b (Some (length h)) (last_place (has_session_number session m) h)) other ∙ none
 
 above_push : (h : List EntryData) (e : EntryData) → IsOrderly h → e.number ≡ last_number h e.session + 1
-    → (session : List ℕ) (m : ℕ) → last_number (h ++ e ∷ []) session < m → last_place (is_numbered session m) (h ++ e ∷ []) ≡ None
+    → (session : List ℕ) (m : ℕ) → last_number (h ++ e ∷ []) session < m → last_place (has_session_number session m) (h ++ e ∷ []) ≡ None
 above_push h e o next session m lt = by (bytes_eq session e.session) refl
   where
-    by : (b : Bool) → bytes_eq session e.session ≡ b → last_place (is_numbered session m) (h ++ e ∷ []) ≡ None
+    by : (b : Bool) → bytes_eq session e.session ≡ b → last_place (has_session_number session m) (h ++ e ∷ []) ≡ None
     by true is =
         let own : last_number (h ++ e ∷ []) session ≡ e.number = last_own h e session is in
         let below : e.number < m = subst (λ (n : ℕ). n < m) own lt in
@@ -83,7 +83,7 @@ above_push h e o next session m lt = by (bytes_eq session e.session) refl
 
 orderly_push : (h : List EntryData) (e : EntryData) → IsOrderly h → verdict h e ≡ Accept (record { items = changes h e.edit }) → IsOrderly (h ++ e ∷ [])
 orderly_push h e o ok =
-    let fine : number_gap h e ≡ None = none_at (lines h e) 1 (no_fault h e _ ok) in
+    let fine : number_gap h e ≡ None = none_at (verdict_lines h e) 1 (no_fault h e _ ok) in
     let next : e.number ≡ last_number h e.session + 1 = same_by e.number (last_number h e.session + 1) (when_none _ _ fine) in
     record {
       above = above_push h e o next;

@@ -19,9 +19,9 @@ use Rattle.edit_rules.proofs.ValueLaws.{object_is_value}
 use Rattle.attr_table.specs.declared.fault.TableFault.{TableFault}
 use Rattle.attr_table.specs.declared.fault.TableFault.TheVariants as faults
 use Rattle.attr_table.specs.Filling.{component_item, entries_from, filled, filled_components, table_entries}
-use Rattle.attr_table.specs.Records.{Record, each_after, first_field, later_fields}
+use Rattle.attr_table.specs.Records.{Record, each_after, first_record_field, later_fields}
 use Rattle.attr_table.specs.SheetTables.{Numbered}
-use Rattle.attr_table.specs.TableFaults.{bad_name_column, has_no_text, head_faults, row_faults, table_fault, when}
+use Rattle.attr_table.specs.TableFaults.{bad_name_column, has_no_text, head_faults, row_faults, table_fault, fault_if}
 use Rattle.attr_table.proofs.FewLemmas.{good_rows, head_none, no_fault_left}
 use Rattle.desk_entries.specs.Putting.{put_all}
 use Rattle.desk_entries.specs.ReadAgain.{AreReadAgain}
@@ -35,7 +35,7 @@ use Rattle.desk_entries.proofs.RepeatedEntries.{repeat}
 use Rattle.desk_entries.proofs.TakenEntries.{AllStand, IsReady, all_accepted, all_made, all_taken}
 use Rattle.desk_entries.proofs.WritableHistories.{all_writable}
 
-when_none : (b : Bool) (fault : TableFault) → when b fault ≡ None → b ≡ false
+when_none : (b : Bool) (fault : TableFault) → fault_if b fault ≡ None → b ≡ false
 when_none true fault e = absurd (cc e)
 when_none false fault e = refl
 
@@ -49,8 +49,8 @@ unfolding table_fault
 head_text p sheet head rows e =
     let own = (no_fault_left (head_faults head) (flat_map (row_faults p sheet head) (each_after (head ∷ []) rows)) e).0 in
     let names = option_map faults.BadName (bad_name_column (later_fields head)) ∷ [] in
-    let no_text = when (has_no_text head) (faults.NotUtf8 1) in
-    let others = (head_none (when (not (bytes_eq (first_field head) (codes "id"))) faults.NoHeader) (no_text ∷ names) own).1 in
+    let no_text = fault_if (has_no_text head) (faults.NotUtf8 1) in
+    let others = (head_none (fault_if (not (bytes_eq (first_record_field head) (codes "id"))) faults.NoHeader) (no_text ∷ names) own).1 in
     let text = (head_none no_text names others).0 in
     not_not (list_all is_utf8 head) (when_none (has_no_text head) (faults.NotUtf8 1) text)
 

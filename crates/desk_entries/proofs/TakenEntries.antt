@@ -26,21 +26,21 @@ use Rattle.project_model.proofs.Rows.{ids}
 use Rattle.edit_entries.specs.Entries.{EntryData, entry_size}
 use Rattle.edit_entries.specs.declared.fault.EditFault.{EditFault}
 use Rattle.edit_entries.specs.declared.fault.EditFault.TheVariants as faults
-use Rattle.edit_rules.specs.EarlyLines.{bad_text, base_ahead, history_full, last_number, missing, most_entries, most_history_bytes, number_gap, number_reused, numbered, repeated_at, text_fault, when}
+use Rattle.edit_rules.specs.EarlyLines.{bad_text, base_ahead, history_full, last_number, missing, most_entries, most_history_bytes, number_gap, number_reused, serial_of_number, repeated_at, text_fault, fault_when}
 use Rattle.edit_rules.specs.EditChanges.{Change, replaced}
-use Rattle.edit_rules.specs.Histories.{all_changes, changes, has_thing, last_place, project, touched}
+use Rattle.edit_rules.specs.Histories.{all_changes, changes, changes_thing, last_place, project, touched}
 use Rattle.edit_rules.specs.LateLines.{is_over_full, placed_bytes, project_full, project_text, stale, symbol_bytes, too_many_objects}
-use Rattle.edit_rules.specs.Naming.{is_numbered}
+use Rattle.edit_rules.specs.Naming.{has_session_number}
 use Rattle.edit_rules.specs.Values.{object_value}
-use Rattle.edit_rules.specs.Verdicts.{first_of, lines, verdict, verdict_by}
+use Rattle.edit_rules.specs.Verdicts.{first_of, verdict_lines, verdict, verdict_by}
 use Rattle.edit_rules.specs.Weights.{weight}
 use Rattle.edit_rules.specs.declared.verdict.Verdict.{Verdict}
 use Rattle.edit_rules.specs.declared.verdict.Verdict.TheVariants as verdicts
 use Rattle.edit_rules.proofs.Accepting.{sum_push}
 use Rattle.edit_rules.proofs.LongerHistories.{changes_push, last_push, project_push}
 use Rattle.edit_rules.proofs.ValueLaws.{object_is_value}
-use Rattle.edit_rules.proofs.Weighing.{sum_insert}
-use Rattle.attr_table.specs.Filling.{component_item, entries_from, entry_of}
+use Rattle.edit_rules.proofs.WeightLemmas.{sum_insert}
+use Rattle.attr_table.specs.Filling.{component_item, entries_from, component_entry}
 use Rattle.attr_table.specs.SheetTables.{Numbered}
 use Rattle.desk_entries.specs.steps.RoomForEntries.{IsRoomForEntries, component_bytes, component_size}
 use Rattle.desk_entries.specs.TableEntries.{AreAccepted, AreAcceptedToLimit, IsAccepted, IsLimit, IsLimited}
@@ -75,7 +75,7 @@ AllStand g sheet base (c ∷ cs) = Stands g sheet base c cs × AllStand g sheet 
 
 -- what the entries of a session may follow
 pub record IsReady (g : List EntryData) (sheet session : List ℕ) (number base : ℕ) (cs : List Numbered) : Type 0 where
-  pub free : (m : ℕ) → number ≤ m → last_place (is_numbered session m) g ≡ None
+  pub free : (m : ℕ) → number ≤ m → last_place (has_session_number session m) g ≡ None
   pub next : last_number g session + 1 ≡ number
   pub known : base ≤ length g
   pub few : finite.len (project g).objects ≤ 400000
@@ -84,8 +84,8 @@ pub record IsReady (g : List EntryData) (sheet session : List ℕ) (number base 
 none_mapped : {X Y : Type 0} (f : X → Y) (o : Option X) → o ≡ None → option_map f o ≡ None
 none_mapped f o e = ap (option_map f) e
 
-when_false : (b : Bool) (f : EditFault) → b ≡ false → when b f ≡ None
-when_false b f e = ap (λ (t : Bool). when t f) e
+when_false : (b : Bool) (f : EditFault) → b ≡ false → fault_when b f ≡ None
+when_false b f e = ap (λ (t : Bool). fault_when t f) e
 
 or_parts : (a b : Bool) → (a || b) ≡ false → (a ≡ false) × (b ≡ false)
 or_parts true b e = absurd (cc e)
@@ -127,12 +127,12 @@ three (Some f) b c = refl
 
 module _ (g : List EntryData) (sheet session : List ℕ) (number base : ℕ) (c : Numbered) (cs : List Numbered) (r : IsReady g sheet session number base (c ∷ cs)) where
   abbrev e : EntryData
-  e = entry_of session number base c
+  e = component_entry session number base c
 
   own : Stands g sheet base c cs
   own = r.stand.0
 
-  free : numbered g e ≡ None
+  free : serial_of_number g e ≡ None
   free = r.free number (omega arith)
 
   none_stale : stale g e ≡ None
@@ -171,14 +171,14 @@ module _ (g : List EntryData) (sheet session : List ℕ) (number base : ℕ) (c 
   full_or : (history_full g e ≡ None) ⊎ (history_full g e ≡ Some faults.HistoryFull)
   full_or = by (nat_le most_entries (length g) || nat_lt most_history_bytes (sum_by entry_size g + entry_size e))
     where
-      by : (b : Bool) → (when b faults.HistoryFull ≡ None) ⊎ (when b faults.HistoryFull ≡ Some faults.HistoryFull)
+      by : (b : Bool) → (fault_when b faults.HistoryFull ≡ None) ⊎ (fault_when b faults.HistoryFull ≡ Some faults.HistoryFull)
       by true = inr refl
       by false = inl refl
 
   over_or : (p : ProjectData) → (project_full p ≡ None) ⊎ (project_full p ≡ Some faults.ProjectFull)
   over_or p = by (is_over_full p)
     where
-      by : (b : Bool) → (when b faults.ProjectFull ≡ None) ⊎ (when b faults.ProjectFull ≡ Some faults.ProjectFull)
+      by : (b : Bool) → (fault_when b faults.ProjectFull ≡ None) ⊎ (fault_when b faults.ProjectFull ≡ Some faults.ProjectFull)
       by true = inr refl
       by false = inl refl
 
@@ -186,12 +186,12 @@ module _ (g : List EntryData) (sheet session : List ℕ) (number base : ℕ) (c 
   judged : too_many_objects (put (project g) (changes g e.edit)) ≡ None
       → verdict g e ≡ verdict_by None (first_of (history_full g e ∷ bad_text e.edit ∷ project_full (put (project g) (changes g e.edit)) ∷ [])) (changes g e.edit)
   judged many =
-      let a : number_reused g e ≡ None = none_mapped faults.NumberReused (numbered g e) free in
+      let a : number_reused g e ≡ None = none_mapped faults.NumberReused (serial_of_number g e) free in
       let b : number_gap g e ≡ None = when_false _ _ (same_number (last_number g session) number r.next) in
       let low : nat_lt (length g) base ≡ false = (let k = r.known in grind (arith, nat_tests, k)) in
       let d : base_ahead g e ≡ None = when_false _ _ low in
       let over = project_full (put (project g) (changes g e.edit)) in
-      let all : first_of (lines g e) ≡ first_of (history_full g e ∷ bad_text e.edit ∷ over ∷ []) =
+      let all : first_of (verdict_lines g e) ≡ first_of (history_full g e ∷ bad_text e.edit ∷ over ∷ []) =
       (λ i. first_of (a i ∷ b i ∷ d i ∷ history_full g e ∷ none_missing i ∷ bad_text e.edit ∷ None ∷ None ∷ none_stale i ∷ None ∷ None ∷ None ∷ None ∷ None ∷ None ∷ many i ∷ over ∷ []))
       ∙ three (history_full g e) (bad_text e.edit) over in
       (λ i. verdict_by (repeated_at g e (free i)) (all i) (changes g e.edit))
@@ -297,10 +297,10 @@ module _ (g : List EntryData) (sheet session : List ℕ) (number base : ℕ) (c 
     kept_touch : (id : ℕ) → eqb id c.0 ≡ false → touched (g ++ e ∷ []) (things.Object id) ≡ touched g (things.Object id)
     kept_touch id other =
         let thing = things.Object id in
-        let off : has_thing thing (changes g e.edit) ≡ false = ap (has_thing thing) change ∙ ap (λ (b : Bool). b || false) other in
-        ap (last_place (has_thing thing)) (changes_push g e)
-        ∙ last_push (has_thing thing) (all_changes g) (changes g e.edit)
-        ∙ ap (λ (b : Bool). cond b (Some (length (all_changes g))) (last_place (has_thing thing) (all_changes g))) off
+        let off : changes_thing thing (changes g e.edit) ≡ false = ap (changes_thing thing) change ∙ ap (λ (b : Bool). b || false) other in
+        ap (last_place (changes_thing thing)) (changes_push g e)
+        ∙ last_push (changes_thing thing) (all_changes g) (changes g e.edit)
+        ∙ ap (λ (b : Bool). cond b (Some (length (all_changes g))) (last_place (changes_thing thing) (all_changes g))) off
 
     still : (d : Numbered) (ds : List Numbered) → eqb d.0 c.0 ≡ false → Stands g sheet base d ds → Stands (g ++ e ∷ []) sheet base d ds
     still d ds other s = record {
@@ -327,7 +327,7 @@ module _ (g : List EntryData) (sheet session : List ℕ) (number base : ℕ) (c 
       stand = all_still cs own.apart r.stand.1;
     }
       where
-        other_number : (m : ℕ) → number + 1 ≤ m → is_numbered session m e ≡ false
+        other_number : (m : ℕ) → number + 1 ≤ m → has_session_number session m e ≡ false
         other_number m le = let off : (number == m) ≡ false = grind (arith, nat_tests, le) in ap (λ (b : Bool). bytes_eq session session && b) off ∙ and_none (bytes_eq session session)
 
     room_next : IsRoomForEntries g session (c ∷ cs) → IsRoomForEntries (g ++ e ∷ []) session cs
@@ -358,9 +358,9 @@ all_accepted g sheet session number base (c ∷ cs) r =
     (λ (t : IsTaken g sheet session number base c cs r).
     inl (
       subst IsAccepted (sym t.follows) tt,
-      all_accepted (g ++ entry_of session number base c ∷ []) sheet session (number + 1) base cs (ready_next g sheet session number base c cs r t.change),
+      all_accepted (g ++ component_entry session number base c ∷ []) sheet session (number + 1) base cs (ready_next g sheet session number base c cs r t.change),
     ))
-    (λ (limited : IsLimited (verdict g (entry_of session number base c))). inr limited)
+    (λ (limited : IsLimited (verdict g (component_entry session number base c))). inr limited)
     (taken_or_limited g sheet session number base c cs r)
 
 -- where all are, each object is in its place
@@ -371,11 +371,11 @@ all_made g sheet session number base [] r a = ap project (append-nil g)
 all_made g sheet session number base (c ∷ cs) r a =
     ⊎_elim
     (λ (t : IsTaken g sheet session number base c cs r).
-    let e = entry_of session number base c in
+    let e = component_entry session number base c in
     ap project (sym (append_assoc g (e ∷ []) (entries_from session (number + 1) base cs)))
     ∙ all_made (g ++ e ∷ []) sheet session (number + 1) base cs (ready_next g sheet session number base c cs r t.change) a.1
     ∙ ap (λ (q : ProjectData). put q (map (component_item sheet) cs)) (longer g sheet session number base c cs r t.change))
-    (λ (limited : IsLimited (verdict g (entry_of session number base c))). absurd (not_both _ a.0 limited))
+    (λ (limited : IsLimited (verdict g (component_entry session number base c))). absurd (not_both _ a.0 limited))
     (taken_or_limited g sheet session number base c cs r)
 
 -- where there is room for all, all are accepted
@@ -385,6 +385,6 @@ all_taken g sheet session number base [] r room = tt
 all_taken g sheet session number base (c ∷ cs) r room =
     let t = taken g sheet session number base c cs r room in (
       subst IsAccepted (sym t.follows) tt,
-      all_taken (g ++ entry_of session number base c ∷ []) sheet session (number + 1) base cs (ready_next g sheet session number base c cs r t.change)
+      all_taken (g ++ component_entry session number base c ∷ []) sheet session (number + 1) base cs (ready_next g sheet session number base c cs r t.change)
           (room_next g sheet session number base c cs r t.change room),
     )

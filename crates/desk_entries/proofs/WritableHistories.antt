@@ -33,7 +33,7 @@ use Rattle.edit_rules.specs.Histories.{change_after, change_at, more_changes, pr
 use Rattle.edit_rules.specs.Values.{object_value, sheet_value, symbol_value}
 use Rattle.edit_rules.specs.declared.verdict.Flaw.{Flaw}
 use Rattle.edit_rules.proofs.ValueLaws.{object_is_value, sheet_is_value}
-use Rattle.refdes_renum.specs.Renumbering.{items_of, new_refdes, refdeses, open_places, renumbered, renumbered_at, used_after}
+use Rattle.refdes_renum.specs.Renumbering.{items_of, new_refdes, component_refdeses, open_places, renumbered, renumbered_at, used_after}
 use Rattle.desk_entries.proofs.MovedBodies.{IfMade, moved_kept, turned_kept}
 
 -- each object can be written, where its text is not too long
@@ -202,7 +202,7 @@ numbered_writable p used (place ∷ places) are =
 
 renumbered_writable : (p : ProjectData) → AreWritable p → IsWritableChange (renumbered p)
 unfolding renumbered
-renumbered_writable p are = numbered_writable p (refdeses p) (open_places p) are
+renumbered_writable p are = numbered_writable p (component_refdeses p) (open_places p) are
 
 -- after each of the first changes all objects can be written
 abbrev AreAlways : List Change → Type 0

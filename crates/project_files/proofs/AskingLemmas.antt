@@ -20,7 +20,7 @@ use Rattle.geda_model.specs.Names.{IsName, is_name}
 use Rattle.geda_model.specs.Shapes.{ComponentData}
 use Rattle.geda_model.specs.Sheets.{ObjectData, SymbolData}
 use Rattle.project_files.specs.declared.fault.FileFault.{FileFault}
-use Rattle.project_files.specs.Gathering.{AskedSymbol, Gathered, ProjectFiles, SymbolComesTo, SymbolFileComesTo, SymbolUnless, asked_symbol, has_name, library_read, named_sheets, named_symbol, sources_of, with_sources, with_symbol, with_value}
+use Rattle.project_files.specs.Gathering.{AskedSymbol, Gathered, ProjectFiles, SymbolComesTo, SymbolFileComesTo, SymbolUnless, asked_symbol, has_file_name, library_read, named_sheets, named_symbol, sources_of, with_sources, with_symbol, queue_with_value}
 use Rattle.project_files.specs.FileReads.{Then}
 use Rattle.project_files.specs.ProjectFiles.{OfSome}
 use Rattle.project_files.specs.steps.Reading.{SymbolFrom, SymbolOf}
@@ -226,7 +226,7 @@ module _ (files : Option Files) (before : AskedData) (name : List ℕ) (fresh : 
       let now = at (and_symbol before name symbol) read words more.0 in
       let follows : Follows p now = record {
         sheets = λ q asked. (asked, (more.3.sheets q asked).1);
-        symbols = λ q asked. (still_true (has_name q) before.symbols ((name, symbol) ∷ []) asked, (more.3.symbols q asked).1);
+        symbols = λ q asked. (still_true (has_file_name q) before.symbols ((name, symbol) ∷ []) asked, (more.3.symbols q asked).1);
       } in (
         more.0,
         record {
@@ -239,7 +239,7 @@ module _ (files : Option Files) (before : AskedData) (name : List ℕ) (fresh : 
             apart = fits.apart;
           };
           holds = λ known f sheets.
-              let same = (f.symbols name (last_true (has_name name) before.symbols (name, symbol) (bytes_true name name refl))).1 in
+              let same = (f.symbols name (last_true (has_file_name name) before.symbols (name, symbol) (bytes_true name name refl))).1 in
               subst (λ (b : Bool). SymbolUnless b known.symbols (gathered sheets before) name (Ok (gathered sheets (and_symbol before name symbol)))) (sym fresh)
               (symbol_comes (gathered sheets before) name symbol (known.symbols name) (subst (λ (file : Option (List ℕ)). SymbolOf name file (Ok symbol)) (sym same) more.2));
         },
@@ -279,7 +279,7 @@ and_absent asked name = record {
   symbols = asked.symbols;
 }
 
-pub not_new : (files : Files) (queue : List (List ℕ)) (name : List ℕ) → files name ≡ None → with_value files queue name ≡ queue
+pub not_new : (files : Files) (queue : List (List ℕ)) (name : List ℕ) → files name ≡ None → queue_with_value files queue name ≡ queue
 not_new files queue name none = go (is_name name) (not (is_in name queue)) (is_some (files name)) (rw none refl)
   where
     go : (a b c : Bool) → c ≡ false → (if a && (b && c) then queue ++ name ∷ [] else queue) ≡ queue
@@ -287,17 +287,17 @@ not_new files queue name none = go (is_name name) (not (is_in name queue)) (is_s
     go true false c e = refl
     go false b c e = refl
 
-pub not_named : (files : Files) (queue : List (List ℕ)) (name : List ℕ) → is_name name ≡ false → with_value files queue name ≡ queue
+pub not_named : (files : Files) (queue : List (List ℕ)) (name : List ℕ) → is_name name ≡ false → queue_with_value files queue name ≡ queue
 not_named files queue name e = rw e refl
 
-pub in_queue : (files : Files) (queue : List (List ℕ)) (name : List ℕ) → is_in name queue ≡ true → with_value files queue name ≡ queue
+pub in_queue : (files : Files) (queue : List (List ℕ)) (name : List ℕ) → is_in name queue ≡ true → queue_with_value files queue name ≡ queue
 in_queue files queue name e = go (is_name name) (is_in name queue) (is_some (files name)) e
   where
     go : (a b c : Bool) → b ≡ true → (if a && (not b && c) then queue ++ name ∷ [] else queue) ≡ queue
     go true b c e = rw e refl
     go false b c e = refl
 
-is_new : (files : Files) (queue : List (List ℕ)) (name : List ℕ) → is_name name ≡ true → is_in name queue ≡ false → is_some (files name) ≡ true → with_value files queue name ≡ queue ++ name ∷ []
+is_new : (files : Files) (queue : List (List ℕ)) (name : List ℕ) → is_name name ≡ true → is_in name queue ≡ false → is_some (files name) ≡ true → queue_with_value files queue name ≡ queue ++ name ∷ []
 is_new files queue name named out there = rw (named, out, there) refl
 
 found_some : (bytes : List ℕ) (file : Option (List ℕ)) → IsFoundOf (Some bytes) file → is_some file ≡ true
@@ -413,7 +413,7 @@ pub lookup_symbol : (name : List ℕ) (symbols : List AskedSymbol) → option_an
 lookup_symbol name [] = refl
 lookup_symbol name (s ∷ symbols) = go (bytes_eq name s.0) (lookup_symbol name symbols)
   where
-    go : (b : Bool) → option_and_then (λ (s : Option SymbolData). s) (lookup (bytes_eq name) symbols) ≡ symbol_of symbols (Some name) → option_and_then (λ (s : Option SymbolData). s) (cond b (Some s.1) (lookup (bytes_eq name) symbols)) ≡ option_and_then (λ (asked : AskedSymbol). asked.1) (cond b (Some s) (find (has_name name) symbols))
+    go : (b : Bool) → option_and_then (λ (s : Option SymbolData). s) (lookup (bytes_eq name) symbols) ≡ symbol_of symbols (Some name) → option_and_then (λ (s : Option SymbolData). s) (cond b (Some s.1) (lookup (bytes_eq name) symbols)) ≡ option_and_then (λ (asked : AskedSymbol). asked.1) (cond b (Some s) (find (has_file_name name) symbols))
     go true e = refl
     go false e = e
 
@@ -485,7 +485,7 @@ named_value value name h = go (is_name value) refl h
 -- values one after the other
 pub more_values : (before mid now : AskedData) (values left : List (List ℕ)) (value : List ℕ) (known : ProjectFiles) → LeavesValues before values mid (value ∷ left) known → AsksValues mid (value ∷ []) known (Ok now) → LeavesValues before values now left known
 more_values before mid now values left value known first next =
-    (ap (λ (queue : List (List ℕ)). fold (with_value known.sheets) queue left) next.0 ∙ first.0, next.1 ∙ first.1)
+    (ap (λ (queue : List (List ℕ)). fold (queue_with_value known.sheets) queue left) next.0 ∙ first.0, next.1 ∙ first.1)
 
 pub pushed_key : (names : List (List ℕ)) (name : List ℕ) → is_in name names ≡ false → insert_key bytes_eq names name ≡ names ++ name ∷ []
 pushed_key names name e = rw e refl
@@ -498,7 +498,7 @@ component_fault before object known fault h sheets = (Err fault, h sheets, refl)
 pub component_then : (before mid : AskedData) (object : ObjectData) (values : List (List ℕ)) (known : ProjectFiles) (outcome : Result AskedData FileFault) → values ≡ sources_of object (symbol_of mid.symbols (asked_symbol object)) → AsksSymbol before (asked_symbol object) known (Ok mid) → AsksValues mid values known outcome → AsksComponent before object known outcome
 component_then before mid object values known (Err fault) is first next = absurd next
 component_then before mid object values known (Ok now) is first next = λ sheets.
-    let queue : now.queue ≡ fold (with_value known.sheets) mid.queue (sources_of object (symbol_of mid.symbols (asked_symbol object))) = next.0 ∙ ap (fold (with_value known.sheets) mid.queue) is in
+    let queue : now.queue ≡ fold (queue_with_value known.sheets) mid.queue (sources_of object (symbol_of mid.symbols (asked_symbol object))) = next.0 ∙ ap (fold (queue_with_value known.sheets) mid.queue) is in
     let symbols = next.1 in
     (Ok (gathered sheets mid), first sheets, λ i. Ok (record { queue = queue i; sheets = sheets; symbols = symbols i }))
 

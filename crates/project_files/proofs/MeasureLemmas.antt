@@ -25,7 +25,7 @@ use Rattle.project_model.proofs.Rows.{ids, key_same, names}
 use Rattle.project_files.specs.declared.fault.FileFault.TheVariants as faults
 use Rattle.project_files.specs.Gathering.{AskedSymbol, Gathered}
 use Rattle.project_files.specs.Measures.{LeavesIds, symbols_text, text_bytes}
-use Rattle.project_files.specs.Opening.{all_objects, found_symbol, has_too_many_objects, is_over_full, library_of, most_project_objects, object_items, opened, opening, sheet_items, sheets_items, symbol_items}
+use Rattle.project_files.specs.Opening.{all_objects, found_symbol, has_too_many_objects, is_over_full, found_library, most_project_objects, object_items, gathered_project, gathered_items, sheet_items, sheets_items, symbol_items}
 use Rattle.project_files.specs.steps.Counting.{asked_bytes}
 use Rattle.project_files.specs.steps.Standing.{IsWhole}
 use Rattle.project_files.proofs.OpeningLemmas.{opening_in_range}
@@ -126,28 +126,28 @@ no_symbols : symbols_text empty_project ≡ 0
 no_symbols = none_in (entries empty_project.symbols) (sym (len-entries empty_project.symbols) ∙ len-empty (slice_cmp nat_cmp) SymbolData)
 
 -- what is opened is a project within its limits
-is_opened : (g : Gathered) (p : ProjectData) → Ok p ≡ opened g → (p ≡ put empty_project (opening g)) × (length (all_objects g) ≤ most_project_objects)
+is_opened : (g : Gathered) (p : ProjectData) → Ok p ≡ gathered_project g → (p ≡ put empty_project (gathered_items g)) × (length (all_objects g) ≤ most_project_objects)
 is_opened g p is = go (has_too_many_objects g) (is_over_full g) refl is
   where
-    go : (many full : Bool) → has_too_many_objects g ≡ many → Ok p ≡ cond many (Err faults.TooManyObjects) (cond full (Err faults.ProjectFull) (Ok (put empty_project (opening g))))
-        → (p ≡ put empty_project (opening g)) × (length (all_objects g) ≤ most_project_objects)
+    go : (many full : Bool) → has_too_many_objects g ≡ many → Ok p ≡ cond many (Err faults.TooManyObjects) (cond full (Err faults.ProjectFull) (Ok (put empty_project (gathered_items g))))
+        → (p ≡ put empty_project (gathered_items g)) × (length (all_objects g) ≤ most_project_objects)
     go true full few h = absurd cc
     go false true few h = absurd cc
     go false false few h = (cc, ltb-false most_project_objects (length (all_objects g)) few)
 
-pub opened_leaves_ids : (g : Gathered) (p : ProjectData) → Ok p ≡ opened g → LeavesIds p
+pub opened_leaves_ids : (g : Gathered) (p : ProjectData) → Ok p ≡ gathered_project g → LeavesIds p
 opened_leaves_ids g p is =
     let made = is_opened g p is in
-    subst LeavesIds (sym made.0) (leaves_put empty_project (opening g) (λ id some. absurd (let none = subst IsSome (get-empty nat_cmp id) some in cc)) (opening_in_range g made.1))
+    subst LeavesIds (sym made.0) (leaves_put empty_project (gathered_items g) (λ id some. absurd (let none = subst IsSome (get-empty nat_cmp id) some in cc)) (opening_in_range g made.1))
 
-pub opened_symbols : (g : Gathered) (p : ProjectData) → IsWhole g → Ok p ≡ opened g → sum_by asked_bytes g.symbols ≡ symbols_text p
+pub opened_symbols : (g : Gathered) (p : ProjectData) → IsWhole g → Ok p ≡ gathered_project g → sum_by asked_bytes g.symbols ≡ symbols_text p
 opened_symbols g p whole is =
     let made = is_opened g p is in
     let with_sheets : ProjectData = put empty_project (sheets_items 0 g.queue g.sheets) in
     let kept = sheets_keep empty_project 0 g.queue g.sheets in
     let new : All (λ (a : AskedSymbol). get with_sheets.symbols a.0 ≡ None) g.symbols = λ i d lt. ap (λ (m : FinMap (slice_cmp nat_cmp) SymbolData). get m (get_or g.symbols i d).0) kept ∙ get-empty (slice_cmp nat_cmp) (get_or g.symbols i d).0 in
     let added = symbols_add with_sheets g.symbols whole.symbols_apart new in
-    let all = ap symbols_text (put-append empty_project (sheets_items 0 g.queue g.sheets) (symbol_items (library_of g))) in
+    let all = ap symbols_text (put-append empty_project (sheets_items 0 g.queue g.sheets) (symbol_items (found_library g))) in
     let none : symbols_text with_sheets ≡ 0 = ap (λ (m : FinMap (slice_cmp nat_cmp) SymbolData). sum_by text_bytes (values m)) kept ∙ no_symbols in
     let same = ap symbols_text made.0 in
     omega (arith, added, all, none, same)

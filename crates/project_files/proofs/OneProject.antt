@@ -12,8 +12,8 @@ use Rattle.project_files.specs.declared.fault.FileFault.{FileFault}
 use Rattle.project_files.specs.declared.fault.FileFault.TheVariants as faults
 use Rattle.project_files.specs.FileReads.{FileComesTo, ReadAs, Then}
 use Rattle.project_files.specs.Gathering.{Gathered, ObjectComesTo, ObjectsComeTo, ProjectFiles, SymbolComesTo, SymbolFileComesTo, SymbolUnless, is_asked, unread, with_sources, with_symbol}
-use Rattle.project_files.specs.Opening.{opened}
-use Rattle.project_files.specs.ProjectFiles.{GathersTo, SheetFileComesTo, SheetsComeTo, SheetComesTo, with_sheet}
+use Rattle.project_files.specs.Opening.{gathered_project}
+use Rattle.project_files.specs.ProjectFiles.{GathersTo, SheetFileComesTo, SheetsComeTo, SheetComesTo, with_read_sheet}
 
 -- two outcomes are one
 abbrev pub IsOne : {A E : Type 0} → (Result A E → Type 0) → Type 0
@@ -64,7 +64,7 @@ objects_one files (o ∷ os) g first second (read, come, p) (other, does, q) =
     after_one (ObjectComesTo files o g) (ObjectsComeTo files os) (object_one files o g) (objects_one files os) read other first second come does p q
 
 sheet_file_one : (files : ProjectFiles) (g : Gathered) (name : List ℕ) → IsOne (SheetFileComesTo files g name)
-sheet_file_one files g name = file_one (faults.Missing name) _ (read_one sheet_file sheet_determined (faults.Refused name) (SheetComesTo files g) (λ sheet. objects_one files sheet.objects (with_sheet g sheet))) (files.sheets name)
+sheet_file_one files g name = file_one (faults.Missing name) _ (read_one sheet_file sheet_determined (faults.Refused name) (SheetComesTo files g) (λ sheet. objects_one files sheet.objects (with_read_sheet g sheet))) (files.sheets name)
 
 -- sheets, however many there are
 sheets_one : (files : ProjectFiles) (n m : ℕ) (g : Gathered) (first second : Result Gathered FileFault) → SheetsComeTo files n g first → SheetsComeTo files m g second → first ≡ second
@@ -84,4 +84,4 @@ sheets_one files (suc n) (suc m) g first second (name, next, (read, come, p)) (m
 pub gathers_one : (files : ProjectFiles) (names : List (List ℕ)) → IsOne (GathersTo files names)
 gathers_one files names first second (n, (read, come, p)) (m, (other, does, q)) =
     let same = sheets_one files n m (unread names) read other come does in
-    then_one (λ (g : Gathered) (end : Result ProjectData FileFault). end ≡ opened g) (λ g one another is so. is ∙ sym so) other first second (subst (λ (r : Result Gathered FileFault). Then r (λ (g : Gathered) (end : Result ProjectData FileFault). end ≡ opened g) first) same p) q
+    then_one (λ (g : Gathered) (end : Result ProjectData FileFault). end ≡ gathered_project g) (λ g one another is so. is ∙ sym so) other first second (subst (λ (r : Result Gathered FileFault). Then r (λ (g : Gathered) (end : Result ProjectData FileFault). end ≡ gathered_project g) first) same p) q

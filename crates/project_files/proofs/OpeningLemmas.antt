@@ -11,7 +11,7 @@ use Rattle.project_model.specs.Projects.{ProjectData, empty_project}
 use Rattle.project_model.specs.Changes.{IsIdInRange, ThingsAreInRange, put}
 use Rattle.project_model.proofs.ChangeLemmas.{put-append}
 use Rattle.project_files.specs.Gathering.{Gathered}
-use Rattle.project_files.specs.Opening.{Library, all_objects, library_of, most_project_objects, object_items, opening, sheet_items, sheets_items, symbol_items}
+use Rattle.project_files.specs.Opening.{Library, all_objects, found_library, most_project_objects, object_items, gathered_items, sheet_items, sheets_items, symbol_items}
 
 -- the items of an object, a sheet and a symbol
 abbrev object_item : List ℕ → ℕ → ObjectData → Item
@@ -40,10 +40,10 @@ symbols_in_range [] = All-nil _
 symbols_in_range (symbol ∷ library) = All-cons (λ (item : Item). IsIdInRange item.0) (symbol_item symbol.0 symbol.1) (symbol_items library) tt (symbols_in_range library)
 
 -- so are those of the whole change that opens it
-pub opening_in_range : (g : Gathered) → length (all_objects g) ≤ most_project_objects → ThingsAreInRange (opening g)
+pub opening_in_range : (g : Gathered) → length (all_objects g) ≤ most_project_objects → ThingsAreInRange (gathered_items g)
 opening_in_range g few =
-    All-append (λ (item : Item). IsIdInRange item.0) (sheets_items 0 g.queue g.sheets) (symbol_items (library_of g))
-    (sheets_in_range 0 g.queue g.sheets (omega (arith, few))) (symbols_in_range (library_of g))
+    All-append (λ (item : Item). IsIdInRange item.0) (sheets_items 0 g.queue g.sheets) (symbol_items (found_library g))
+    (sheets_in_range 0 g.queue g.sheets (omega (arith, few))) (symbols_in_range (found_library g))
 
 -- one more sheet is put in, before those that are left
 pub next_sheet : (p now : ProjectData) (id next : ℕ) (name : List ℕ) (names : List (List ℕ)) (sheet : SheetData) (sheets : List SheetData) → now ≡ put p (sheet_items name id sheet) → next ≡ id + length sheet.objects → put now (sheets_items next names sheets) ≡ put p (sheets_items id (name ∷ names) (sheet ∷ sheets))
@@ -52,7 +52,7 @@ next_sheet p now id next name names sheet sheets is at =
     ∙ sym (put-append p (sheet_items name id sheet) (sheets_items (id + length sheet.objects) names sheets))
 
 -- the sheets and then the symbols are put in
-pub opened_whole : (g : Gathered) (start sheets all : ProjectData) → start ≡ empty_project → sheets ≡ put start (sheets_items 0 g.queue g.sheets) → all ≡ put sheets (symbol_items (library_of g)) → all ≡ put empty_project (opening g)
+pub opened_whole : (g : Gathered) (start sheets all : ProjectData) → start ≡ empty_project → sheets ≡ put start (sheets_items 0 g.queue g.sheets) → all ≡ put sheets (symbol_items (found_library g)) → all ≡ put empty_project (gathered_items g)
 opened_whole g start sheets all empty first last =
-    last ∙ ap (λ (p : ProjectData). put p (symbol_items (library_of g))) (first ∙ ap (λ (p : ProjectData). put p (sheets_items 0 g.queue g.sheets)) empty)
-    ∙ sym (put-append empty_project (sheets_items 0 g.queue g.sheets) (symbol_items (library_of g)))
+    last ∙ ap (λ (p : ProjectData). put p (symbol_items (found_library g))) (first ∙ ap (λ (p : ProjectData). put p (sheets_items 0 g.queue g.sheets)) empty)
+    ∙ sym (put-append empty_project (sheets_items 0 g.queue g.sheets) (symbol_items (found_library g)))

@@ -4,12 +4,12 @@ use Rattle.std.specs.declared.option.Option.{Option}
 use Rattle.geda_defs.specs.Contents.{Files}
 use Rattle.project_files.specs.declared.fault.FileFault.{FileFault}
 use Rattle.project_files.specs.Gathering.{Gathered}
-use Rattle.project_files.specs.Opening.{opened}
+use Rattle.project_files.specs.Opening.{gathered_project}
 use Rattle.project_files.specs.ProjectFiles.{GathersFrom}
 use Rattle.project_files.specs.steps.Standing.{ReadsFrom}
 
 -- all is gathered, and comes to a project or to a fault
-pub gathers : (files : Option Files) (names : List (List ℕ)) (g : Gathered) → ReadsFrom files names (Ok g) → GathersFrom files names (opened g)
+pub gathers : (files : Option Files) (names : List (List ℕ)) (g : Gathered) → ReadsFrom files names (Ok g) → GathersFrom files names (gathered_project g)
 gathers None names g (known, (count, h)) = (known, (count, (Ok g, h, refl)))
 gathers (Some known) names g (count, h) = (count, (Ok g, h, refl))
 

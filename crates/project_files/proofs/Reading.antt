@@ -8,7 +8,7 @@ use Rattle.geda_grammar.specs.Spelling.{Spells}
 use Rattle.geda_grammar.specs.Faults.{FileKind, IsFault, sheet_file, symbol_file}
 use Rattle.project_files.specs.declared.fault.FileFault.{FileFault}
 use Rattle.project_files.specs.declared.fault.FileFault.TheVariants as faults
-use Rattle.project_files.specs.FileReads.{IsRead, ReadAs}
+use Rattle.project_files.specs.FileReads.{WasRead, ReadAs}
 use Rattle.project_files.specs.ProjectFiles.{OfSome}
 use Rattle.project_files.specs.steps.Reading.{IsFound, SheetOf, SymbolOf}
 
@@ -30,21 +30,21 @@ read_whole file refused Comes whole outcome (inr (line, kind, fault, is)) = inr 
 
 pub sheet_whole : (name : List ℕ) (read : Result _ FileFault) → HoldsOfWhole (λ file. SheetOf name file read)
 sheet_whole name read None h = h
-sheet_whole name read (Some whole) h = read_whole sheet_file (faults.Refused name) IsRead whole read h
+sheet_whole name read (Some whole) h = read_whole sheet_file (faults.Refused name) WasRead whole read h
 
 pub symbol_whole : (name : List ℕ) (read : Result _ FileFault) → HoldsOfWhole (λ file. SymbolOf name file read)
 symbol_whole name read None h = h
 symbol_whole name read (Some whole) h = read_whole symbol_file (faults.Refused name) IsFound whole read h
 
 -- a value that was read, as what comes of it
-pub read_then : {V A E : Type 0} (file : FileKind V) (told : ℕ → ReadKind → FileFault) (refused : ℕ → ReadKind → E) (Comes : V → Result A E → Type 0) (bytes : List ℕ) (value : V) (outcome : Result A E) → ReadAs file told IsRead bytes (Ok value) → Comes value outcome → ReadAs file refused Comes bytes outcome
+pub read_then : {V A E : Type 0} (file : FileKind V) (told : ℕ → ReadKind → FileFault) (refused : ℕ → ReadKind → E) (Comes : V → Result A E → Type 0) (bytes : List ℕ) (value : V) (outcome : Result A E) → ReadAs file told WasRead bytes (Ok value) → Comes value outcome → ReadAs file refused Comes bytes outcome
 read_then {V = V} file told refused Comes bytes value outcome (inl (other, spelled, is)) comes =
     let e : other ≡ value = cc in
     inl (value, subst (λ (v : V). Spells file.Spell bytes v) e spelled, comes)
 read_then file told refused Comes bytes value outcome (inr (line, kind, fault, is)) comes = absurd cc
 
 -- a fault that was met, as what it makes of another
-pub read_refused : {V A E : Type 0} (file : FileKind V) (name bytes : List ℕ) (made : FileFault → E) (Comes : V → Result A E → Type 0) (fault : FileFault) → ReadAs file (faults.Refused name) IsRead bytes (Err fault) → ReadAs file (λ line kind. made (faults.Refused name line kind)) Comes bytes (Err (made fault))
+pub read_refused : {V A E : Type 0} (file : FileKind V) (name bytes : List ℕ) (made : FileFault → E) (Comes : V → Result A E → Type 0) (fault : FileFault) → ReadAs file (faults.Refused name) WasRead bytes (Err fault) → ReadAs file (λ line kind. made (faults.Refused name line kind)) Comes bytes (Err (made fault))
 read_refused file name bytes made Comes fault (inl (value, spelled, is)) = absurd cc
 read_refused file name bytes made Comes fault (inr (line, kind, has, is)) =
     let e : fault ≡ faults.Refused name line kind = cc in

@@ -19,7 +19,7 @@ use Rattle.geda_grammar.specs.Faults.{sheet_file}
 use Rattle.project_files.specs.declared.fault.FileFault.{FileFault}
 use Rattle.project_files.specs.declared.fault.FileFault.TheVariants as faults
 use Rattle.project_files.specs.Gathering.{AskedSymbol, Gathered, ProjectFiles, unread}
-use Rattle.project_files.specs.FileReads.{FileComesTo, IsRead, ReadAs}
+use Rattle.project_files.specs.FileReads.{FileComesTo, WasRead, ReadAs}
 use Rattle.project_files.specs.ProjectFiles.{SheetComesTo, SheetsComeTo, OfFiles}
 use Rattle.project_files.specs.steps.Standing.{ReadsFrom, Continues, IsStart, StandsAt}
 use Rattle.project_files.specs.steps.Reading.{SheetFrom, SheetOf}
@@ -291,12 +291,12 @@ module _ {told : Option Files} {names read : List (List ℕ)} {sheets : List She
   pub found_turn : {before : AskedData} {inside file : SheetFileData} {bytes : List ℕ}
       (asked : AskedData) (result : Result SheetData FileFault) →
       StandsAt told names read [] before sheets → TakesNext before (Some file) asked → inside ≡ file → bytes ≡ inside.bytes →
-      ReadAs sheet_file (faults.Refused inside.name) IsRead bytes result →
+      ReadAs sheet_file (faults.Refused inside.name) WasRead bytes result →
       TurnAt told names sheets asked (read ++ file.name ∷ []) [] file.name result
   found_turn {inside = inside} {file = file} {bytes = bytes} asked result at_stand next is whole comes =
       turn_of_found asked file result (subst (λ (a : AskedData). StandsAt told names read [] a sheets) next at_stand)
       (subst (λ (f : SheetFileData). SheetOf f.name (Some f.bytes) result) is
-      (subst (λ (b : List ℕ). ReadAs sheet_file (faults.Refused inside.name) IsRead b result) whole comes))
+      (subst (λ (b : List ℕ). ReadAs sheet_file (faults.Refused inside.name) WasRead b result) whole comes))
 
 -- no file waits: all is read
 module _ {told : Option Files} {names read : List (List ℕ)} {before : AskedData} {sheets : List SheetData}

@@ -9,7 +9,7 @@ use Rattle.std.proofs.lemmas.List.Sums.{sum_by-append, sum_by-cons}
 use Rattle.geda_model.specs.Limits.{most_sheets, most_symbols}
 use Rattle.geda_model.specs.Sheets.{SheetData}
 use Rattle.project_files.specs.Gathering.{AskedSymbol, Gathered}
-use Rattle.project_files.specs.Opening.{all_objects, found_symbol, is_over_full, library_of, object_bytes, project_text, symbol_bytes}
+use Rattle.project_files.specs.Opening.{all_objects, found_symbol, is_over_full, found_library, object_bytes, project_text, symbol_bytes}
 use Rattle.project_files.specs.steps.Counting.{asked_bytes, object_count, sheet_bytes}
 
 zero_more : (n : ℕ) → n + 0 ≡ n
@@ -52,22 +52,22 @@ objects_of_sheets g sheets count same is =
 
 pub text_of_parts : (g : Gathered) (sheets : List SheetData) (symbols : List AskedSymbol) (one other kept : ℕ) → sheets ≡ g.sheets → symbols ≡ g.symbols → one ≡ min (sum_by sheet_bytes sheets) (2 ^ 64 - 1) → other ≡ min (sum_by asked_bytes symbols) (2 ^ 64 - 1) → kept ≡ min (one + other) (2 ^ 64 - 1) → kept ≡ min (project_text g) (2 ^ 64 - 1)
 text_of_parts g sheets symbols one other kept s t p q is =
-    both_sums one other kept (sum_by object_bytes (all_objects g)) (sum_by symbol_bytes (library_of g))
+    both_sums one other kept (sum_by object_bytes (all_objects g)) (sum_by symbol_bytes (found_library g))
     (p ∙ ap (λ (l : List SheetData). min (sum_by sheet_bytes l) (2 ^ 64 - 1)) s ∙ ap (λ (n : ℕ). min n (2 ^ 64 - 1)) (sym (sum_of_sheets g.sheets)))
     (q ∙ ap (λ (l : List AskedSymbol). min (sum_by asked_bytes l) (2 ^ 64 - 1)) t ∙ ap (λ (n : ℕ). min n (2 ^ 64 - 1)) (sym (sum_of_symbols g.symbols))) is
 
 -- with no more sheets and symbols than there may be, the text decides
-pub full_by_text : (g : Gathered) (kept : ℕ) → length g.sheets ≤ 1024 → length (library_of g) ≤ 8192 → kept ≡ min (project_text g) (2 ^ 64 - 1) → nat_lt 67108864 kept ≡ is_over_full g
+pub full_by_text : (g : Gathered) (kept : ℕ) → length g.sheets ≤ 1024 → length (found_library g) ≤ 8192 → kept ≡ min (project_text g) (2 ^ 64 - 1) → nat_lt 67108864 kept ≡ is_over_full g
 full_by_text g kept sheets symbols is =
     past_limit 67108864 kept (project_text g) (omega arith) is
-    ∙ sym (ap₂ (λ (a b : Bool). a || (b || nat_lt 67108864 (project_text g))) (le-ltb 1024 (length g.sheets) sheets) (le-ltb 8192 (length (library_of g)) symbols))
+    ∙ sym (ap₂ (λ (a b : Bool). a || (b || nat_lt 67108864 (project_text g))) (le-ltb 1024 (length g.sheets) sheets) (le-ltb 8192 (length (found_library g)) symbols))
 
 -- what is not over full has few sheets and symbols
-pub few_parts : (g : Gathered) → is_over_full g ≡ false → (length g.sheets ≤ most_sheets) × (length (library_of g) ≤ most_symbols)
+pub few_parts : (g : Gathered) → is_over_full g ≡ false → (length g.sheets ≤ most_sheets) × (length (found_library g) ≤ most_symbols)
 few_parts g e =
     let parts = or_false (nat_lt most_sheets (length g.sheets)) _ e in
-    let more = or_false (nat_lt most_symbols (length (library_of g))) _ parts.1 in
-    (ltb-false most_sheets (length g.sheets) parts.0, ltb-false most_symbols (length (library_of g)) more.0)
+    let more = or_false (nat_lt most_symbols (length (found_library g))) _ parts.1 in
+    (ltb-false most_sheets (length g.sheets) parts.0, ltb-false most_symbols (length (found_library g)) more.0)
   where
     or_false : (a b : Bool) → (a || b) ≡ false → (a ≡ false) × (b ≡ false)
     or_false true b e = absurd cc

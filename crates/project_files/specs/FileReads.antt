@@ -23,8 +23,8 @@ ReadAs {V = V} file refused ComesTo bytes outcome =
     × (outcome ≡ Err (refused line kind)))
 
 -- a value is what was read
-abbrev pub IsRead : {A : Type 0} → A → Result A FileFault → Type 0
-IsRead value read = read ≡ Ok value
+abbrev pub WasRead : {A : Type 0} → A → Result A FileFault → Type 0
+WasRead value read = read ≡ Ok value
 
 -- what comes after something that may be a fault: a fault is what it all comes to
 abbrev pub Then : {A B E : Type 0} →

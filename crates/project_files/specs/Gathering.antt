@@ -51,16 +51,16 @@ abbrev pub unread : List (List ℕ) → Gathered
 unread names = record { queue = names; sheets = []; symbols = [] }
 
 -- a symbol file has this name
-abbrev pub has_name : List ℕ → AskedSymbol → Bool
-has_name name asked = bytes_eq name asked.0
+abbrev pub has_file_name : List ℕ → AskedSymbol → Bool
+has_file_name name asked = bytes_eq name asked.0
 
 -- the symbol file of a name was asked for
 abbrev pub is_asked : Gathered → List ℕ → Bool
-is_asked g name = list_any (has_name name) g.symbols
+is_asked g name = list_any (has_file_name name) g.symbols
 
 -- the symbol that was read under a name
 abbrev pub symbol_read : Gathered → List ℕ → Option SymbolData
-symbol_read g name = option_and_then (λ asked. asked.1) (find (has_name name) g.symbols)
+symbol_read g name = option_and_then (λ asked. asked.1) (find (has_file_name name) g.symbols)
 
 -- with one more symbol file
 abbrev pub with_symbol : Gathered → List ℕ → Option SymbolData → Gathered
@@ -113,14 +113,14 @@ is_new_sheet sheets queue value =
     is_name value && (not (list_any (bytes_eq value) queue) && is_some (sheets value))
 
 -- the queue with such a value behind it
-abbrev pub with_value : Files → List (List ℕ) → List ℕ → List (List ℕ)
-with_value sheets queue value =
+abbrev pub queue_with_value : Files → List (List ℕ) → List ℕ → List (List ℕ)
+queue_with_value sheets queue value =
     if is_new_sheet sheets queue value then queue ++ value ∷ [] else queue
 
 -- with the sheets that an object names
 abbrev pub with_sources : Files → ObjectData → Gathered → Gathered
 with_sources sheets o g = record {
-  queue = fold (with_value sheets) g.queue (named_sheets o (library_read g o));
+  queue = fold (queue_with_value sheets) g.queue (named_sheets o (library_read g o));
   sheets = g.sheets;
   symbols = g.symbols;
 }

@@ -23,8 +23,8 @@ abbrev pub found_symbol : AskedSymbol → Option (List ℕ × SymbolData)
 found_symbol asked = option_map (λ symbol. (asked.0, symbol)) asked.1
 
 -- the symbols that were found
-abbrev pub library_of : Gathered → Library
-library_of g = filter_map found_symbol g.symbols
+abbrev pub found_library : Gathered → Library
+found_library g = filter_map found_symbol g.symbols
 
 -- the objects of all sheets
 abbrev pub all_objects : Gathered → List ObjectData
@@ -40,7 +40,7 @@ symbol_bytes symbol = length (symbol_text symbol.1)
 
 -- the bytes of the canonical texts of all objects and symbols
 abbrev pub project_text : Gathered → ℕ
-project_text g = sum_by object_bytes (all_objects g) + sum_by symbol_bytes (library_of g)
+project_text g = sum_by object_bytes (all_objects g) + sum_by symbol_bytes (found_library g)
 
 -- the objects that all sheets of a project may have
 abbrev pub most_project_objects : ℕ
@@ -54,7 +54,7 @@ has_too_many_objects g = nat_lt most_project_objects (length (all_objects g))
 abbrev pub is_over_full : Gathered → Bool
 is_over_full g =
     nat_lt most_sheets (length g.sheets)
-    || (nat_lt most_symbols (length (library_of g)) || nat_lt most_project_text (project_text g))
+    || (nat_lt most_symbols (length (found_library g)) || nat_lt most_project_text (project_text g))
 
 -- objects of a sheet, of which the first has this id
 abbrev pub object_items : List ℕ → ℕ → List ObjectData → List Item
@@ -81,12 +81,12 @@ symbol_items library =
 
 -- the change that opens a project: the sheets in order, their objects under the ids from 0, and the
 -- symbols
-abbrev pub opening : Gathered → List Item
-opening g = sheets_items 0 g.queue g.sheets ++ symbol_items (library_of g)
+abbrev pub gathered_items : Gathered → List Item
+gathered_items g = sheets_items 0 g.queue g.sheets ++ symbol_items (found_library g)
 
 -- the project of what is gathered; limits are met after all reading
-abbrev pub opened : Gathered → Result ProjectData FileFault
-opened g =
+abbrev pub gathered_project : Gathered → Result ProjectData FileFault
+gathered_project g =
     if has_too_many_objects g then Err faults.TooManyObjects
     else if is_over_full g then Err faults.ProjectFull
-    else Ok (put empty_project (opening g))
+    else Ok (put empty_project (gathered_items g))

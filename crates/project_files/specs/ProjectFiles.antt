@@ -10,13 +10,13 @@ use Rattle.geda_grammar.specs.Faults.{sheet_file}
 use Rattle.project_files.specs.declared.fault.FileFault.{FileFault}
 use Rattle.project_files.specs.Gathering.{Gathered, ObjectsComeTo, ProjectFiles, unread}
 use Rattle.project_files.specs.FileReads.{FileComesTo, ReadAs, Then}
-use Rattle.project_files.specs.Opening.{opened}
+use Rattle.project_files.specs.Opening.{gathered_project}
 use Rattle.outside.specs.Counts.{Counts, Failed}
 use Rattle.project_files.specs.declared.fault.FileFault.TheVariants as faults
 
 -- with one more sheet that is read
-abbrev pub with_sheet : Gathered → SheetData → Gathered
-with_sheet g sheet = record {
+abbrev pub with_read_sheet : Gathered → SheetData → Gathered
+with_read_sheet g sheet = record {
   queue = g.queue;
   sheets = g.sheets ++ sheet ∷ [];
   symbols = g.symbols;
@@ -26,7 +26,7 @@ with_sheet g sheet = record {
 abbrev pub SheetComesTo :
     ProjectFiles → Gathered → SheetData → Result Gathered FileFault → Type 0
 SheetComesTo files g sheet outcome =
-    ObjectsComeTo files sheet.objects (with_sheet g sheet) outcome
+    ObjectsComeTo files sheet.objects (with_read_sheet g sheet) outcome
 
 -- what the file of a sheet comes to
 abbrev pub SheetFileComesTo :
@@ -54,7 +54,7 @@ abbrev pub GathersTo : ProjectFiles → List (List ℕ) → Result ProjectData F
 GathersTo files names outcome =
     (count : ℕ)
     × ((read : Result Gathered FileFault) × SheetsComeTo files count (unread names) read
-    × Then read (λ g end. end ≡ opened g) outcome)
+    × Then read (λ g end. end ≡ gathered_project g) outcome)
 
 -- something holds of the files of sheets and symbols that a folder tells; where it tells none, of
 -- some files

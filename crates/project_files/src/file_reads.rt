@@ -3,7 +3,7 @@ ghost use Rattle.std.specs.Prelude.{◌≡◌, ◌≤◌, IfOk, Some, None, if�
 ghost use Rattle.geda_defs.specs.Contents.{KeepsFiles};
 ghost use Rattle.geda_grammar.specs.Faults.{sheet_file, symbol_file};
 ghost use Rattle.geda_model.specs.Names.{is_name};
-ghost use Rattle.project_files.specs.FileReads.{IsRead, ReadAs};
+ghost use Rattle.project_files.specs.FileReads.{WasRead, ReadAs};
 ghost use Rattle.project_files.specs.Gathering.{asked_symbol};
 ghost use Rattle.outside.specs.Counts.{counts};
 ghost use Rattle.project_files.specs.ProjectFiles.{IsAnswer, IsFolderAnswer};
@@ -45,7 +45,7 @@ pub fn asked_symbol(alloc: Global, object: &Object) -> Result<Option<Name>, Allo
 /// `Refused` exactly where they spell none, with the line and the kind of their fault
 /// (docs/RULES.md, "Faults").
 pub fn sheet_in(alloc: Global, name: &Name, bytes: &[u8]) -> Result<Sheet, FileFault>
-    ensures { IsAnswer (ReadAs sheet_file (Refused name.now) IsRead bytes.now) result }
+    ensures { IsAnswer (ReadAs sheet_file (Refused name.now) WasRead bytes.now) result }
 {
     match read_sheet(alloc, bytes) {
         Ok(sheet) => Ok(sheet),
@@ -58,7 +58,7 @@ pub fn sheet_in(alloc: Global, name: &Name, bytes: &[u8]) -> Result<Sheet, FileF
 /// `Refused` exactly where they spell none, with the line and the kind of their fault
 /// (docs/RULES.md, "Faults").
 pub fn symbol_in(alloc: Global, name: &Name, bytes: &[u8]) -> Result<Symbol, FileFault>
-    ensures { IsAnswer (ReadAs symbol_file (Refused name.now) IsRead bytes.now) result }
+    ensures { IsAnswer (ReadAs symbol_file (Refused name.now) WasRead bytes.now) result }
 {
     match read_symbol(alloc, bytes) {
         Ok(symbol) => Ok(symbol),

@@ -4,8 +4,8 @@ ghost use Rattle.std.specs.List.{filter_map, sum_by};
 ghost use Rattle.geda_model.specs.Limits.{most_sheets, most_symbols};
 ghost use Rattle.project_model.specs.Changes.{put};
 ghost use Rattle.project_model.specs.Projects.{empty_project};
-ghost use Rattle.project_files.specs.Opening.{found_symbol, library_of, most_project_objects};
-ghost use Rattle.project_files.specs.Opening.{object_items, opened, opening, sheet_items};
+ghost use Rattle.project_files.specs.Opening.{found_symbol, found_library, most_project_objects};
+ghost use Rattle.project_files.specs.Opening.{object_items, gathered_project, gathered_items, sheet_items};
 ghost use Rattle.project_files.specs.Opening.{sheets_items, symbol_items};
 ghost use Rattle.project_files.specs.ProjectFiles.{IsAnswer, with_view};
 ghost use Rattle.project_files.specs.steps.Counting.{object_count};
@@ -105,8 +105,9 @@ fn put_symbols(project: &mut Project, symbols: Vec<(Name, Option<Symbol>)>)
 fn project_from(alloc: Global, gathered: GatheredFiles) -> Result<Project, AllocError>
     requires objects { sum_by object_count gathered.sheets ≤ most_project_objects }
     requires sheets { length gathered.queue ≤ most_sheets }
-    requires symbols { length (library_of gathered) ≤ most_symbols }
-    ensures { IfOk result (λ project. project.contents ≡ put empty_project (opening gathered)) }
+    requires symbols { length (found_library gathered) ≤ most_symbols }
+    ensures { IfOk result
+        (λ project. project.contents ≡ put empty_project (gathered_items gathered)) }
 {
     let GatheredFiles {
         queue,
@@ -128,7 +129,8 @@ fn project_from(alloc: Global, gathered: GatheredFiles) -> Result<Project, Alloc
 /// exactly where else there are more sheets or symbols, or more text (docs/FORMATS.md, "Limits").
 pub fn opened(alloc: Global, gathered: GatheredFiles) -> Result<Project, FileFault>
     requires { IsWhole gathered }
-    ensures { IsAnswer (λ end. end ≡ opened gathered) (with_view (λ p. p.contents) result) }
+    ensures { IsAnswer (λ end. end ≡ gathered_project gathered)
+        (with_view (λ p. p.contents) result) }
 {
     if has_too_many_objects(&gathered) {
         return Err(FileFault::TooManyObjects);

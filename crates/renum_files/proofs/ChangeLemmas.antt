@@ -11,7 +11,7 @@ use Rattle.refdes_renum.specs.Renumbering.{renumbered}
 use Rattle.refdes_renum.proofs.LawLemmas.{replaced}
 use Rattle.renum_files.specs.declared.fault.RenumberFault.{RenumberFault}
 use Rattle.renum_files.specs.declared.fault.RenumberFault.TheVariants as faults
-use Rattle.renum_files.specs.RenumberedFiles.{File, Gives, RenumberedData, counted}
+use Rattle.renum_files.specs.RenumberedFiles.{File, GivesRenumbered, RenumberedData, counted}
 
 -- an object that gets a new value
 one_keeps : (p q : ProjectData) (item : Item) → IsReplaced p item → symbols_text (put_one q item.0 item.1) ≡ symbols_text q
@@ -27,7 +27,7 @@ pub symbols_kept : (p : ProjectData) → symbols_text (put p (renumbered p)) ≡
 symbols_kept p = all_keep p p (renumbered p) (replaced p)
 
 -- a fault of the files is one of the whole
-pub fault_passed : (count : ℕ) (end : Result (List File) RenumberFault) (fault : RenumberFault) → Gives (λ (files : List File). files) (Err fault) end
-    → Gives (λ (r : RenumberedData). r) (Err fault) (result_map_both (counted count) (λ (e : RenumberFault). e) end)
+pub fault_passed : (count : ℕ) (end : Result (List File) RenumberFault) (fault : RenumberFault) → GivesRenumbered (λ (files : List File). files) (Err fault) end
+    → GivesRenumbered (λ (r : RenumberedData). r) (Err fault) (result_map_both (counted count) (λ (e : RenumberFault). e) end)
 fault_passed count end faults.NoMemory is = tt
 fault_passed count end faults.ProjectFull is = ap (result_map_both (counted count) (λ (e : RenumberFault). e)) is

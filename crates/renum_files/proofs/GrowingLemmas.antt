@@ -21,7 +21,7 @@ use Rattle.geda_model.specs.Sheets.{HeadData}
 use Rattle.project_files.proofs.WriteLemmas.{seen}
 use Rattle.project_model.specs.declared.change.Placed.{Placed}
 use Rattle.project_model.specs.Projects.{ProjectData, is_on}
-use Rattle.renum_files.specs.RenumberedFiles.{File, sheet_file}
+use Rattle.renum_files.specs.RenumberedFiles.{File, renumbered_sheet_file}
 use Rattle.renum_files.specs.steps.Growing.{head_file, with_head, with_heads, with_object, with_objects}
 use Rattle.renum_files.specs.steps.Rows.{row_text}
 use Rattle.renum_files.proofs.RowLemmas.{texts_of}
@@ -153,18 +153,18 @@ each_grown : (rows : List (ℕ × Placed)) (files : List File) → with_objects 
 each_grown [] files = no_rows files
 each_grown (row ∷ rows) files = each_grown rows (map (with_object row.1) files) ∙ rows_first row rows files
 
-whole : (p : ProjectData) (names : List (List ℕ)) → map (with_rows (entries p.objects)) (filter_map (head_file p) names) ≡ filter_map (sheet_file p) names
+whole : (p : ProjectData) (names : List (List ℕ)) → map (with_rows (entries p.objects)) (filter_map (head_file p) names) ≡ filter_map (renumbered_sheet_file p) names
 whole p [] = refl
 whole p (name ∷ names) = by (get p.sheets name) refl (whole p names)
   where
     by : (o : Option HeadData) → get p.sheets name ≡ o
-        → map (with_rows (entries p.objects)) (filter_map (head_file p) names) ≡ filter_map (sheet_file p) names
-        → map (with_rows (entries p.objects)) (filter_map (head_file p) (name ∷ names)) ≡ filter_map (sheet_file p) (name ∷ names)
+        → map (with_rows (entries p.objects)) (filter_map (head_file p) names) ≡ filter_map (renumbered_sheet_file p) names
+        → map (with_rows (entries p.objects)) (filter_map (head_file p) (name ∷ names)) ≡ filter_map (renumbered_sheet_file p) (name ∷ names)
     by None e ih = rw e ih
     by (Some head) e ih = rw e (λ i. (name, head_text head ++ texts_of (filter (is_on name) (entries p.objects)) i) ∷ ih i)
 
 -- all objects put behind the version lines
-pub files_are : (p : ProjectData) (names : List (List ℕ)) → with_objects (entries p.objects) (filter_map (head_file p) names) ≡ filter_map (sheet_file p) names
+pub files_are : (p : ProjectData) (names : List (List ℕ)) → with_objects (entries p.objects) (filter_map (head_file p) names) ≡ filter_map (renumbered_sheet_file p) names
 files_are p names = each_grown (entries p.objects) (filter_map (head_file p) names) ∙ whole p names
 
 -- what holds after success, by what holds then already

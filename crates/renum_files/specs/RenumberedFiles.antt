@@ -36,8 +36,8 @@ abbrev pub sheet_with : HeadData → List (ℕ × Placed) → SheetData
 sheet_with head rows = record { head = head; objects = map (λ row. row.1.object) rows }
 
 -- the file of a sheet of a project, with its objects by id; none where there is no such sheet
-abbrev pub sheet_file : ProjectData → List ℕ → Option File
-sheet_file p name =
+abbrev pub renumbered_sheet_file : ProjectData → List ℕ → Option File
+renumbered_sheet_file p name =
     option_map
     (λ head. (name, sheet_text (sheet_with head (filter (is_on name) (entries p.objects)))))
     (get p.sheets name)
@@ -55,7 +55,7 @@ has_too_much_text p =
 abbrev pub files_within : ProjectData → List (List ℕ) → Result (List File) RenumberFault
 files_within p names =
     if has_too_much_text p then Err faults.ProjectFull
-    else Ok (filter_map (sheet_file p) names)
+    else Ok (filter_map (renumbered_sheet_file p) names)
 
 -- how many components get a number, and the files of the sheets that change, by name
 pub record RenumberedData : Type 0 where
@@ -73,8 +73,8 @@ renumbered_files p =
     (files_within (put p (renumbered p)) (changed_sheets (renumbered p)))
 
 -- what is come to, seen so, or want of memory
-abbrev pub Gives :
+abbrev pub GivesRenumbered :
     {X Y : Type 0} → (X → Y) → Result X RenumberFault → Result Y RenumberFault → Type 0
-Gives view (Ok x) end = end ≡ Ok (view x)
-Gives view (Err faults.NoMemory) end = ⊤
-Gives view (Err faults.ProjectFull) end = end ≡ Err faults.ProjectFull
+GivesRenumbered view (Ok x) end = end ≡ Ok (view x)
+GivesRenumbered view (Err faults.NoMemory) end = ⊤
+GivesRenumbered view (Err faults.ProjectFull) end = end ≡ Err faults.ProjectFull

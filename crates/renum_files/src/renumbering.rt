@@ -3,7 +3,7 @@ ghost use Rattle.std.specs.Prelude.{◌≡◌, ◌-◌, ◌^◌, IfOk, min};
 ghost use Rattle.project_files.specs.Measures.{LeavesIds, symbols_text};
 ghost use Rattle.project_model.specs.Changes.{CanApply, put};
 ghost use Rattle.refdes_renum.specs.Renumbering.{renumbered};
-ghost use Rattle.renum_files.specs.RenumberedFiles.{Gives, changed_sheets, files_within, renumbered_files};
+ghost use Rattle.renum_files.specs.RenumberedFiles.{GivesRenumbered, changed_sheets, files_within, renumbered_files};
 
 use crate::changed_sheets::changed_sheets;
 use crate::fault::RenumberFault;
@@ -53,7 +53,7 @@ fn files_within(
     names: &BTreeSet<Name>,
 ) -> Result<Vec<FileText>, RenumberFault>
     requires { symbol_bytes ≡ min (symbols_text project.now.contents) (2 ^ 64 - 1) }
-    ensures { Gives (λ files. files.items) result
+    ensures { GivesRenumbered (λ files. files.items) result
         (files_within project.now.contents names.now.keys) }
 {
     let rows = project.objects_by_id(alloc)?;
@@ -73,7 +73,7 @@ fn files_after(
     requires symbols { measured.symbol_bytes
         ≡ min (symbols_text (put measured.project.contents change.items)) (2 ^ 64 - 1) }
     requires can_apply { CanApply change.items }
-    ensures { Gives (λ files. files.items) result
+    ensures { GivesRenumbered (λ files. files.items) result
         (files_within (put measured.project.contents change.items) names.now.keys) }
 {
     let MeasuredProject {
@@ -97,7 +97,7 @@ pub fn renumbered_files(
     requires symbols { measured.symbol_bytes
         ≡ min (symbols_text measured.project.contents) (2 ^ 64 - 1) }
     requires ids { LeavesIds measured.project.contents }
-    ensures { Gives (λ r. r) result (renumbered_files measured.project.contents) }
+    ensures { GivesRenumbered (λ r. r) result (renumbered_files measured.project.contents) }
 {
     let change = renumber(alloc, &measured.project)?;
     let count = change.len();

@@ -5,7 +5,7 @@ ghost use Rattle.std.specs.List.{filter_map, sum_by};
 ghost use Rattle.project_files.specs.Measures.{symbols_text};
 ghost use Rattle.project_files.specs.MemoryFolder.{files_in};
 ghost use Rattle.project_model.specs.Tables.{row_now};
-ghost use Rattle.renum_files.specs.RenumberedFiles.{has_too_much_text, sheet_file};
+ghost use Rattle.renum_files.specs.RenumberedFiles.{has_too_much_text, renumbered_sheet_file};
 ghost use Rattle.renum_files.specs.steps.Growing.{head_file, with_head, with_object, with_objects};
 ghost use Rattle.renum_files.specs.steps.Rows.{row_bytes};
 
@@ -95,7 +95,7 @@ pub fn sheet_files(
 ) -> Result<Vec<FileText>, AllocError>
     requires { map row_now rows.now ≡ entries project.now.contents.objects }
     ensures { IfOk result (λ files.
-        files.items ≡ filter_map (sheet_file project.now.contents) names.now.keys) }
+        files.items ≡ filter_map (renumbered_sheet_file project.now.contents) names.now.keys) }
 {
     let mut texts = head_texts(alloc, project, names)?;
     put_objects(&mut texts, rows)?;

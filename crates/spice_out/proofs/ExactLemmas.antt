@@ -19,7 +19,7 @@ use Rattle.geda_defs.proofs.Bytes.{bytes_same, bytes_true, bytes_turned}
 use Rattle.hierarchy.proofs.ListLemmas.{all_map, all_none, contains_map}
 use Rattle.net_names.proofs.ApartLemmas.{Apart, apart_append, as_pairs}
 use Rattle.pin_place.proofs.TableLemmas.{has-with_new}
-use Rattle.spice_out.specs.Pins.{PinData, first_at, has_pin, has_pins, numbers_of}
+use Rattle.spice_out.specs.Pins.{PinData, first_at, has_numbered_pins, has_pin, numbers_of}
 use Rattle.spice_out.specs.SpiceLaws.{AreDigitsTo, IsDigitsTo}
 use Rattle.spice_out.proofs.PinLemmas.{in_range, not_any}
 
@@ -125,7 +125,7 @@ module _ (n : ℕ) (few : n < 2 ^ 64) (pins : List PinData) where
   is_count m e = grind (arith)
 
   -- a number beside those of 1 to n is one too many
-  only : has_pins n pins ≡ true → (q : List ℕ) → Contains numbers q → IsDigitsTo n q
+  only : has_numbered_pins n pins ≡ true → (q : List ℕ) → Contains numbers q → IsDigitsTo n q
   only has q c = by (list_any (bytes_eq q) (digits_from 1 n)) refl
     where
       parts : ((length (numbers_of pins) == n) ≡ true) × (list_all (has_pin pins) (range_with_len 1 n) ≡ true)
@@ -155,7 +155,7 @@ module _ (n : ℕ) (few : n < 2 ^ 64) (pins : List PinData) where
           let count : length (numbers_of pins) ≡ n = count_is (length (numbers_of pins)) parts.0 in
           absurd (omega (arith, le, count, many))
 
-  each_there : has_pins n pins ≡ true → (q : List ℕ) → IsDigitsTo n q → Contains numbers q
+  each_there : has_numbered_pins n pins ≡ true → (q : List ℕ) → IsDigitsTo n q → Contains numbers q
   each_there has q (k, low, high, is) =
       let parts = and_parts (length (numbers_of pins) == n) (list_all (has_pin pins) (range_with_len 1 n)) has in
       there numbers q (sym (first_is pins q) ∙ ap (λ (text : List ℕ). is_some (first_at pins text)) is ∙ in_range (has_pin pins) 1 n k parts.1 low (omega (arith, high)))
@@ -165,7 +165,7 @@ module _ (n : ℕ) (few : n < 2 ^ 64) (pins : List PinData) where
   all_pass f a zero pass = refl
   all_pass f a (suc m) pass = rw (pass a (omega arith) (omega arith), all_pass f (a + 1) m (λ k low high. pass k (omega (arith, low)) (omega (arith, high)))) refl
 
-  back : AreDigitsTo n pins → has_pins n pins ≡ true
+  back : AreDigitsTo n pins → has_numbered_pins n pins ≡ true
   back are = rw (is_count (length (numbers_of pins)) (omega (arith, least, most, many)), passes) refl
     where
       has_digits : (k : ℕ) → 1 ≤ k → k < 1 + n → list_any (bytes_eq (decimal k)) numbers ≡ true
@@ -193,5 +193,5 @@ module _ (n : ℕ) (few : n < 2 ^ 64) (pins : List PinData) where
       most = length-le_from_is_member nat_list_eq_equiv (numbers_of pins) (digits_from 1 n) once_distinct
           (λ q e. in_digits q ((are q).0 (there numbers q (sym (once_has q) ∙ e))))
 
-  pub exact : (has_pins n pins ≡ true) ↔ AreDigitsTo n pins
+  pub exact : (has_numbered_pins n pins ≡ true) ↔ AreDigitsTo n pins
   exact = (λ has. λ q. (only has q, each_there has q), back)

@@ -19,9 +19,9 @@ use Rattle.net_names.proofs.ApartLemmas.{Apart, as_pairs, of_filter}
 use Rattle.net_names.proofs.NameLaws.{AreNamedApart}
 use Rattle.net_names.proofs.PlaceLemmas.{is_there, place_in}
 use Rattle.spice_out.specs.Cards.{card_name, folded, has_card, pin_count}
-use Rattle.spice_out.specs.Faults.{clashes, fault_of, fault_with, first_fault, is_named, package_fault, spice_fault}
+use Rattle.spice_out.specs.Faults.{clashes, fault_of, fault_with, first_spice_fault, is_card_named, package_fault, spice_fault}
 use Rattle.spice_out.specs.Nodes.{NodedNetData, noded_nets}
-use Rattle.spice_out.specs.Pins.{numbers_of, pins_of}
+use Rattle.spice_out.specs.Pins.{numbers_of, refdes_pins}
 use Rattle.spice_out.specs.SpiceLaws.{AreFew, AreOfOneNet, CardsDiffer, HasPin, IsCardPin, NodesAreChains, NodesAreNets, PrintsAs, carded, node_at}
 use Rattle.spice_out.specs.SpiceText.{node_text}
 use Rattle.spice_out.proofs.NodeLemmas.{node_small, one_node, stands, stands_there}
@@ -41,20 +41,20 @@ no_clash false has two p e = refl
 differs : (nets : List Net) (earlier : List Package) (p q : Package) → package_fault nets earlier q ≡ None → has_card q.refdes ≡ true → Contains earlier p → has_card p.refdes ≡ true
     → Differ p q
 differs nets earlier p q none card there has same =
-    let clash = by (pin_count q.refdes (length (numbers_of (pins_of nets q.refdes)))) (has_one q.refdes (length (numbers_of (pins_of nets q.refdes))) ∙ card) none in
-    let named = not_any (is_named (folded (card_name q.refdes))) earlier p clash there in
+    let clash = by (pin_count q.refdes (length (numbers_of (refdes_pins nets q.refdes)))) (has_one q.refdes (length (numbers_of (refdes_pins nets q.refdes))) ∙ card) none in
+    let named = not_any (is_card_named (folded (card_name q.refdes))) earlier p clash there in
     true≢false (sym (rw (has, bytes_true (folded (card_name q.refdes)) (folded (card_name p.refdes)) (sym same)) refl) ∙ named)
   where
-    by : (c : Option ℕ) → is_some c ≡ true → fault_with (clashes earlier q) (pins_of nets q.refdes) q c ≡ None → clashes earlier q ≡ false
+    by : (c : Option ℕ) → is_some c ≡ true → fault_with (clashes earlier q) (refdes_pins nets q.refdes) q c ≡ None → clashes earlier q ≡ false
     by None some e = absurd (true≢false (sym some))
     by (Some n) some e = no_clash (clashes earlier q) _ _ q e
 
-apart_from : (nets : List Net) (earlier ps : List Package) → first_fault nets earlier ps ≡ None → Apart Differ (carded ps)
+apart_from : (nets : List Net) (earlier ps : List Package) → first_spice_fault nets earlier ps ≡ None → Apart Differ (carded ps)
 apart_from nets earlier [] none = tt
 apart_from nets earlier (p ∷ ps) none = by (has_card p.refdes) refl (apart_from nets (earlier ++ p ∷ []) ps rest)
   where
-    rest : first_fault nets (earlier ++ p ∷ []) ps ≡ None
-    rest = none_later (package_fault nets earlier p) (first_fault nets (earlier ++ p ∷ []) ps) none
+    rest : first_spice_fault nets (earlier ++ p ∷ []) ps ≡ None
+    rest = none_later (package_fault nets earlier p) (first_spice_fault nets (earlier ++ p ∷ []) ps) none
 
     later : has_card p.refdes ≡ true → All (Differ p) (carded ps)
     later has = All-weaker (Contains (carded ps)) (Differ p)
@@ -79,12 +79,12 @@ module _ (list : Nets) (few : AreFew list) (apart : Apart AreNamedApart list.net
   card_pin p k is =
       let there = of_filter (λ x. has_card x.refdes) list.packages p is.card in
       let fault = no_fault list.nets [] list.packages p none there.0 in
-      by fault.0 (pin_count p.refdes (length (numbers_of (pins_of list.nets p.refdes)))) is.within fault.2
+      by fault.0 (pin_count p.refdes (length (numbers_of (refdes_pins list.nets p.refdes)))) is.within fault.2
     where
-      by : (before : List Package) (c : Option ℕ) → k ≤ unwrap_or c 0 → fault_with (clashes before p) (pins_of list.nets p.refdes) p c ≡ None → IsAt list.nets p.refdes k
+      by : (before : List Package) (c : Option ℕ) → k ≤ unwrap_or c 0 → fault_with (clashes before p) (refdes_pins list.nets p.refdes) p c ≡ None → IsAt list.nets p.refdes k
       by before None le f = absurd (omega (arith, le, is.from_one))
       by before (Some n) le f =
-          let sound = card_is_sound (clashes before p) (pins_of list.nets p.refdes) p (Some n) n refl f in
+          let sound = card_is_sound (clashes before p) (refdes_pins list.nets p.refdes) p (Some n) n refl f in
           pin_is_at list.nets p.refdes n k sound.0 sound.1 is.from_one le
 
   one_net : (p q : Package) (k l : ℕ) → IsCardPin list p k → IsCardPin list q l → node_at list p k ≡ node_at list q l → AreOfOneNet list p k q l

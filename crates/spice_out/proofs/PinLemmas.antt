@@ -18,8 +18,8 @@ use Rattle.net_names.proofs.PlaceLemmas.{found, is_there, place_in}
 use Rattle.spice_out.specs.declared.net_nodes.NetNode.{NetNode}
 use Rattle.spice_out.specs.declared.fault.SpiceFault.{SpiceFault}
 use Rattle.spice_out.specs.Nodes.{NodedNetData, noded_nets}
-use Rattle.spice_out.specs.Pins.{PinData, first_at, has_pin, has_pins, is_elsewhere, is_on_two_nets, numbers_of, pin_under, pins_in, pins_of}
-use Rattle.spice_out.specs.Faults.{fault_of, fault_with, first_fault, package_fault}
+use Rattle.spice_out.specs.Pins.{PinData, first_at, has_numbered_pins, has_pin, is_elsewhere, is_on_two_nets, numbers_of, pin_under, pins_in, refdes_pins}
+use Rattle.spice_out.specs.Faults.{fault_of, fault_with, first_spice_fault, package_fault}
 use Rattle.spice_out.specs.SpiceLaws.{AreFew}
 use Rattle.spice_out.proofs.NodeLemmas.{small}
 
@@ -34,13 +34,13 @@ none_later None b e = e
 none_later (Some x) b e = absurd (none-some x (sym e))
 
 -- no package of the list has a fault, where the earlier ones stand before it
-pub no_fault : (nets : List Net) (earlier ps : List Package) (p : Package) → first_fault nets earlier ps ≡ None → Contains ps p
+pub no_fault : (nets : List Net) (earlier ps : List Package) (p : Package) → first_spice_fault nets earlier ps ≡ None → Contains ps p
     → (before : List Package) × ((x : Package) → Contains earlier x → Contains before x) × (package_fault nets before p ≡ None)
 no_fault nets earlier [] p none there = none_is_in p there
 no_fault nets earlier (q ∷ ps) p none there = elim (in_cases q ps p there) [
-  | inl same ↦ (earlier, (λ x c. c), subst (λ (x : Package). package_fault nets earlier x ≡ None) same (none_first (package_fault nets earlier q) (first_fault nets (earlier ++ q ∷ []) ps) none))
+  | inl same ↦ (earlier, (λ x c. c), subst (λ (x : Package). package_fault nets earlier x ≡ None) same (none_first (package_fault nets earlier q) (first_spice_fault nets (earlier ++ q ∷ []) ps) none))
   | inr later ↦
-      let rest = no_fault nets (earlier ++ q ∷ []) ps p (none_later (package_fault nets earlier q) (first_fault nets (earlier ++ q ∷ []) ps) none) later in
+      let rest = no_fault nets (earlier ++ q ∷ []) ps p (none_later (package_fault nets earlier q) (first_spice_fault nets (earlier ++ q ∷ []) ps) none) later in
       (rest.0, (λ x c. rest.1 x (Contains-append_left earlier (q ∷ []) x c)), rest.2)
 ]
 
@@ -52,9 +52,9 @@ sound false true true p e = absurd (none-some _ (sym e))
 sound false true false p e = (refl, refl)
 
 pub card_is_sound : (clash : Bool) (pins : List PinData) (p : Package) (count : Option ℕ) (n : ℕ) → count ≡ Some n → fault_with clash pins p count ≡ None
-    → (has_pins n pins ≡ true) × (is_on_two_nets pins ≡ false)
+    → (has_numbered_pins n pins ≡ true) × (is_on_two_nets pins ≡ false)
 card_is_sound clash pins p count n is none =
-    sound clash (has_pins n pins) (is_on_two_nets pins) p (subst (λ (c : Option ℕ). fault_with clash pins p c ≡ None) is none)
+    sound clash (has_numbered_pins n pins) (is_on_two_nets pins) p (subst (λ (c : Option ℕ). fault_with clash pins p c ≡ None) is none)
 
 -- ---- where a pin is
 
@@ -85,7 +85,7 @@ under_is refdes at m pin e = by (bytes_eq m.refdes refdes) refl e
         (bytes_same m.refdes refdes is, ap (λ (p : PinData). p.number) same, sym (ap (λ (p : PinData). p.at) same))
     by false is e = absurd (none-some pin e)
 
-pub pins_are : (nets : List Net) (refdes : List ℕ) → All (IsIn nets refdes) (pins_of nets refdes)
+pub pins_are : (nets : List Net) (refdes : List ℕ) → All (IsIn nets refdes) (refdes_pins nets refdes)
 pins_are nets refdes =
     all_flat_map (Contains (noded_nets nets)) (IsIn nets refdes) (pins_in refdes)
     (λ d there.
@@ -99,7 +99,7 @@ pins_are nets refdes =
 
 -- each member of a net is such a pin
 pub pin_there : (nets : List Net) (refdes number : List ℕ) (place : ℕ) (d : NodedNetData) → slice_get (noded_nets nets) place ≡ Some d
-    → Any (λ m. (m.refdes ≡ refdes) × (m.pin ≡ number)) d.net.members → Contains (pins_of nets refdes) (record { number = number; at = d.at })
+    → Any (λ m. (m.refdes ≡ refdes) × (m.pin ≡ number)) d.net.members → Contains (refdes_pins nets refdes) (record { number = number; at = d.at })
 pin_there nets refdes number place d at (k, m, lt, is, same) =
     let pin : PinData = record { number = number; at = d.at } in
     let made : pin_under refdes d.at m ≡ Some pin = rw (bytes_true m.refdes refdes same.0, same.1) refl in
@@ -119,9 +119,9 @@ pub record IsAt (nets : List Net) (refdes : List ℕ) (k : ℕ) : Type 0 where
   pub place : ℕ
   pub net : NodedNetData
   pub at : slice_get (noded_nets nets) place ≡ Some net
-  pub first : first_at (pins_of nets refdes) (decimal k) ≡ Some net.at
+  pub first : first_at (refdes_pins nets refdes) (decimal k) ≡ Some net.at
   pub member : Any (λ m. (m.refdes ≡ refdes) × (m.pin ≡ decimal k)) net.net.members
-  pub alone : (pin : PinData) → Contains (pins_of nets refdes) pin → pin.number ≡ decimal k → pin.at.net ≡ net.at.net
+  pub alone : (pin : PinData) → Contains (refdes_pins nets refdes) pin → pin.number ≡ decimal k → pin.at.net ≡ net.at.net
 
 pub not_any : {X : Type 0} (f : X → Bool) (xs : List X) (x : X) → list_any f xs ≡ false → Contains xs x → f x ≡ false
 not_any f [] x none there = none_is_in x there
@@ -145,9 +145,9 @@ not_else first at e = by (first.net == at.net) refl e
     by true is e = grind (arith)
     by false is e = absurd (true≢false e)
 
-pub pin_is_at : (nets : List Net) (refdes : List ℕ) (n k : ℕ) → has_pins n (pins_of nets refdes) ≡ true → is_on_two_nets (pins_of nets refdes) ≡ false → 1 ≤ k → k ≤ n → IsAt nets refdes k
+pub pin_is_at : (nets : List Net) (refdes : List ℕ) (n k : ℕ) → has_numbered_pins n (refdes_pins nets refdes) ≡ true → is_on_two_nets (refdes_pins nets refdes) ≡ false → 1 ≤ k → k ≤ n → IsAt nets refdes k
 pin_is_at nets refdes n k has one low high =
-    let pins = pins_of nets refdes in
+    let pins = refdes_pins nets refdes in
     let all = (and_parts (length (numbers_of pins) == n) (list_all (has_pin pins) (range_with_len 1 n)) has).1 in
     let there = some_at (first_at pins (decimal k)) (in_range (has_pin pins) 1 n k all low (omega (arith, high))) in
     let pin = of_map (find (λ p. bytes_eq p.number (decimal k)) pins) there.0 there.1 in
@@ -167,9 +167,9 @@ pin_is_at nets refdes n k has one low high =
     }
 
 -- the nodes of pins can be counted
-pub first_is_small : (list : Nets) → AreFew list → (refdes number : List ℕ) (at : NetNode) → first_at (pins_of list.nets refdes) number ≡ Some at → at.node < 2 ^ 64
+pub first_is_small : (list : Nets) → AreFew list → (refdes number : List ℕ) (at : NetNode) → first_at (refdes_pins list.nets refdes) number ≡ Some at → at.node < 2 ^ 64
 first_is_small list few refdes number at e =
-    let pins = pins_of list.nets refdes in
+    let pins = refdes_pins list.nets refdes in
     let pin = of_map (find (λ p. bytes_eq p.number number) pins) at e in
     let is = found (λ p. bytes_eq p.number number) pins pin.0 pin.1 in
     let stands = All-contains (IsIn list.nets refdes) pins pin.0 (pins_are list.nets refdes) is.0 in

@@ -17,11 +17,11 @@ use Rattle.printed_texts.specs.PrintedTexts.{flat, flat_byte, word, word_byte}
 use Rattle.net_list.specs.declared.package.Package.{Package}
 use Rattle.net_list.specs.declared.nets.Nets.{Nets}
 use Rattle.spice_out.specs.declared.net_nodes.NetNode.{NetNode}
-use Rattle.spice_out.specs.Cards.{card_name, earlier_pieces, has_card, last_piece, letter_of, name_byte, pin_count, pins_of_letter}
+use Rattle.spice_out.specs.Cards.{card_letter, card_name, earlier_pieces, has_card, last_piece, name_byte, pin_count, pins_of_letter}
 use Rattle.spice_out.specs.Nodes.{NodedNetData, noded_nets}
-use Rattle.spice_out.specs.Pins.{PinData, first_at, numbers_of, pins_of}
+use Rattle.spice_out.specs.Pins.{PinData, first_at, numbers_of, refdes_pins}
 use Rattle.spice_out.specs.SpiceLaws.{AreFew, card_fields, carded, cut_cards, is_card_line, is_space, node_at}
-use Rattle.spice_out.specs.SpiceText.{card_line, line_with, net_line, node_text, package_line, spice_text, value_of}
+use Rattle.spice_out.specs.SpiceText.{card_line, line_with, node_comment, node_text, package_card, spice_text, value_of}
 use Rattle.spice_out.proofs.NodeLemmas.{small}
 use Rattle.spice_out.proofs.PinLemmas.{first_is_small}
 
@@ -72,9 +72,9 @@ name_lacks c low refdes =
     mark c low = grind (arith, nat_tests)
 
 node_lacks : (c : ℕ) → c < 48 → (list : Nets) → AreFew list → (p : Package) (k : ℕ) → Lacks c (node_at list p k)
-node_lacks c low list few p k = by (first_at (pins_of list.nets p.refdes) (decimal k)) refl
+node_lacks c low list few p k = by (first_at (refdes_pins list.nets p.refdes) (decimal k)) refl
   where
-    by : (at : Option NetNode) → first_at (pins_of list.nets p.refdes) (decimal k) ≡ at → Lacks c (node_text at)
+    by : (at : Option NetNode) → first_at (refdes_pins list.nets p.refdes) (decimal k) ≡ at → Lacks c (node_text at)
     by None e = all_none (λ b. (b == c) ≡ false)
     by (Some at) e = decimal_lacks c at.node low (first_is_small list few p.refdes (decimal k) at e)
 
@@ -120,7 +120,7 @@ record IsComment (line : List ℕ) : Type 0 where
 cut_comment : (line rest : List ℕ) → IsComment line → card_lines (ended line ++ rest) ≡ card_lines rest
 cut_comment line rest is = cut_line line rest is.one ∙ rw is.none refl
 
-net_comment : (d : NodedNetData) → d.at.node < 2 ^ 64 → IsComment (net_line d)
+net_comment : (d : NodedNetData) → d.at.node < 2 ^ 64 → IsComment (node_comment d)
 net_comment d low = record {
   one = All-append (λ b. (b == 10) ≡ false) (codes "* node " ++ decimal d.at.node) (32 ∷ word d.net.name)
       (All-append (λ b. (b == 10) ≡ false) (codes "* node ") (decimal d.at.node) (known_lacks (codes "* node ") refl) (decimal_lacks 10 d.at.node (omega arith) low))
@@ -150,7 +150,7 @@ one_letter many letter = by (list_any (λ c. c == letter) (codes "RCLVID")) (let
     by false false false false = refl
 
 pub has_one : (refdes : List ℕ) (many : ℕ) → is_some (pin_count refdes many) ≡ has_card refdes
-has_one refdes many = by (letter_of refdes)
+has_one refdes many = by (card_letter refdes)
   where
     by : (letter : Option ℕ) → is_some (option_and_then (pins_of_letter many) letter) ≡ is_some (option_and_then (pins_of_letter 0) letter)
     by None = refl
@@ -168,7 +168,7 @@ begins many (b ∷ bs) earlier nodes value h = name_starts b
 module _ (list : Nets) (few : AreFew list) where
   module _ (p : Package) where
     abbrev pins : List PinData
-    pins = pins_of list.nets p.refdes
+    pins = refdes_pins list.nets p.refdes
 
     abbrev count : Option ℕ
     count = pin_count p.refdes (length (numbers_of pins))
@@ -188,7 +188,7 @@ module _ (list : Nets) (few : AreFew list) where
       none = refl;
     }
 
-    package_cut : (rest : List ℕ) → card_lines (ended (package_line list.nets p) ++ rest) ≡ cond (has_card p.refdes) (package_line list.nets p ∷ card_lines rest) (card_lines rest)
+    package_cut : (rest : List ℕ) → card_lines (ended (package_card list.nets p) ++ rest) ≡ cond (has_card p.refdes) (package_card list.nets p ∷ card_lines rest) (card_lines rest)
     package_cut rest = by count refl (has_one p.refdes (length (numbers_of pins)))
       where
         by : (c : Option ℕ) → count ≡ c → is_some c ≡ has_card p.refdes
@@ -200,7 +200,7 @@ module _ (list : Nets) (few : AreFew list) where
             cut_line (card_line pins p n) rest (card_lacks n)
             ∙ ap (λ (b : Bool). cond b (card_line pins p n ∷ card_lines rest) (card_lines rest)) (begun ∙ h)
 
-    fields_are : has_card p.refdes ≡ true → slice_split is_space (package_line list.nets p) ≡ card_fields list p
+    fields_are : has_card p.refdes ≡ true → slice_split is_space (package_card list.nets p) ≡ card_fields list p
     fields_are has = by count (has_one p.refdes (length (numbers_of pins)) ∙ has)
       where
         by : (c : Option ℕ) → is_some c ≡ true
@@ -208,39 +208,39 @@ module _ (list : Nets) (few : AreFew list) where
         by None h = absurd (true≢false (sym h))
         by (Some n) h = cut_fields (node_at list p) (λ k. node_lacks 32 (omega arith) list few p k) (card_name p.refdes) (name_lacks 32 (omega arith) p.refdes) (range_with_len 1 n) (flat (unwrap_or (value_of p) []))
 
-  cut_packages : (ps : List Package) (rest : List ℕ) → card_lines (flat_map (λ p. ended (package_line list.nets p)) ps ++ rest) ≡ map (package_line list.nets) (carded ps) ++ card_lines rest
+  cut_packages : (ps : List Package) (rest : List ℕ) → card_lines (flat_map (λ p. ended (package_card list.nets p)) ps ++ rest) ≡ map (package_card list.nets) (carded ps) ++ card_lines rest
   cut_packages [] rest = refl
   cut_packages (p ∷ ps) rest =
-      ap card_lines (append_assoc (ended (package_line list.nets p)) (flat_map (λ p. ended (package_line list.nets p)) ps) rest)
-      ∙ package_cut p (flat_map (λ p. ended (package_line list.nets p)) ps ++ rest)
-      ∙ ap (λ (lines : List (List ℕ)). cond (has_card p.refdes) (package_line list.nets p ∷ lines) lines) (cut_packages ps rest)
+      ap card_lines (append_assoc (ended (package_card list.nets p)) (flat_map (λ p. ended (package_card list.nets p)) ps) rest)
+      ∙ package_cut p (flat_map (λ p. ended (package_card list.nets p)) ps ++ rest)
+      ∙ ap (λ (lines : List (List ℕ)). cond (has_card p.refdes) (package_card list.nets p ∷ lines) lines) (cut_packages ps rest)
       ∙ by (has_card p.refdes)
     where
-      by : (b : Bool) → cond b (package_line list.nets p ∷ (map (package_line list.nets) (carded ps) ++ card_lines rest)) (map (package_line list.nets) (carded ps) ++ card_lines rest)
-          ≡ map (package_line list.nets) (cond b (p ∷ carded ps) (carded ps)) ++ card_lines rest
+      by : (b : Bool) → cond b (package_card list.nets p ∷ (map (package_card list.nets) (carded ps) ++ card_lines rest)) (map (package_card list.nets) (carded ps) ++ card_lines rest)
+          ≡ map (package_card list.nets) (cond b (p ∷ carded ps) (carded ps)) ++ card_lines rest
       by true = refl
       by false = refl
 
-  each_cut : (ps : List Package) → map (slice_split is_space) (map (package_line list.nets) (carded ps)) ≡ map (card_fields list) (carded ps)
+  each_cut : (ps : List Package) → map (slice_split is_space) (map (package_card list.nets) (carded ps)) ≡ map (card_fields list) (carded ps)
   each_cut [] = refl
   each_cut (p ∷ ps) = by (has_card p.refdes) refl (each_cut ps)
     where
-      by : (b : Bool) → has_card p.refdes ≡ b → map (slice_split is_space) (map (package_line list.nets) (carded ps)) ≡ map (card_fields list) (carded ps)
-          → map (slice_split is_space) (map (package_line list.nets) (cond b (p ∷ carded ps) (carded ps))) ≡ map (card_fields list) (cond b (p ∷ carded ps) (carded ps))
+      by : (b : Bool) → has_card p.refdes ≡ b → map (slice_split is_space) (map (package_card list.nets) (carded ps)) ≡ map (card_fields list) (carded ps)
+          → map (slice_split is_space) (map (package_card list.nets) (cond b (p ∷ carded ps) (carded ps))) ≡ map (card_fields list) (cond b (p ∷ carded ps) (carded ps))
       by true e h = ap₂ (λ (f : List (List ℕ)) (fs : List (List (List ℕ))). f ∷ fs) (fields_are p e) h
       by false e h = h
 
   -- the lines of cards are those of the packages with a card
   pub cards_are_cut : cut_cards (spice_text list) ≡ map (card_fields list) (carded list.packages)
   cards_are_cut =
-      let nets = flat_map (λ n. ended (net_line n)) (noded_nets list.nets) in
-      let packages = flat_map (λ p. ended (package_line list.nets p)) list.packages in
+      let nets = flat_map (λ n. ended (node_comment n)) (noded_nets list.nets) in
+      let packages = flat_map (λ p. ended (package_card list.nets p)) list.packages in
       let last = ended (codes ".end") in
       ap (map (slice_split is_space))
       (ap card_lines (append_assoc (ended (codes "* gafd")) nets (packages ++ last))
       ∙ cut_comment (codes "* gafd") (nets ++ (packages ++ last)) (record { one = known_lacks (codes "* gafd") refl; none = refl })
-      ∙ cut_comments net_line (noded_nets list.nets) (packages ++ last)
-      (All-weaker (λ d. d.at.node < 1 + length list.nets) (λ d. IsComment (net_line d)) (λ d low. net_comment d (omega (arith, low, few))) (noded_nets list.nets) (small 0 1 list.nets))
+      ∙ cut_comments node_comment (noded_nets list.nets) (packages ++ last)
+      (All-weaker (λ d. d.at.node < 1 + length list.nets) (λ d. IsComment (node_comment d)) (λ d low. net_comment d (omega (arith, low, few))) (noded_nets list.nets) (small 0 1 list.nets))
       ∙ cut_packages list.packages last
-      ∙ append-nil (map (package_line list.nets) (carded list.packages)))
+      ∙ append-nil (map (package_card list.nets) (carded list.packages)))
       ∙ each_cut list.packages

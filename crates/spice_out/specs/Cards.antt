@@ -20,8 +20,8 @@ abbrev pub earlier_pieces : List ℕ → List (List ℕ)
 earlier_pieces refdes = take (length (pieces refdes) - 1) (pieces refdes)
 
 -- the letter: the first byte of the last piece, in upper case
-abbrev pub letter_of : List ℕ → Option ℕ
-letter_of refdes = option_map to_ascii_uppercase (slice_get (last_piece refdes) 0)
+abbrev pub card_letter : List ℕ → Option ℕ
+card_letter refdes = option_map to_ascii_uppercase (slice_get (last_piece refdes) 0)
 
 -- how many pins the card of a letter has, where the package has so many; none is no card
 abbrev pub pins_of_letter : ℕ → ℕ → Option ℕ
@@ -34,7 +34,7 @@ pins_of_letter many letter =
 
 -- the same of a refdes
 abbrev pub pin_count : List ℕ → ℕ → Option ℕ
-pin_count refdes many = option_and_then (pins_of_letter many) (letter_of refdes)
+pin_count refdes many = option_and_then (pins_of_letter many) (card_letter refdes)
 
 -- a package of this refdes has a card; another one is skipped
 abbrev pub has_card : List ℕ → Bool

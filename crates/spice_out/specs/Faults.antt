@@ -9,16 +9,16 @@ use Rattle.net_list.specs.declared.nets.Nets.{Nets}
 use Rattle.spice_out.specs.declared.fault.SpiceFault.{SpiceFault}
 use Rattle.spice_out.specs.declared.fault.SpiceFault.TheVariants as faults
 use Rattle.spice_out.specs.Cards.{card_name, folded, has_card, pin_count}
-use Rattle.spice_out.specs.Pins.{PinData, has_pins, is_on_two_nets, numbers_of, pins_of}
+use Rattle.spice_out.specs.Pins.{PinData, has_numbered_pins, is_on_two_nets, numbers_of, refdes_pins}
 use Rattle.spice_out.specs.SpiceText.{value_of}
 
 -- a package has a card of this name, without regard to ASCII case
-abbrev pub is_named : List ℕ → Package → Bool
-is_named name p = has_card p.refdes && bytes_eq name (folded (card_name p.refdes))
+abbrev pub is_card_named : List ℕ → Package → Bool
+is_card_named name p = has_card p.refdes && bytes_eq name (folded (card_name p.refdes))
 
 -- an earlier package has the name of this one
 abbrev pub clashes : List Package → Package → Bool
-clashes earlier p = list_any (is_named (folded (card_name p.refdes))) earlier
+clashes earlier p = list_any (is_card_named (folded (card_name p.refdes))) earlier
 
 -- the fault of a package with a card, by what is true of it: the first in this order
 abbrev pub fault_of : Bool → Bool → Bool → Package → Option SpiceFault
@@ -31,7 +31,7 @@ fault_of clash has_pins is_on_two p =
 
 -- the same of one with n pins
 abbrev pub card_fault : Bool → List PinData → Package → ℕ → Option SpiceFault
-card_fault clash pins p n = fault_of clash (has_pins n pins) (is_on_two_nets pins) p
+card_fault clash pins p n = fault_of clash (has_numbered_pins n pins) (is_on_two_nets pins) p
 
 -- the first fault of a package; one that is skipped has none
 abbrev pub fault_with : Bool → List PinData → Package → Option ℕ → Option SpiceFault
@@ -42,19 +42,19 @@ abbrev pub fault_by : Bool → List PinData → Package → Option SpiceFault
 fault_by clash pins p = fault_with clash pins p (pin_count p.refdes (length (numbers_of pins)))
 
 abbrev pub package_fault : List Net → List Package → Package → Option SpiceFault
-package_fault nets earlier p = fault_by (clashes earlier p) (pins_of nets p.refdes) p
+package_fault nets earlier p = fault_by (clashes earlier p) (refdes_pins nets p.refdes) p
 
 -- the fault of the first package that has one, behind earlier ones
-abbrev pub first_fault : List Net → List Package → List Package → Option SpiceFault
-first_fault nets earlier [] = None
-first_fault nets earlier (p ∷ ps) =
-    option_or (package_fault nets earlier p) (first_fault nets (earlier ++ p ∷ []) ps)
+abbrev pub first_spice_fault : List Net → List Package → List Package → Option SpiceFault
+first_spice_fault nets earlier [] = None
+first_spice_fault nets earlier (p ∷ ps) =
+    option_or (package_fault nets earlier p) (first_spice_fault nets (earlier ++ p ∷ []) ps)
 
 -- why a net list has no SPICE text, if it has none
 abbrev pub spice_fault : Nets → Option SpiceFault
-spice_fault list = first_fault list.nets [] list.packages
+spice_fault list = first_spice_fault list.nets [] list.packages
 
 -- this fault is the one that was found; want of memory may come at any time
-abbrev pub Fails : SpiceFault → Option SpiceFault → Type 0
-Fails faults.NoMemory found = Unit {0}
-Fails fault found = found ≡ Some fault
+abbrev pub SpiceFails : SpiceFault → Option SpiceFault → Type 0
+SpiceFails faults.NoMemory found = Unit {0}
+SpiceFails fault found = found ≡ Some fault

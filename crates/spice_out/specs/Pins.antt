@@ -25,8 +25,8 @@ abbrev pub pins_in : List ℕ → NodedNetData → List PinData
 pins_in refdes n = filter_map (pin_under refdes n.at) n.net.members
 
 -- the pins of a refdes, in order of the nets
-abbrev pub pins_of : List Net → List ℕ → List PinData
-pins_of nets refdes = flat_map (pins_in refdes) (noded_nets nets)
+abbrev pub refdes_pins : List Net → List ℕ → List PinData
+refdes_pins nets refdes = flat_map (pins_in refdes) (noded_nets nets)
 
 -- the pin numbers, each once
 abbrev pub numbers_of : List PinData → List (List ℕ)
@@ -41,8 +41,9 @@ abbrev pub has_pin : List PinData → ℕ → Bool
 has_pin pins k = is_some (first_at pins (decimal k))
 
 -- the pin numbers are exactly the digits of 1 to n: there are n of them, and each of these is there
-abbrev pub has_pins : ℕ → List PinData → Bool
-has_pins n pins = (length (numbers_of pins) == n) && list_all (has_pin pins) (range_with_len 1 n)
+abbrev pub has_numbered_pins : ℕ → List PinData → Bool
+has_numbered_pins n pins =
+    (length (numbers_of pins) == n) && list_all (has_pin pins) (range_with_len 1 n)
 
 -- two places are of different nets
 abbrev pub is_elsewhere : Option NetNode → NetNode → Bool

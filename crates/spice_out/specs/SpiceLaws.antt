@@ -14,7 +14,7 @@ use Rattle.net_list.specs.declared.package.Package.{Package}
 use Rattle.net_list.specs.declared.nets.Net.{Net}
 use Rattle.net_list.specs.declared.nets.Nets.{Nets}
 use Rattle.net_names.specs.NetLaws.{IsPinAt}
-use Rattle.spice_out.specs.Pins.{PinData, numbers_of, pins_of}
+use Rattle.spice_out.specs.Pins.{PinData, numbers_of, refdes_pins}
 use Rattle.spice_out.specs.Cards.{card_name, folded, has_card, pin_count}
 use Rattle.spice_out.specs.SpiceText.{pin_node, value_of}
 
@@ -38,11 +38,11 @@ carded packages = filter (λ p. has_card p.refdes) packages
 -- how many pins the card of a package has
 abbrev pub card_pins : Nets → Package → ℕ
 card_pins list p =
-    unwrap_or (pin_count p.refdes (length (numbers_of (pins_of list.nets p.refdes)))) 0
+    unwrap_or (pin_count p.refdes (length (numbers_of (refdes_pins list.nets p.refdes)))) 0
 
 -- the node of the k-th pin of a package
 abbrev pub node_at : Nets → Package → ℕ → List ℕ
-node_at list p k = pin_node (pins_of list.nets p.refdes) k
+node_at list p k = pin_node (refdes_pins list.nets p.refdes) k
 
 -- what the card of a package gives so: its name, the nodes of its pins, and what its value gives
 abbrev pub card_fields : Nets → Package → List (List ℕ)

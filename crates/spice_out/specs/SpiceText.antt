@@ -10,12 +10,12 @@ use Rattle.net_list.specs.declared.nets.Net.{Net}
 use Rattle.net_list.specs.declared.nets.Nets.{Nets}
 use Rattle.spice_out.specs.declared.net_nodes.NetNode.{NetNode}
 use Rattle.spice_out.specs.Nodes.{NodedNetData, noded_nets}
-use Rattle.spice_out.specs.Pins.{PinData, first_at, numbers_of, pins_of}
+use Rattle.spice_out.specs.Pins.{PinData, first_at, numbers_of, refdes_pins}
 use Rattle.spice_out.specs.Cards.{card_name, pin_count}
 
 -- the comment of a net: its node and its name
-abbrev pub net_line : NodedNetData → List ℕ
-net_line n = codes "* node " ++ decimal n.at.node ++ 32 ∷ word n.net.name
+abbrev pub node_comment : NodedNetData → List ℕ
+node_comment n = codes "* node " ++ decimal n.at.node ++ 32 ∷ word n.net.name
 
 -- the digits of a node
 abbrev pub node_text : Option NetNode → List ℕ
@@ -45,11 +45,11 @@ line_with pins p (Some n) = card_line pins p n
 abbrev pub line_by : List PinData → Package → List ℕ
 line_by pins p = line_with pins p (pin_count p.refdes (length (numbers_of pins)))
 
-abbrev pub package_line : List Net → Package → List ℕ
-package_line nets p = line_by (pins_of nets p.refdes) p
+abbrev pub package_card : List Net → Package → List ℕ
+package_card nets p = line_by (refdes_pins nets p.refdes) p
 
 -- the head, a line a net, a line a package, and the end
 abbrev pub spice_text : Nets → List ℕ
 spice_text list =
-    ended (codes "* gafd") ++ flat_map (λ n. ended (net_line n)) (noded_nets list.nets)
-    ++ (flat_map (λ p. ended (package_line list.nets p)) list.packages ++ ended (codes ".end"))
+    ended (codes "* gafd") ++ flat_map (λ n. ended (node_comment n)) (noded_nets list.nets)
+    ++ (flat_map (λ p. ended (package_card list.nets p)) list.packages ++ ended (codes ".end"))

@@ -1,8 +1,8 @@
 // What a printed refdes says of a card.
 ghost use Rattle.std.specs.Prelude.{◌≡◌, ◌++◌, ◌∷◌, [], IfOk, OnOk, map};
 ghost use Rattle.std.specs.List.{flat_map};
-ghost use Rattle.spice_out.specs.Cards.{card_name, folded, letter_of, name_byte, pieces, pin_count};
-ghost use Rattle.spice_out.specs.Cards.{pins_of_letter};
+ghost use Rattle.spice_out.specs.Cards.{card_letter, card_name, folded, name_byte, pieces};
+ghost use Rattle.spice_out.specs.Cards.{pin_count, pins_of_letter};
 ghost use Rattle.spice_out.specs.steps.CardNames.{letter_in, seen};
 
 use std::alloc::{AllocError, Global};
@@ -24,7 +24,7 @@ fn first_upper(piece: &[u8]) -> Option<u8>
 
 /// The letter of a card: the first byte of the last piece, in upper case.
 fn letter_of(alloc: Global, refdes: &str) -> Result<Option<u8>, AllocError>
-    ensures { IfOk result (λ letter. letter ≡ letter_of refdes.now) }
+    ensures { IfOk result (λ letter. letter ≡ card_letter refdes.now) }
 {
     let pieces = pieces(alloc, refdes)?;
     match pieces.as_slice() {

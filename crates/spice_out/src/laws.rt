@@ -7,7 +7,7 @@ ghost use Rattle.net_names.specs.NetLists.{IsNetListOf};
 ghost use Rattle.spice_out.specs.Faults.{spice_fault};
 ghost use Rattle.spice_out.specs.SpiceLaws.{AreFew, CardsDiffer, NodesAreChains, NodesAreNets};
 ghost use Rattle.spice_out.specs.SpiceLaws.{AreDigitsTo, card_fields, carded, cut_cards};
-ghost use Rattle.spice_out.specs.Pins.{PinData, has_pins};
+ghost use Rattle.spice_out.specs.Pins.{PinData, has_numbered_pins};
 ghost use Rattle.spice_out.specs.SpiceText.{spice_text};
 
 /// The law that a text tells its cards: its lines that begin with neither `*` nor `.`, each cut at
@@ -38,5 +38,5 @@ pub fn card_names_differ()
 /// 1 to their count, and no others.
 pub fn pin_sets_are_exact()
     ensures { (n : ℕ) (pins : List PinData) → n < 2 ^ 64
-        → (has_pins n pins ≡ true) ↔ AreDigitsTo n pins }
+        → (has_numbered_pins n pins ≡ true) ↔ AreDigitsTo n pins }
 {}

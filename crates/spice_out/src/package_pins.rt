@@ -1,7 +1,7 @@
 // The pins of one package: their numbers, and where each number is first.
 ghost use Rattle.std.specs.Prelude.{List, ◌≡◌, ◌++◌, ◌∷◌, [], IfOk, OnOk, option_copied};
 ghost use Rattle.std.specs.Fmt.{decimal};
-ghost use Rattle.spice_out.specs.Pins.{PinData, has_pins, is_elsewhere, is_on_two_nets};
+ghost use Rattle.spice_out.specs.Pins.{PinData, has_numbered_pins, is_elsewhere, is_on_two_nets};
 ghost use Rattle.spice_out.specs.steps.FirstPins.{AreFirsts, firsts_at, has_each};
 
 use crate::net_nodes::NetNode;
@@ -68,7 +68,7 @@ pub fn has_pins(
     count: usize,
 ) -> Result<bool, AllocError>
     ensures { IfOk result (λ has. (pins : List PinData)
-        → AreFirsts pins firsts.now → has ≡ has_pins count pins) }
+        → AreFirsts pins firsts.now → has ≡ has_numbered_pins count pins) }
 {
     if firsts.len() != count {
         return Ok(false);

@@ -6,10 +6,10 @@ ghost use Rattle.std.specs.List.{flat_map, range_with_len};
 ghost use Rattle.geda_defs.specs.Lines.{ended};
 ghost use Rattle.printed_texts.specs.PrintedTexts.{flat, word};
 ghost use Rattle.net_list.specs.declared.package.Package.{Package};
-ghost use Rattle.spice_out.specs.Faults.{Fails, clashes, fault_by, first_fault, package_fault};
-ghost use Rattle.spice_out.specs.Faults.{spice_fault};
-ghost use Rattle.spice_out.specs.Pins.{pins_of};
-ghost use Rattle.spice_out.specs.SpiceText.{line_by, net_line, node_text, package_line};
+ghost use Rattle.spice_out.specs.Faults.{SpiceFails, clashes, fault_by, first_spice_fault};
+ghost use Rattle.spice_out.specs.Faults.{package_fault, spice_fault};
+ghost use Rattle.spice_out.specs.Pins.{refdes_pins};
+ghost use Rattle.spice_out.specs.SpiceText.{line_by, node_comment, node_text, package_card};
 ghost use Rattle.spice_out.specs.SpiceText.{spice_text, value_of};
 ghost use Rattle.spice_out.specs.steps.CardLines.{card_by};
 ghost use Rattle.spice_out.specs.steps.CardNames.{HasNames};
@@ -37,7 +37,7 @@ fn put_number(alloc: Global, out: &mut Vec<u8>, number: usize) -> Result<(), All
 
 /// Writes the comment of a net: its node and its name.
 fn put_net(alloc: Global, out: &mut Vec<u8>, noded: &NodedNet<'_>) -> Result<(), AllocError>
-    ensures { OnOk result (out.new.items ≡ out.old.items ++ ended (net_line noded.now)) }
+    ensures { OnOk result (out.new.items ≡ out.old.items ++ ended (node_comment noded.now)) }
 {
     out.extend_from_slice(b"* node ")?;
     put_number(alloc, out, noded.at.node)?;
@@ -49,7 +49,7 @@ fn put_net(alloc: Global, out: &mut Vec<u8>, noded: &NodedNet<'_>) -> Result<(),
 
 fn put_nets(alloc: Global, out: &mut Vec<u8>, nets: &[NodedNet<'_>]) -> Result<(), AllocError>
     ensures { OnOk result (out.new.items ≡ out.old.items
-        ++ flat_map (λ n. ended (net_line n)) nets.now) }
+        ++ flat_map (λ n. ended (node_comment n)) nets.now) }
 {
     for net in nets {
         put_net(alloc, out, net)?;
@@ -171,9 +171,9 @@ fn put_package<'a>(
     rows: &BTreeMap<&'a str, PackagePins<'a>>,
     part: &Package,
 ) -> Result<(), SpiceFault>
-    requires rows { (q : List ℕ) → pins_at rows.now q ≡ pins_of nets.now q }
+    requires rows { (q : List ℕ) → pins_at rows.now q ≡ refdes_pins nets.now q }
     ensures text { OnOk result (out.new.items ≡ out.old.items
-        ++ ended (package_line nets.now part.now)) }
+        ++ ended (package_card nets.now part.now)) }
     ensures fault { (earlier : List Package) → HasNames earlier names.old
         → Judges result (package_fault nets.now earlier part.now) }
     ensures names { OnOk result ((earlier : List Package)
@@ -193,10 +193,10 @@ fn put_packages<'a>(
     rows: &BTreeMap<&'a str, PackagePins<'a>>,
     packages: &[Package],
 ) -> Result<(), SpiceFault>
-    requires rows { (q : List ℕ) → pins_at rows.now q ≡ pins_of nets.now q }
+    requires rows { (q : List ℕ) → pins_at rows.now q ≡ refdes_pins nets.now q }
     ensures text { OnOk result (out.new.items ≡ out.old.items
-        ++ flat_map (λ p. ended (package_line nets.now p)) packages.now) }
-    ensures fault { Judges result (first_fault nets.now [] packages.now) }
+        ++ flat_map (λ p. ended (package_card nets.now p)) packages.now) }
+    ensures fault { Judges result (first_spice_fault nets.now [] packages.now) }
 {
     let mut names = BTreeSet::new(alloc);
     for part in packages {
@@ -215,7 +215,7 @@ fn put_packages<'a>(
 pub fn spice_text(alloc: Global, nets: &Nets) -> Result<Vec<u8>, SpiceFault>
     ensures text { IfOk result (λ text. text.items ≡ spice_text nets.now) }
     ensures no_fault { OnOk result (spice_fault nets.now ≡ None) }
-    ensures fault { IfErr result (λ fault. Fails fault (spice_fault nets.now)) }
+    ensures fault { IfErr result (λ fault. SpiceFails fault (spice_fault nets.now)) }
 {
     let list = nets.nets.as_slice();
     let noded = noded_nets(alloc, list)?;

@@ -4,19 +4,19 @@ use Rattle.std.specs.declared.option.Option.{Option}
 use Rattle.geda_defs.specs.Contents.{Files, KeepsFiles}
 use Rattle.geda_grammar.specs.Faults.{symbol_file}
 use Rattle.geda_model.specs.Sheets.{SymbolData}
-use Rattle.project_files.specs.FileReads.{IsRead, ReadAs}
+use Rattle.project_files.specs.FileReads.{WasRead, ReadAs}
 use Rattle.project_files.specs.ProjectFiles.{IsAnswer, OfSome}
 use Rattle.project_files.specs.declared.fault.FileFault.{FileFault}
 use Rattle.project_files.specs.declared.fault.FileFault.TheVariants as faults
 use Rattle.project_files.proofs.Reading.{HoldsOfWhole, read_refused, read_then, read_whole}
 use Rattle.sym_check.specs.declared.finding.SymFinding.{SymFinding}
 use Rattle.sym_check.specs.declared.report.CheckedFile.{CheckedFile}
-use Rattle.sym_check.specs.Findings.{found_in}
+use Rattle.sym_check.specs.Findings.{found_in_symbol}
 use Rattle.sym_check.specs.Order.{AreInOrder}
 use Rattle.symbol_files.specs.CheckedFiles.{ChecksFrom, FileChecksFrom, FileChecksTo, IsCheckOf, file_with}
 
 -- the bytes are those of a symbol, on which this is found
-pub checked : (name bytes : List ℕ) (symbol : SymbolData) (findings : List SymFinding) (file : CheckedFile) → ReadAs symbol_file (faults.Refused name) IsRead bytes (Ok symbol) → AreInOrder (found_in symbol) findings → file ≡ file_with name findings → ReadAs symbol_file (faults.Refused name) (IsCheckOf name) bytes (Ok file)
+pub checked : (name bytes : List ℕ) (symbol : SymbolData) (findings : List SymFinding) (file : CheckedFile) → ReadAs symbol_file (faults.Refused name) WasRead bytes (Ok symbol) → AreInOrder (found_in_symbol symbol) findings → file ≡ file_with name findings → ReadAs symbol_file (faults.Refused name) (IsCheckOf name) bytes (Ok file)
 checked name bytes symbol findings file h in_order is = read_then symbol_file (faults.Refused name) (faults.Refused name) (IsCheckOf name) bytes symbol (Ok file) h (findings, in_order, ap Ok is)
 
 -- a fault of one answer, as that of another
@@ -29,8 +29,8 @@ answer_fault P Q faults.FolderFault f h = h
 answer_fault P Q faults.NoMemory f h = tt
 
 -- they are refused
-pub refused : (name bytes : List ℕ) (fault : FileFault) → IsAnswer (ReadAs symbol_file (faults.Refused name) IsRead bytes) (Err fault) → IsAnswer (ReadAs symbol_file (faults.Refused name) (IsCheckOf name) bytes) (Err fault)
-refused name bytes fault h = answer_fault (ReadAs symbol_file (faults.Refused name) IsRead bytes) (ReadAs symbol_file (faults.Refused name) (IsCheckOf name) bytes) fault (read_refused symbol_file name bytes (λ f. f) (IsCheckOf name) fault) h
+pub refused : (name bytes : List ℕ) (fault : FileFault) → IsAnswer (ReadAs symbol_file (faults.Refused name) WasRead bytes) (Err fault) → IsAnswer (ReadAs symbol_file (faults.Refused name) (IsCheckOf name) bytes) (Err fault)
+refused name bytes fault h = answer_fault (ReadAs symbol_file (faults.Refused name) WasRead bytes) (ReadAs symbol_file (faults.Refused name) (IsCheckOf name) bytes) fault (read_refused symbol_file name bytes (λ f. f) (IsCheckOf name) fault) h
 
 -- what the first part of a file comes to the file comes to
 pub check_whole : (name : List ℕ) (outcome : Result CheckedFile FileFault) → HoldsOfWhole (λ file. FileChecksTo name file outcome)

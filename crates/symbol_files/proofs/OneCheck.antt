@@ -8,13 +8,13 @@ use Rattle.project_files.specs.declared.fault.FileFault.TheVariants as faults
 use Rattle.project_files.proofs.OneProject.{IsOne, after_one, file_one, read_one}
 use Rattle.sym_check.specs.declared.finding.SymFinding.{SymFinding}
 use Rattle.sym_check.specs.declared.report.CheckedFile.{CheckedFile}
-use Rattle.sym_check.specs.Findings.{found_in}
+use Rattle.sym_check.specs.Findings.{found_in_symbol}
 use Rattle.sym_check.proofs.OneList.{one_list}
 use Rattle.symbol_files.specs.CheckedFiles.{ChecksFrom, FileChecksFrom, IsCheckOf, file_with}
 
 check_one : (name : List ℕ) (symbol : SymbolData) → IsOne (IsCheckOf name symbol)
 check_one name symbol first second (findings, in_order, is) (others, so_too, so) =
-    is ∙ ap (λ (fs : List SymFinding). Ok (file_with name fs)) (one_list (found_in symbol) findings others in_order so_too) ∙ sym so
+    is ∙ ap (λ (fs : List SymFinding). Ok (file_with name fs)) (one_list (found_in_symbol symbol) findings others in_order so_too) ∙ sym so
 
 file_check_one : (files : Files) (name : List ℕ) → IsOne (FileChecksFrom (Some files) name)
 file_check_one files name = file_one (faults.Missing name) _ (read_one symbol_file symbol_determined (faults.Refused name) (IsCheckOf name) (check_one name)) (files name)

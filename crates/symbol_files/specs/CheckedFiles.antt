@@ -10,7 +10,7 @@ use Rattle.project_files.specs.declared.fault.FileFault.{FileFault}
 use Rattle.project_files.specs.declared.fault.FileFault.TheVariants as faults
 use Rattle.sym_check.specs.declared.finding.SymFinding.{SymFinding}
 use Rattle.sym_check.specs.declared.report.CheckedFile.{CheckedFile}
-use Rattle.sym_check.specs.Findings.{found_in}
+use Rattle.sym_check.specs.Findings.{found_in_symbol}
 use Rattle.sym_check.specs.Order.{AreInOrder}
 
 -- a file with what is found in it
@@ -20,7 +20,7 @@ file_with name findings = record { file = name; findings = findings }
 -- what a symbol comes to: the findings on it, in order
 abbrev pub IsCheckOf : List ℕ → SymbolData → Result CheckedFile FileFault → Type 0
 IsCheckOf name symbol outcome =
-    (findings : List SymFinding) × AreInOrder (found_in symbol) findings
+    (findings : List SymFinding) × AreInOrder (found_in_symbol symbol) findings
     × (outcome ≡ Ok (file_with name findings))
 
 -- what the file of a symbol comes to, if there is one

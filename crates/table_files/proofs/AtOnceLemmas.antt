@@ -13,8 +13,8 @@ use Rattle.attr_table.specs.SheetTables.{Numbered}
 use Rattle.desk_entries.specs.Putting.{Put, put_all}
 use Rattle.desk_entries.proofs.FilledComponents.{AreFilled}
 use Rattle.desk_entries.proofs.TableLaws.{are_filled, put_with_room}
-use Rattle.renum_files.specs.RenumberedFiles.{File, sheet_file}
-use Rattle.table_files.specs.FilledFiles.{FilledData, filled_by, filled_with}
+use Rattle.renum_files.specs.RenumberedFiles.{File, renumbered_sheet_file}
+use Rattle.table_files.specs.FilledFiles.{FilledData, filled_in_history, filled_with}
 use Rattle.table_files.specs.OpenedFiles.{put_or_fault}
 use Rattle.table_files.specs.declared.fault.TableFileFault.{TableFileFault}
 use Rattle.table_files.specs.steps.Objects.{files_of, object_of, with_components}
@@ -33,10 +33,10 @@ not_none n lt = grind (arith, nat_tests, lt)
 
 -- what so many changed components come to, with this project
 abbrev answer : List ℕ → ℕ → ProjectData → Result FilledData TableFileFault
-answer sheet n q = Ok (record { count = n; files = cond (n == 0) [] (filter_map (sheet_file q) (sheet ∷ [])) })
+answer sheet n q = Ok (record { count = n; files = cond (n == 0) [] (filter_map (renumbered_sheet_file q) (sheet ∷ [])) })
 
 pub at_once : (h : List EntryData) (sheet : List ℕ) (cs : List Numbered) → AreOfTable (project h) sheet cs → HaveRoom h sheet (entries (project h).objects) cs → 0 < length cs
-    → filled_by h sheet (entries_from (codes "fill") 2 1 cs)
+    → filled_in_history h sheet (entries_from (codes "fill") 2 1 cs)
     ≡ Ok (record { count = length cs; files = files_of sheet (get (project h).sheets sheet) (with_components (map object_of (entries (project h).objects)) cs) })
 at_once h sheet cs table room some =
     let p : ProjectData = project h in
@@ -50,9 +50,9 @@ at_once h sheet cs table room some =
     let all : put_all h es ≡ (h ++ es, None) = subst (λ (l : List EntryData). put_all h l ≡ (h ++ l, None)) same come.put in
     let meant : project (h ++ es) ≡ q = subst (λ (l : List EntryData). project (h ++ l) ≡ q) same come.made in
     let put_in = components_put p sheet cs room.home room.keys in
-    let file : filter_map (sheet_file q) (sheet ∷ []) ≡ files_of sheet (get p.sheets sheet) (with_components (map object_of (entries p.objects)) cs) =
+    let file : filter_map (renumbered_sheet_file q) (sheet ∷ []) ≡ files_of sheet (get p.sheets sheet) (with_components (map object_of (entries p.objects)) cs) =
     file_of q sheet put_in.home ∙ ap₂ (files_of sheet) (ap (λ sheets. get sheets sheet) (sheets_kept p sheet cs)) (sym put_in.objects) in
     ap (λ (put : Put). result_map_both (filled_with sheet (length es)) (λ (fault : TableFileFault). fault) (put_or_fault sheet put)) all
     ∙ ap₂ (answer sheet) (as_many (codes "fill") 2 1 cs) meant
-    ∙ ap (λ (b : Bool). Ok (record { count = length cs; files = cond b [] (filter_map (sheet_file q) (sheet ∷ [])) })) (not_none (length cs) some)
+    ∙ ap (λ (b : Bool). Ok (record { count = length cs; files = cond b [] (filter_map (renumbered_sheet_file q) (sheet ∷ [])) })) (not_none (length cs) some)
     ∙ ap (λ (files : List File). Ok (record { count = length cs; files = files })) file

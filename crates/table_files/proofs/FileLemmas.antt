@@ -9,7 +9,7 @@ use Rattle.geda_grammar.specs.Canonical.{head_text, object_rows, object_text, ro
 use Rattle.geda_grammar.specs.declared.row.Row as lines
 use Rattle.geda_model.specs.Sheets.{HeadData, ObjectData}
 use Rattle.project_model.specs.Projects.{ProjectData, is_on}
-use Rattle.renum_files.specs.RenumberedFiles.{sheet_file}
+use Rattle.renum_files.specs.RenumberedFiles.{renumbered_sheet_file}
 use Rattle.table_files.specs.steps.Objects.{Row, all_on, files_of, object_of}
 
 rows_append : (rows others : List lines.Row) → rows_text (rows ++ others) ≡ rows_text rows ++ rows_text others
@@ -28,10 +28,10 @@ all_kept sheet (row ∷ rows) home =
     rw parts.0 (ap (λ (rs : List Row). row ∷ rs) (all_kept sheet rows parts.1))
 
 pub file_of : (p : ProjectData) (sheet : List ℕ) → all_on sheet (entries p.objects) ≡ true
-    → filter_map (sheet_file p) (sheet ∷ []) ≡ files_of sheet (get p.sheets sheet) (map object_of (entries p.objects))
+    → filter_map (renumbered_sheet_file p) (sheet ∷ []) ≡ files_of sheet (get p.sheets sheet) (map object_of (entries p.objects))
 file_of p sheet home = by (get p.sheets sheet) refl
   where
-    by : (head : Option HeadData) → get p.sheets sheet ≡ head → filter_map (sheet_file p) (sheet ∷ []) ≡ files_of sheet head (map object_of (entries p.objects))
+    by : (head : Option HeadData) → get p.sheets sheet ≡ head → filter_map (renumbered_sheet_file p) (sheet ∷ []) ≡ files_of sheet head (map object_of (entries p.objects))
     by None is = rw is refl
     by (Some head) is =
         rw is

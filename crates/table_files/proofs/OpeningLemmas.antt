@@ -9,9 +9,9 @@ use Rattle.edit_entries.specs.declared.fault.EditFault.TheVariants as edit_fault
 use Rattle.edit_rules.specs.EarlyLines.{bad_text, text_fault}
 use Rattle.edit_rules.specs.Histories.{changes}
 use Rattle.edit_rules.specs.Values.{sheet_value}
-use Rattle.edit_rules.specs.Verdicts.{crossed, early, first_of, late, lines, verdict, verdict_by}
+use Rattle.edit_rules.specs.Verdicts.{crossed, early, first_of, late, verdict_lines, verdict, verdict_by}
 use Rattle.table_files.specs.Faults.{IsFaultOf}
-use Rattle.table_files.specs.OpenedFiles.{Gives, add_sheet, opened_file, opened_value, put_or_fault, put_sheet}
+use Rattle.table_files.specs.OpenedFiles.{GivesTableFile, add_sheet, opened_file, opened_value, put_or_fault, put_sheet}
 use Rattle.table_files.specs.declared.fault.TableFileFault.{TableFileFault}
 use Rattle.table_files.specs.declared.fault.TableFileFault.TheVariants as faults
 
@@ -38,7 +38,7 @@ unread_refused sheet text fault is =
     let bad : bad_text e.edit ≡ Some told = ap text_fault is in
     let after = None ∷ None ∷ [] ++ (crossed [] e ++ late [] e) in
     let line = some_line (early [] e) told after in
-    let all : first_of (lines [] e) ≡ Some line.0 = (λ i. first_of (early [] e ++ bad i ∷ after)) ∙ line.1 in
+    let all : first_of (verdict_lines [] e) ≡ Some line.0 = (λ i. first_of (early [] e ++ bad i ∷ after)) ∙ line.1 in
     let refused : verdict [] e ≡ verdict_by None (Some line.0) (changes [] e.edit) = ap (λ (o : Option EditFault). verdict_by None o (changes [] e.edit)) all in (
       line.0,
       (λ i. unless_fault (put_by [] e (refused i)).1 (put_all (put_by [] e (refused i)).0 []) (put_by [] e (refused i))),
@@ -58,14 +58,14 @@ opened sheet text h made = by (sheet_value text) refl
 -- where it has not, the fault is that of the text, or of the entry
 pub not_opened : {X : Type 0} (view : X → List EntryData) (sheet text : List ℕ) (h : List EntryData) (fault : EditFault) (e : TableFileFault)
     → (h, Some fault) ≡ put_sheet [] sheet text → IsFaultOf sheet (faults.EditRefused sheet fault) (sheet_value text) e
-    → Gives view (Err e) (opened_file sheet text)
+    → GivesTableFile view (Err e) (opened_file sheet text)
 not_opened view sheet text h fault e made is = by (sheet_value text) e is
   where
     accepted : put_or_fault sheet (put_sheet [] sheet text) ≡ Err (faults.EditRefused sheet fault)
     accepted = ap (put_or_fault sheet) (sym made)
 
     by : (value : Result SheetData (ReadKind × ℕ)) (e : TableFileFault) → IsFaultOf sheet (faults.EditRefused sheet fault) value e
-        → Gives view (Err e) (opened_value sheet text value)
+        → GivesTableFile view (Err e) (opened_value sheet text value)
     by value faults.NoMemory t = tt
     by (Ok s) (faults.Refused file line kind) t = accepted ∙ ap Err (sym t)
     by (Ok s) (faults.EditRefused file other) t = accepted ∙ ap Err (sym t)
@@ -76,10 +76,10 @@ not_opened view sheet text h fault e made is = by (sheet_value text) e is
 
 -- bytes that have a fault have it also where no text is made of them
 pub no_text : {X : Type 0} (view : X → List EntryData) (sheet bytes : List ℕ) (e : TableFileFault)
-    → IsFaultOf sheet faults.NoMemory (sheet_value bytes) e → Gives view (Err e) (opened_file sheet bytes)
+    → IsFaultOf sheet faults.NoMemory (sheet_value bytes) e → GivesTableFile view (Err e) (opened_file sheet bytes)
 no_text view sheet bytes e is = by (sheet_value bytes) e is
   where
-    by : (value : Result SheetData (ReadKind × ℕ)) (e : TableFileFault) → IsFaultOf sheet faults.NoMemory value e → Gives view (Err e) (opened_value sheet bytes value)
+    by : (value : Result SheetData (ReadKind × ℕ)) (e : TableFileFault) → IsFaultOf sheet faults.NoMemory value e → GivesTableFile view (Err e) (opened_value sheet bytes value)
     by value faults.NoMemory t = tt
     by (Ok s) (faults.Refused file line kind) t = absurd (cc t)
     by (Ok s) (faults.EditRefused file other) t = absurd (cc t)

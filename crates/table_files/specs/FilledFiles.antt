@@ -10,7 +10,7 @@ use Rattle.attr_table.specs.Filling.{table_entries}
 use Rattle.attr_table.specs.Records.{Record, records_of}
 use Rattle.attr_table.specs.TableFaults.{table_fault}
 use Rattle.desk_entries.specs.Putting.{put_all}
-use Rattle.renum_files.specs.RenumberedFiles.{File, sheet_file}
+use Rattle.renum_files.specs.RenumberedFiles.{File, renumbered_sheet_file}
 use Rattle.table_files.specs.Faults.{row_fault}
 use Rattle.table_files.specs.OpenedFiles.{put_or_fault}
 use Rattle.table_files.specs.declared.fault.TableFileFault.{TableFileFault}
@@ -25,7 +25,7 @@ pub record FilledData : Type 0 where
 -- the file of a sheet in which so many components have changed, if one has
 abbrev pub changed_files : List ℕ → ℕ → List EntryData → List File
 changed_files sheet count h =
-    if count == 0 then [] else filter_map (sheet_file (project h)) (sheet ∷ [])
+    if count == 0 then [] else filter_map (renumbered_sheet_file (project h)) (sheet ∷ [])
 
 -- what a history comes to, in which so many components of a sheet have changed
 abbrev pub filled_with : List ℕ → ℕ → List EntryData → FilledData
@@ -46,15 +46,16 @@ entries_in h sheet table bytes =
     (table_fault (project h) sheet (records_of bytes))
 
 -- what it comes to that these entries are put into a history
-abbrev pub filled_by : List EntryData → List ℕ → List EntryData → Result FilledData TableFileFault
-filled_by h sheet entries =
+abbrev pub filled_in_history :
+    List EntryData → List ℕ → List EntryData → Result FilledData TableFileFault
+filled_in_history h sheet entries =
     result_map_both (filled_with sheet (length entries)) (λ fault. fault)
     (put_or_fault sheet (put_all h entries))
 
 -- the same of the entries of a table, which may have a fault
 abbrev pub filled_or_fault : List EntryData → List ℕ → Result (List EntryData) TableFileFault
     → Result FilledData TableFileFault
-filled_or_fault h sheet (Ok entries) = filled_by h sheet entries
+filled_or_fault h sheet (Ok entries) = filled_in_history h sheet entries
 filled_or_fault h sheet (Err fault) = Err fault
 
 -- what filling a table into a sheet comes to

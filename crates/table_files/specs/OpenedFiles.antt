@@ -38,8 +38,8 @@ abbrev pub opened_file : List ℕ → List ℕ → Result (List EntryData) Table
 opened_file sheet bytes = opened_value sheet bytes (sheet_value bytes)
 
 -- what is come to, seen so, or want of memory
-abbrev pub Gives :
+abbrev pub GivesTableFile :
     {X Y : Type 0} → (X → Y) → Result X TableFileFault → Result Y TableFileFault → Type 0
-Gives view (Ok x) end = end ≡ Ok (view x)
-Gives view (Err faults.NoMemory) end = ⊤
-Gives view (Err fault) end = end ≡ Err fault
+GivesTableFile view (Ok x) end = end ≡ Ok (view x)
+GivesTableFile view (Err faults.NoMemory) end = ⊤
+GivesTableFile view (Err fault) end = end ≡ Err fault

@@ -8,7 +8,7 @@ ghost use Rattle.edit_rules.specs.Histories.{project};
 ghost use Rattle.edit_rules.specs.Verdicts.{Legal};
 ghost use Rattle.project_model.specs.Tables.{row_now};
 ghost use Rattle.attr_table.specs.Filling.{entries_from};
-ghost use Rattle.table_files.specs.FilledFiles.{filled_by};
+ghost use Rattle.table_files.specs.FilledFiles.{filled_in_history};
 ghost use Rattle.table_files.specs.steps.Openings.{adds_sheet, is_opened, is_opening};
 ghost use Rattle.table_files.specs.steps.Room.{AreLittle, AreOfTable, HaveRoom};
 
@@ -110,7 +110,8 @@ pub(crate) fn filled_at_once<'a>(
 ) -> Result<Option<FilledFile>, AllocError>
     requires { AreOfTable (project desk.now.history) sheet.now components.now }
     ensures { IfOk result (λ answer. IfSome answer (λ filled.
-        filled_by desk.now.history sheet.now (entries_from (codes "fill") 2 1 components.now)
+        filled_in_history desk.now.history sheet.now
+        (entries_from (codes "fill") 2 1 components.now)
         ≡ Ok filled)) }
 {
     if components.is_empty() {

@@ -3,10 +3,10 @@ ghost use Rattle.std.specs.Prelude.{◌≡◌, ◌≤◌, ◌∷◌, [], IfOk, c
 ghost use Rattle.std.specs.List.{filter_map};
 ghost use Rattle.attr_table.specs.Filling.{entries_from};
 ghost use Rattle.edit_rules.specs.Histories.{project};
-ghost use Rattle.renum_files.specs.RenumberedFiles.{sheet_file};
-ghost use Rattle.table_files.specs.FilledFiles.{changed_files, entries_in, filled_by};
+ghost use Rattle.renum_files.specs.RenumberedFiles.{renumbered_sheet_file};
+ghost use Rattle.table_files.specs.FilledFiles.{changed_files, entries_in, filled_in_history};
 ghost use Rattle.table_files.specs.FilledFiles.{filled_file, filled_with};
-ghost use Rattle.table_files.specs.OpenedFiles.{Gives};
+ghost use Rattle.table_files.specs.OpenedFiles.{GivesTableFile};
 ghost use Rattle.table_files.specs.steps.Room.{AreOfTable};
 
 use crate::at_once::filled_at_once;
@@ -47,7 +47,7 @@ fn sheet_files_of(
     sheet: &Name,
 ) -> Result<Vec<FileText>, AllocError>
     ensures { IfOk result (λ files.
-        files.items ≡ filter_map (sheet_file project.now.contents) (sheet.now ∷ [])) }
+        files.items ≡ filter_map (renumbered_sheet_file project.now.contents) (sheet.now ∷ [])) }
 {
     let mut names = BTreeSet::new(alloc);
     names.insert(sheet.clone()?)?;
@@ -92,7 +92,8 @@ fn components_in(
     bytes: &[u8],
 ) -> Result<Vec<(u32, Object)>, TableFileFault>
     requires { length bytes.now ≤ 4194304 }
-    ensures entries { Gives (λ components. entries_from (codes "fill") 2 1 components.items) result
+    ensures entries { GivesTableFile
+        (λ components. entries_from (codes "fill") 2 1 components.items) result
         (entries_in desk.now.history sheet.now table.now bytes.now) }
     ensures table { IfOk result (λ components.
         AreOfTable (project desk.now.history) sheet.now components.items) }
@@ -124,8 +125,8 @@ fn filled_in_order(
     sheet: &Name,
     entries: Vec<Entry>,
 ) -> Result<FilledFile, TableFileFault>
-    ensures { Gives (λ filled. filled) result
-        (filled_by desk.history sheet.now entries.items) }
+    ensures { GivesTableFile (λ filled. filled) result
+        (filled_in_history desk.history sheet.now entries.items) }
 {
     let mut desk = desk;
     let count = entries.len();
@@ -150,7 +151,7 @@ fn filled_by(
 ) -> Result<FilledFile, TableFileFault>
     requires table { AreOfTable (project desk.history) sheet.now components.items }
     requires few { length components.items ≤ 4194304 }
-    ensures { Gives (λ filled. filled) result (filled_by desk.history sheet.now
+    ensures { GivesTableFile (λ filled. filled) result (filled_in_history desk.history sheet.now
         (entries_from (codes "fill") 2 1 components.items)) }
 {
     match filled_at_once(alloc, &desk, sheet, components.as_slice())? {
@@ -176,7 +177,7 @@ pub fn filled_file(
     table: &Name,
     bytes: &[u8],
 ) -> Result<FilledFile, TableFileFault>
-    ensures { Gives (λ filled. filled) result
+    ensures { GivesTableFile (λ filled. filled) result
         (filled_file desk.history sheet.now table.now bytes.now) }
 {
     if bytes.len() > MOST_FILE_BYTES {

@@ -2,7 +2,7 @@
 ghost use Rattle.std.specs.Prelude.{◌≡◌, IfOk, codes};
 ghost use Rattle.edit_rules.specs.Values.{sheet_value};
 ghost use Rattle.table_files.specs.Faults.{IsFaultOf};
-ghost use Rattle.table_files.specs.OpenedFiles.{Gives, add_sheet, opened_file, put_sheet};
+ghost use Rattle.table_files.specs.OpenedFiles.{GivesTableFile, add_sheet, opened_file, put_sheet};
 
 use crate::fault::{TableFileFault, unread};
 use desk_entries::put_all;
@@ -70,7 +70,7 @@ fn fault_of(alloc: Global, sheet: &Name, bytes: &[u8], other: TableFileFault) ->
 
 /// The history of the sheet that a text spells. The sheet is read once where its entry is accepted.
 fn opened_text(alloc: Global, sheet: &Name, text: &str) -> Result<Desk, TableFileFault>
-    ensures { Gives (λ desk. desk.history) result (opened_file sheet.now text.now) }
+    ensures { GivesTableFile (λ desk. desk.history) result (opened_file sheet.now text.now) }
 {
     let mut desk = Desk::new(alloc);
     match put_sheet(alloc, &mut desk, sheet, text)? {
@@ -91,7 +91,7 @@ fn opened_text(alloc: Global, sheet: &Name, text: &str) -> Result<Desk, TableFil
 /// UTF-8 spell none, so that such bytes without a fault are want of memory.
 #[tactic(auto, using(crate::proofs::OpeningLemmas::no_text))]
 pub fn opened_file(alloc: Global, sheet: &Name, bytes: &[u8]) -> Result<Desk, TableFileFault>
-    ensures { Gives (λ desk. desk.history) result (opened_file sheet.now bytes.now) }
+    ensures { GivesTableFile (λ desk. desk.history) result (opened_file sheet.now bytes.now) }
 {
     match text_of(bytes) {
         Some(text) => opened_text(alloc, sheet, text),

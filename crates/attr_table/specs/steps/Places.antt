@@ -9,7 +9,7 @@ use Rattle.std.specs.List.{fold}
 use Rattle.geda_geom.specs.declared.conductor.Point.{Point}
 use Rattle.geda_model.specs.Data.{TextData}
 use Rattle.attr_rules.specs.Splits.{split_of}
-use Rattle.edit_attr.specs.Attributes.{attr_line, place_of, set_text}
+use Rattle.edit_attr.specs.Attributes.{attr_line, attr_place, set_text}
 use Rattle.attr_table.specs.Cells.{Cell}
 
 -- places by name
@@ -22,7 +22,7 @@ firsts_at firsts q = get_by (λ k. slice_cmp nat_cmp q k.now) firsts
 
 -- they are those of the first texts of each name
 abbrev pub ArePlaces : List TextData → Firsts → Type 0
-ArePlaces texts firsts = (q : List ℕ) → firsts_at firsts q ≡ place_of q texts
+ArePlaces texts firsts = (q : List ℕ) → firsts_at firsts q ≡ attr_place q texts
 
 -- the value of the attribute that a text is, of any name
 abbrev pub value_in : Option TextData → Option (List ℕ)

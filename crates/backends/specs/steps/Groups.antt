@@ -4,7 +4,7 @@ use Rattle.std.specs.Prelude.{ℕ, zero, suc, if◌then◌else◌, List, [], ◌
 use Rattle.std.specs.List.{fold}
 use Rattle.std.specs.declared.alloc.Global.{Global}
 use Rattle.net_list.specs.declared.package.Package.{Package}
-use Rattle.backends.specs.BillText.{ArticleData, article_of, fields_of, packages_of, same_article}
+use Rattle.backends.specs.BillText.{ArticleData, article_of, article_packages, bill_fields, same_article}
 use Rattle.backends.specs.CsvRecords.{record_text}
 use Rattle.backends.specs.declared.articles.Article.{Article}
 use Rattle.backends.specs.declared.articles.Group.{Group}
@@ -16,11 +16,11 @@ pub record GroupData : Type 0 where
 
 -- the group of an article among packages
 abbrev pub group_in : List Package → ArticleData → GroupData
-group_in packages a = record { article = a; members = packages_of packages a }
+group_in packages a = record { article = a; members = article_packages packages a }
 
 -- its record
 abbrev pub group_record : GroupData → List ℕ
-group_record g = record_text (fields_of g.article g.members)
+group_record g = record_text (bill_fields g.article g.members)
 
 -- one package more
 abbrev pub with_member : GroupData → Package → GroupData

@@ -8,7 +8,7 @@ use Rattle.edit_entries.specs.Entries.{EntryData, entry_size}
 use Rattle.edit_rules.specs.EarlyLines.{most_entries, most_history_bytes}
 use Rattle.edit_rules.specs.Histories.{project}
 use Rattle.edit_rules.specs.LateLines.{project_text}
-use Rattle.attr_table.specs.Filling.{entry_of}
+use Rattle.attr_table.specs.Filling.{component_entry}
 use Rattle.attr_table.specs.SheetTables.{Numbered}
 
 -- the bytes of the text of a component
@@ -21,7 +21,7 @@ IsFileText c = component_bytes c ≤ most_file_bytes
 
 -- the size of the entry that puts it in its place
 abbrev pub component_size : List ℕ → Numbered → ℕ
-component_size session c = entry_size (entry_of session 1 0 c)
+component_size session c = entry_size (component_entry session 1 0 c)
 
 -- no limit is passed by the entries of a session that put them in, though each text that goes away
 -- still counts

@@ -6,7 +6,7 @@ use Rattle.std.specs.List.{find, fold}
 use Rattle.geda_defs.specs.Contents.{Files}
 use Rattle.geda_model.specs.Sheets.{ObjectData, SheetData, SymbolData}
 use Rattle.project_files.specs.declared.fault.FileFault.{FileFault}
-use Rattle.project_files.specs.Gathering.{ProjectFiles, AskedSymbol, Gathered, ObjectComesTo, ObjectsComeTo, SymbolComesTo, asked_symbol, has_name, library_read, sources_of, with_value}
+use Rattle.project_files.specs.Gathering.{ProjectFiles, AskedSymbol, Gathered, ObjectComesTo, ObjectsComeTo, SymbolComesTo, asked_symbol, has_file_name, library_read, sources_of, queue_with_value}
 use Rattle.project_files.specs.FileReads.{Then}
 use Rattle.project_files.specs.ProjectFiles.{with_view}
 use Rattle.project_files.specs.steps.Progress.{AskedData, gathered, is_asked_symbol}
@@ -14,7 +14,7 @@ use Rattle.project_files.specs.steps.Progress.{AskedData, gathered, is_asked_sym
 -- the symbol of a name, if one was found
 abbrev pub symbol_of : List AskedSymbol → Option (List ℕ) → Option SymbolData
 symbol_of symbols name =
-    option_and_then (λ n. option_and_then (λ asked. asked.1) (find (has_name n) symbols)) name
+    option_and_then (λ n. option_and_then (λ asked. asked.1) (find (has_file_name n) symbols)) name
 
 -- nothing is to be asked for a symbol: none is needed, or its file was asked for
 abbrev pub is_known : List AskedSymbol → Option (List ℕ) → Bool
@@ -46,7 +46,7 @@ component_values object known = sources_of object (library_read known object)
 -- with the sheets that values name
 abbrev pub with_values : Files → List (List ℕ) → Gathered → Gathered
 with_values files values g = record {
-  queue = fold (with_value files) g.queue values;
+  queue = fold (queue_with_value files) g.queue values;
   sheets = g.sheets;
   symbols = g.symbols;
 }
@@ -56,7 +56,7 @@ abbrev pub AsksValues :
     AskedData → List (List ℕ) → ProjectFiles → Result AskedData FileFault → Type 0
 AsksValues before values files (Err fault) = ⊥
 AsksValues before values files (Ok now) =
-    (now.queue ≡ fold (with_value files.sheets) before.queue values)
+    (now.queue ≡ fold (queue_with_value files.sheets) before.queue values)
     × (now.symbols ≡ before.symbols)
 
 -- with the sheets that a component names
@@ -83,8 +83,8 @@ AsksObject before object files outcome =
 abbrev pub LeavesValues :
     AskedData → List (List ℕ) → AskedData → List (List ℕ) → ProjectFiles → Type 0
 LeavesValues before values now left files =
-    (fold (with_value files.sheets) now.queue left
-    ≡ fold (with_value files.sheets) before.queue values)
+    (fold (queue_with_value files.sheets) now.queue left
+    ≡ fold (queue_with_value files.sheets) before.queue values)
     × (now.symbols ≡ before.symbols)
 
 -- objects that are left decide what all come to

@@ -7,7 +7,7 @@ use Rattle.std.specs.Str.{bytes_eq}
 use Rattle.geda_defs.specs.Contents.{Files, KeepsFiles, read_part}
 use Rattle.geda_model.specs.Sheets.{SheetData}
 use Rattle.project_files.specs.declared.fault.FileFault.{FileFault}
-use Rattle.project_files.specs.Gathering.{ProjectFiles, AskedSymbol, Gathered, has_name}
+use Rattle.project_files.specs.Gathering.{ProjectFiles, AskedSymbol, Gathered, has_file_name}
 
 -- the file of a sheet that was found, until its turn comes
 pub record SheetFileData : Type 0 where
@@ -46,7 +46,7 @@ is_in name names = list_any (bytes_eq name) names
 
 -- a name is that of a symbol file that was asked for
 abbrev pub is_asked_symbol : List ℕ → List AskedSymbol → Bool
-is_asked_symbol name symbols = list_any (has_name name) symbols
+is_asked_symbol name symbols = list_any (has_file_name name) symbols
 
 -- how far reading has come: what is asked for, the names of the sheets that are read, the words
 -- whose files are not asked for yet, and files that are as those that were read

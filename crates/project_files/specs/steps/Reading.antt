@@ -6,7 +6,7 @@ use Rattle.geda_defs.specs.Contents.{Files}
 use Rattle.geda_model.specs.Sheets.{SheetData, SymbolData}
 use Rattle.geda_grammar.specs.Faults.{sheet_file, symbol_file}
 use Rattle.project_files.specs.declared.fault.FileFault.{FileFault}
-use Rattle.project_files.specs.FileReads.{FileComesTo, IsRead, ReadAs}
+use Rattle.project_files.specs.FileReads.{FileComesTo, WasRead, ReadAs}
 use Rattle.project_files.specs.ProjectFiles.{OfSome}
 use Rattle.project_files.specs.declared.fault.FileFault.TheVariants as faults
 
@@ -17,7 +17,7 @@ IsFound value read = read ≡ Ok (Some value)
 -- what a file of a sheet comes to, if there is one
 abbrev pub SheetOf : List ℕ → Option (List ℕ) → Result SheetData FileFault → Type 0
 SheetOf name file read =
-    FileComesTo (faults.Missing name) (ReadAs sheet_file (faults.Refused name) IsRead) file read
+    FileComesTo (faults.Missing name) (ReadAs sheet_file (faults.Refused name) WasRead) file read
 
 -- what a file of a symbol comes to, if there is one
 abbrev pub SymbolOf : List ℕ → Option (List ℕ) → Result (Option SymbolData) FileFault → Type 0

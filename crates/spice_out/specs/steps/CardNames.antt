@@ -11,7 +11,7 @@ use Rattle.std.specs.List.{list_any, slice_get}
 use Rattle.std.specs.Option.{option_map}
 use Rattle.std.specs.Ordering.{nat_cmp}
 use Rattle.net_list.specs.declared.package.Package.{Package}
-use Rattle.spice_out.specs.Faults.{is_named}
+use Rattle.spice_out.specs.Faults.{is_card_named}
 
 -- the pieces that are lent
 abbrev pub seen : List (Bor (List ℕ)) → List (List ℕ)
@@ -28,4 +28,4 @@ by_items x y = slice_cmp nat_cmp x.items y.items
 -- the set has the names of the cards of these packages, and no other
 abbrev pub HasNames : List Package → BTreeSet (Vec ℕ Global) → Type 0
 HasNames earlier names = (q : Vec ℕ Global)
-    → contains by_items names q ≡ list_any (is_named q.items) earlier
+    → contains by_items names q ≡ list_any (is_card_named q.items) earlier

@@ -3,7 +3,7 @@ use Rattle.std.specs.List.{list_all}
 use Rattle.csv.specs.Records.{fields_of}
 use Rattle.geda_model.specs.Sheets.{ObjectData}
 use Rattle.attr_table.specs.declared.fault.TableFault.TheVariants as faults
-use Rattle.attr_table.specs.Cells.{Cell, can_be_set, cells_of, counts, is_bad_cell, set_cell}
+use Rattle.attr_table.specs.Cells.{Cell, can_be_set, cells_of, cell_counts, is_bad_cell, set_cell}
 use Rattle.attr_table.specs.TableFaults.{first_column, second_column}
 use Rattle.attr_table.specs.steps.LentTexts.{texts}
 use Rattle.attr_table.proofs.FewLemmas.{map_none}
@@ -30,7 +30,7 @@ returns-in_ok-made-in-Ok c =
     let cells = cells_of (texts c.args.names.now) (fields_of c.args.source.now) in
     let some : (length c.in-Ok.counting.items == 0) ≡ false = search rules in
     let slice : c.as_slice-in-Ok.result.now ≡ c.in-Ok.counting.items = search rules in
-    let made : c.in_ok-made-in-Ok.made ≡ fold set_cell o (filter (counts o) cells) = c.in_ok-made-in-Ok.ensures ∙ ap (fold set_cell o) (slice ∙ c.in-Ok.ensures.1) in (
+    let made : c.in_ok-made-in-Ok.made ≡ fold set_cell o (filter (cell_counts o) cells) = c.in_ok-made-in-Ok.ensures ∙ ap (fold set_cell o) (slice ∙ c.in-Ok.ensures.1) in (
       c.in-Ok.ensures.0,
       ap (λ (m : ObjectData). Some (c.args.id, m)) made ∙ sym (made_some cells c.args.id o (ap (λ (cs : List Cell). length cs == 0) (sym c.in-Ok.ensures.1) ∙ some)),
     )

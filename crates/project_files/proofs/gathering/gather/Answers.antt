@@ -3,7 +3,7 @@ use Rattle.std.proofs.lemmas.Result.{err_from_is_err_and}
 use Rattle.geda_model.specs.Sheets.{SheetData}
 use Rattle.geda_grammar.specs.Faults.{sheet_file}
 use Rattle.project_files.specs.declared.fault.FileFault.TheVariants as faults
-use Rattle.project_files.specs.FileReads.{ReadAs, IsRead}
+use Rattle.project_files.specs.FileReads.{ReadAs, WasRead}
 use Rattle.project_files.specs.steps.Standing.{ReadsFrom}
 use Rattle.project_files.specs.steps.Progress.{AskedData, Asks}
 use Rattle.project_files.specs.steps.Asking.{AsksObjects}
@@ -16,7 +16,7 @@ pub returns-in_err-sheet-clause-read : goal.returns-in_err-sheet-clause-read
 returns-in_err-sheet-clause-read g c =
     let p = err_from_is_err_and c.from_residual-in_err-sheet.result c.from_residual-in_err-sheet.ensures.1 in
     let fault = c.in_err-sheet.field-0.0 in
-    rw (p.1, p.2) (fault_from _ (ReadAs sheet_file (faults.Refused c.file.inside.name) IsRead c.deref.result.now)
+    rw (p.1, p.2) (fault_from _ (ReadAs sheet_file (faults.Refused c.file.inside.name) WasRead c.deref.result.now)
     (ReadsFrom (g.F.Folder.files c.args.folder.now) c.args.names.now) fault
     (λ refused. turn_fault (found_turn c.next_waiting.new.self (Err fault) c.loop-file.invariant.stands c.in-Some.ensures
     c.file.view_is c.deref.ensures.value refused))

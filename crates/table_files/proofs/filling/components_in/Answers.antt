@@ -9,7 +9,7 @@ use Rattle.edit_entries.specs.Entries.{EntryData}
 use Rattle.project_model.specs.Projects.{ProjectData}
 use Rattle.table_files.specs.Faults.{row_fault}
 use Rattle.table_files.specs.FilledFiles.{entries_in, entries_or_fault}
-use Rattle.table_files.specs.OpenedFiles.{Gives}
+use Rattle.table_files.specs.OpenedFiles.{GivesTableFile}
 use Rattle.table_files.specs.declared.fault.TableFileFault.{TableFileFault}
 use Rattle.table_files.proofs.FillingLemmas.{fault_told, made_told, of_table}
 use Rattle.table_files.proofs.filling.components_in.Goals as goal
@@ -35,5 +35,5 @@ returns-in_ok-file-in-Err-clause-entries c =
     let records = records_of c.args.bytes.now in
     let same : c.row_fault.result ≡ row_fault table c.in-Err.fault = search rules in
     let told = fault_told (λ (v : Vec Numbered Global). v.items) entries_of h sheet table records c.in-Err.fault (table_fault c.project.result.now.contents sheet records) _ c.in-Err.ensures.made in
-    let here = subst (λ (p : ProjectData). Gives entries_of (Err (row_fault table c.in-Err.fault)) (entries_or_fault h sheet table records (table_fault p sheet records))) c.project.ensures.contents told in
-    subst (λ (e : TableFileFault). Gives entries_of (Err e) (entries_in h sheet table c.args.bytes.now)) (sym same) here
+    let here = subst (λ (p : ProjectData). GivesTableFile entries_of (Err (row_fault table c.in-Err.fault)) (entries_or_fault h sheet table records (table_fault p sheet records))) c.project.ensures.contents told in
+    subst (λ (e : TableFileFault). GivesTableFile entries_of (Err e) (entries_in h sheet table c.args.bytes.now)) (sym same) here

@@ -6,7 +6,7 @@ use Rattle.attr_table.specs.Filling.{entries_from}
 use Rattle.attr_table.specs.SheetTables.{Numbered}
 use Rattle.edit_entries.specs.Entries.{EntryData}
 use Rattle.table_files.specs.FilledFiles.{FilledData, entries_in, filled_or_fault}
-use Rattle.table_files.specs.OpenedFiles.{Gives}
+use Rattle.table_files.specs.OpenedFiles.{GivesTableFile}
 use Rattle.table_files.specs.declared.fault.TableFileFault.{TableFileFault}
 use Rattle.table_files.proofs.FillingLemmas.{fault_kept}
 use Rattle.table_files.proofs.filling.filled_file.Goals as goal
@@ -17,7 +17,7 @@ returns-in-Ok c =
     let sheet = c.args.sheet.now in
     let bytes = c.args.bytes.now in
     rw (le-ltb 4194304 (length bytes) (omega (arith, c.if-bytes-gt-MOST_FILE_BYTES.false)))
-    (subst (λ (entries : Result (List EntryData) TableFileFault). Gives (λ (filled : FilledData). filled) c.filled_by.result (filled_or_fault h sheet entries)) (sym c.in-Ok.ensures.entries) c.filled_by.ensures)
+    (subst (λ (entries : Result (List EntryData) TableFileFault). GivesTableFile (λ (filled : FilledData). filled) c.filled_by.result (filled_or_fault h sheet entries)) (sym c.in-Ok.ensures.entries) c.filled_by.ensures)
 
 pub returns-in-Err : goal.returns-in-Err
 returns-in-Err c =
