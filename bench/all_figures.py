@@ -48,6 +48,7 @@ FIGURES = (
     ("A server", "bench/serving.py replies", "wrk", "replies a second, beside nginx"),
     ("A server", "bench/serving.py starts", "", "starts over 10,000 and 200,000 rows"),
     ("A server", "bench/serving.py netlists", "wrk", "net lists a second"),
+    ("A server", "bench/after_edit.py GAFD", "valgrind", "the first net list after an edit"),
     ("A server", "told/one_history.py", "", "a minute of eight callers"),
     ("A server", "bench/group_times.py", "", "a wire that moves"),
     ("SERVER.md, memory", "bench/serving.py memory 1000 10000", "", "memory of a board"),
