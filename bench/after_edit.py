@@ -9,7 +9,6 @@ valgrind, and takes some two minutes.
 import argparse
 import os
 import pathlib
-import re
 import sys
 import tempfile
 
@@ -18,18 +17,18 @@ sys.dont_write_bytecode = True
 import paths
 import part_shapes
 from built import built
+from instructions import CALLGRIND, collected
 from load import Bringing
 from served import Served, new_store
 
 MOVES = 6
-WORDS = "--tool=callgrind --callgrind-out-file=/dev/null --log-file"
-COUNTED = re.compile(r"Collected : (\d+)")
 
 
 def under_callgrind(program, room):
     """A program that runs this one, and tells in `told` how much it did."""
     runs = pathlib.Path(room, "counted")
-    runs.write_text(f'#!/bin/sh\nexec valgrind {WORDS}={room}/told {program} "$@"\n')
+    words = " ".join([*CALLGRIND, f"--log-file={room}/told", program])
+    runs.write_text(f'#!/bin/sh\nexec {words} "$@"\n')
     os.chmod(runs, 0o755)
     return str(runs)
 
@@ -45,7 +44,7 @@ def counted(program, files, path):
             if path:
                 bringing.ask("GET", path)
         server.stop()
-        return int(COUNTED.search(pathlib.Path(room, "told").read_text())[1])
+        return collected(pathlib.Path(room, "told").read_text())
 
 
 def main():

@@ -41,7 +41,8 @@ from parts import words_of
 HEAD = "| shape | command | instructions before | after | peak before | after |"
 MEMORY = pathlib.Path("/dev/shm")
 PEAK = ["time", "-q", "-f", "%M", "-o", "../told"]
-COUNT = ["valgrind", "--tool=callgrind", "--callgrind-out-file=/dev/null", "--log-file=../told"]
+CALLGRIND = ["valgrind", "--tool=callgrind", "--callgrind-out-file=/dev/null"]
+COUNT = [*CALLGRIND, "--log-file=../told"]
 COUNTED = 5
 LONGEST = 1200
 ENDS = {"drc": (0, 7), "symcheck": (0, 7)}
@@ -143,13 +144,18 @@ def run_in(files, command, words):
         return (run.returncode, run.stdout, run.stderr), after, told
 
 
+def collected(told):
+    """How many instructions were done, by what callgrind told."""
+    return int(re.search(r"Collected : (\d+)", told)[1])
+
+
 def run_of(program, words, files):
     begun = time.perf_counter()
     answer, after, peak = run_in(files, PEAK, [program, *words])
     count = None
     if time.perf_counter() - begun < COUNTED:
         _, _, told = run_in(files, COUNT, [program, *words])
-        count = int(re.search(r"Collected : (\d+)", told)[1])
+        count = collected(told)
     return Run(answer, after, count, int(peak))
 
 

@@ -11,7 +11,6 @@ without callgrind. Where 10,000 components take over three times what `export` t
 with "over", and the status is 1. It wants valgrind and GNU time.
 """
 import argparse
-import re
 import sys
 
 sys.dont_write_bytecode = True
@@ -19,7 +18,7 @@ sys.dont_write_bytecode = True
 import paths
 import table_shapes
 from built import built
-from instructions import COUNT, run_in
+from instructions import COUNT, collected, run_in
 from table_shapes import SHEET, TABLE
 
 MOST, MANY = 3, "components 10,000"
@@ -34,7 +33,7 @@ def measured(program, files, words, wanted):
         sys.exit(f"{' '.join(words)}: status {status} {said or out!r:.200}")
     seconds = sum(map(float, told.split()))
     _, _, told = run_in(files, COUNT, [program, *words])
-    return int(re.search(r"Collected : (\d+)", told)[1]) / 1e6, seconds
+    return collected(told) / 1e6, seconds
 
 
 def runs_of(program, kinds):
