@@ -1,5 +1,5 @@
 -- Shapes, parts and components, and the ranges that they keep (gEDA File Format Document).
-use Rattle.std.specs.Prelude.{ℕ, ℤ, ◌≤◌, Bool, List, Option, Some, None, All, length, unsigned_abs}
+use Rattle.std.specs.Prelude.{ℕ, ℤ, ◌≤◌, Bool, List, [], ◌∷◌, ◌++◌, Option, Some, None, All, length, unsigned_abs}
 use Rattle.geda_model.specs.declared.shape.Shape.{Shape}
 use Rattle.geda_model.specs.declared.shape.Shape.TheVariants.{Straight, Picture, Rect, Circle, Arc, Text, Net, Bus, Pin, Path}
 use Rattle.geda_model.specs.Names.{IsLine, IsWord}
@@ -10,6 +10,16 @@ use Rattle.geda_model.specs.Ranges.{IsCoordinate, IsNumber, IsAngle, IsText, IsS
 pub record PartData : Type 0 where
   pub shape : Shape
   pub attrs : List TextData
+
+-- all as they are but for the last one
+abbrev pub with_last : {A : Type 0} → (A → A) → List A → List A
+with_last f [] = []
+with_last f (a ∷ []) = f a ∷ []
+with_last f (a ∷ b ∷ rest) = a ∷ with_last f (b ∷ rest)
+
+-- a part with one more text
+abbrev pub part_with : TextData → PartData → PartData
+part_with t p = record { shape = p.shape; attrs = p.attrs ++ t ∷ [] }
 
 -- the ends and the colour of a line
 pub record IsSegment (left bottom right top hue : ℤ) : Type 0 where

@@ -1,5 +1,5 @@
 -- Objects, sheets and symbols.
-use Rattle.std.specs.Prelude.{ℕ, ◌<◌, ◌≤◌, ◌≡◌, ◌⊎◌, List, All, length}
+use Rattle.std.specs.Prelude.{ℕ, ◌<◌, ◌≤◌, ◌≡◌, ◌⊎◌, List, [], ◌∷◌, ◌++◌, All, length}
 use Rattle.geda_model.specs.declared.object.Body.{Body}
 use Rattle.geda_model.specs.declared.object.Body.TheVariants.{Shape, Component}
 use Rattle.geda_model.specs.Data.{TextData}
@@ -10,6 +10,10 @@ use Rattle.geda_model.specs.Shapes.{PartData, ShapeIsInRange, ComponentIsInRange
 pub record ObjectData : Type 0 where
   pub body : Body
   pub attrs : List TextData
+
+-- an object with one more text
+abbrev pub object_with : TextData → ObjectData → ObjectData
+object_with t o = record { body = o.body; attrs = o.attrs ++ t ∷ [] }
 
 -- each field of a shape or of a component, with its symbol
 abbrev pub BodyIsInRange : Body → Type 0

@@ -1,6 +1,6 @@
 // Objects of a sheet, sheets and symbols.
 use crate::shape::{Parts, Shape};
-use crate::text::Texts;
+use crate::text::{Text, Texts};
 use crate::word::Word;
 use std::alloc::{AllocError, Global};
 use std::marker::Model;
@@ -106,13 +106,22 @@ impl Clone for Object {
 }
 
 impl Object {
-    ghost use Rattle.std.specs.Prelude.{◌≡◌, IfOk};
+    ghost use Rattle.std.specs.Prelude.{◌≡◌, IfOk, OnErr, OnOk};
+    ghost use Rattle.geda_model.specs.Sheets.{ObjectIsInRange, object_with};
 
     /// An equal object.
     pub fn copy(&self, alloc: Global) -> Result<Object, AllocError>
         ensures { IfOk result (λ object. object ≡ self.now) }
     {
         self.clone()
+    }
+
+    fn attach(&mut self, text: Text) -> Result<(), AllocError>
+        ensures ok { OnOk result (self.new ≡ object_with text self.old) }
+        ensures err { OnErr result (self.new ≡ self.old) }
+        ensures range { ObjectIsInRange self.new }
+    {
+        self.attrs.push(text)
     }
 }
 
@@ -135,7 +144,8 @@ impl Model for Objects {
 
 impl Objects {
     ghost use Rattle.std.specs.Prelude.{◌≡◌, ◌<◌, ◌++◌, ◌∷◌, [], OnErr, OnOk, length};
-    ghost use Rattle.geda_model.specs.Sheets.{AreObjectsInRange};
+    ghost use Rattle.geda_model.specs.Sheets.{AreObjectsInRange, object_with};
+    ghost use Rattle.geda_model.specs.Shapes.{with_last};
 
     /// No object. It takes no memory.
     pub fn new(alloc: Global) -> Objects
@@ -155,6 +165,18 @@ impl Objects {
     {
         self.list.push(object)?;
         Ok(())
+    }
+
+    /// Puts a text behind those that are attached to the last object; where there is no object
+    /// nothing changes. On want of memory all stay as they are.
+    pub fn attach(&mut self, text: Text) -> Result<(), AllocError>
+        ensures ok { OnOk result (self.new ≡ with_last (object_with text) self.old) }
+        ensures err { OnErr result (self.new ≡ self.old) }
+    {
+        match self.list.last_mut() {
+            Some(object) => object.attach(text),
+            None => Ok(()),
+        }
     }
 
     /// The objects, in order. It takes no memory.

@@ -197,6 +197,19 @@ impl Clone for Part {
     }
 }
 
+impl Part {
+    ghost use Rattle.std.specs.Prelude.{◌≡◌, OnErr, OnOk};
+    ghost use Rattle.geda_model.specs.Shapes.{PartIsInRange, part_with};
+
+    fn attach(&mut self, text: Text) -> Result<(), AllocError>
+        ensures ok { OnOk result (self.new ≡ part_with text self.old) }
+        ensures err { OnErr result (self.new ≡ self.old) }
+        ensures range { PartIsInRange self.new }
+    {
+        self.attrs.push(text)
+    }
+}
+
 /// The parts of a symbol in order, each in its ranges, at most 4,294,967,295.
 #[derive(Debug, Drop)]
 pub struct Parts {
@@ -216,7 +229,7 @@ impl Model for Parts {
 
 impl Parts {
     ghost use Rattle.std.specs.Prelude.{◌≡◌, ◌<◌, ◌++◌, ◌∷◌, [], OnErr, OnOk, length};
-    ghost use Rattle.geda_model.specs.Shapes.{ArePartsInRange};
+    ghost use Rattle.geda_model.specs.Shapes.{ArePartsInRange, part_with, with_last};
 
     /// No part. It takes no memory.
     pub fn new(alloc: Global) -> Parts
@@ -236,6 +249,18 @@ impl Parts {
     {
         self.list.push(part)?;
         Ok(())
+    }
+
+    /// Puts a text behind those that are attached to the last part; where there is no part nothing
+    /// changes. On want of memory all stay as they are.
+    pub fn attach(&mut self, text: Text) -> Result<(), AllocError>
+        ensures ok { OnOk result (self.new ≡ with_last (part_with text) self.old) }
+        ensures err { OnErr result (self.new ≡ self.old) }
+    {
+        match self.list.last_mut() {
+            Some(part) => part.attach(text),
+            None => Ok(()),
+        }
     }
 
     /// The parts, in order. It takes no memory.
