@@ -18,7 +18,6 @@ use sinks::Sink;
 use std::alloc::{AllocError, Global};
 use std::borrow::CowStr;
 use table_files::TableKind;
-use web_requests::read_kind_name;
 
 const OUT_OF_MEMORY: &str = "gafd: out of memory\n";
 
@@ -150,7 +149,7 @@ fn error_line(alloc: Global, fault: &RunFault) -> Result<CowStr<'static>, AllocE
     match fault {
         RunFault::Missing { file } => file_line(alloc, file.as_str(), ": missing\n"),
         RunFault::Refused { file, line, kind } => {
-            let text = refused_line(alloc, file.as_str(), *line, read_kind_name(*kind))?;
+            let text = refused_line(alloc, file.as_str(), *line, kind.name())?;
             Ok(CowStr::Owned(text))
         }
         RunFault::EditRefused { file, fault } => {

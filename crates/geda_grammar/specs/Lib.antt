@@ -5,6 +5,7 @@ pub mod Rows
 pub mod Grammar
 pub mod Spelling
 pub mod Faults
+pub mod KindNames
 pub mod Canonical
 pub mod Writable
 pub mod Laws

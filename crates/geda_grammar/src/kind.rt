@@ -1,4 +1,6 @@
 // Why a file is refused.
+ghost use Rattle.std.specs.Prelude.{◌≡◌};
+ghost use Rattle.geda_grammar.specs.KindNames.{read_kind_name};
 
 /// Why a file is refused at a line. Rule: docs/RULES.md, "Faults".
 ///
@@ -33,4 +35,27 @@ pub enum ReadKind {
     NotUtf8,
     /// Too many bytes (then at line 1), or one object more than may be there.
     TooLarge,
+}
+
+impl ReadKind {
+    /// The name of the kind, as it prints. It takes no memory.
+    pub fn name(self) -> &'static str
+        ensures { result.now ≡ read_kind_name self }
+    {
+        match self {
+            ReadKind::NoVersion => "NoVersion",
+            ReadKind::BadFormat => "BadFormat",
+            ReadKind::UnknownLetter => "UnknownLetter",
+            ReadKind::FieldCount => "FieldCount",
+            ReadKind::BadNumber => "BadNumber",
+            ReadKind::OutOfRange => "OutOfRange",
+            ReadKind::BadAngle => "BadAngle",
+            ReadKind::CutShort => "CutShort",
+            ReadKind::StrayBracket => "StrayBracket",
+            ReadKind::NotAttribute => "NotAttribute",
+            ReadKind::Nested => "Nested",
+            ReadKind::NotUtf8 => "NotUtf8",
+            ReadKind::TooLarge => "TooLarge",
+        }
+    }
 }

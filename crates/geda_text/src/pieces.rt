@@ -1,4 +1,5 @@
-ghost use Rattle.std.specs.Prelude.{◌≡◌, ◌+◌, ◌<◌, ◌≤◌, ◌∷◌, length, position, IfSome};
+ghost use Rattle.std.specs.Prelude.{◌≡◌, ◌+◌, ◌<◌, ◌≤◌, ◌∷◌, length, position, false, true, IfSome, MatchOption};
+ghost use Rattle.std.specs.Char.{is_ascii_digit};
 ghost use Rattle.std.specs.Iterator.{YieldsFirstRef, item_count};
 ghost use Rattle.geda_text.specs.Lines.{is_blank, fields_of, next_whole, other_fields};
 ghost use Rattle.geda_text.specs.steps.Words.{BeginsWith, BeginsWithDigits, StartsWord};
@@ -44,6 +45,19 @@ fn cut_field(bytes: &[u8]) -> (&[u8], &[u8])
     }
 }
 
+/// The number that a digit spells, in 32 bits from the first: fewer steps than in 8.
+#[inline(always)]
+fn digit_of(byte: u8) -> Option<u32>
+    ensures { MatchOption result (is_ascii_digit byte ≡ false)
+        (λ digit. (is_ascii_digit byte ≡ true) × (digit + 48 ≡ byte)) }
+{
+    let digit = u32::from(byte).wrapping_sub(u32::from(b'0'));
+    if digit > 9 {
+        return None;
+    }
+    Some(digit)
+}
+
 /// The number that 1 to 9 digits spell, where they stand first and before a blank or the end, and
 /// the bytes behind that blank.
 #[inline(always)]
@@ -52,11 +66,14 @@ fn cut_digits(bytes: &[u8]) -> Option<(u32, &[u8])>
 {
     let mut value: u32 = 0;
     let mut count = 0;
-    while count < bytes.len() && bytes[count].is_ascii_digit() {
+    while count < bytes.len() {
+        let Some(digit) = digit_of(bytes[count]) else {
+            break;
+        };
         if count == 9 {
             return None;
         }
-        value = value * 10 + u32::from(bytes[count] - b'0');
+        value = value * 10 + digit;
         count += 1;
     }
     if count == 0 {
@@ -108,20 +125,39 @@ impl<'a> Fields<'a> {
         Fields { rest: line }
     }
 
+    /// The number that the next field spells, where that field stands first. Else nothing changes.
+    #[inline(never)]
+    fn take_whole(&mut self) -> Option<i32>
+        ensures { MatchOption result (self.new ≡ self.old)
+            (λ z. (next_whole self.old ≡ Some (Some z)) × (self.new ≡ other_fields self.old)) }
+    {
+        let (number, after) = cut_whole(self.rest)?;
+        self.rest = after;
+        Some(number)
+    }
+
+    /// The same of any next field.
+    #[inline(never)]
+    fn next_as_whole(&mut self) -> Option<Option<i32>>
+        ensures given { result ≡ next_whole self.old }
+        ensures rest { self.new ≡ other_fields self.old }
+    {
+        let field = self.next()?;
+        Some(whole(field))
+    }
+
     /// The number that the next field spells, as `whole` reads it. It takes no memory.
     ///
     /// `None` exactly where no field is left, `Some(None)` exactly where the next one is no number.
+    #[inline(always)]
     pub fn next_whole(&mut self) -> Option<Option<i32>>
         ensures given { result ≡ next_whole self.old }
         ensures rest { self.new ≡ other_fields self.old }
     {
-        let rest = without_blanks(self.rest);
-        if let Some((number, after)) = cut_whole(rest) {
-            self.rest = after;
+        if let Some(number) = self.take_whole() {
             return Some(Some(number));
         }
-        let field = self.next()?;
-        Some(whole(field))
+        self.next_as_whole()
     }
 }
 

@@ -3,8 +3,8 @@ ghost use Rattle.std.specs.Prelude.{◌≡◌, ◌≢◌, ◌<◌, ◌≤◌, �
 ghost use Rattle.httparse.specs.Spans.{span_bytes};
 ghost use Rattle.geda_defs.specs.Causes.{HasRisen};
 ghost use Rattle.web_heads.specs.Messages.{Nexts};
-ghost use Rattle.web_heads.specs.steps.Reading.{IsBodyNext, IsHeadNext, IsWhole, MovesSome, NextHead};
-ghost use Rattle.web_heads.specs.steps.Reading.{SameHead};
+ghost use Rattle.web_heads.specs.steps.Reading.{FillsEmpty, IsBodyNext, IsHeadNext, IsWhole};
+ghost use Rattle.web_heads.specs.steps.Reading.{MovesSome, NextHead, SameHead};
 
 use crate::buffer::{Buffer, Filled};
 use crate::cut_end::CutEnd;
@@ -75,12 +75,8 @@ fn next_head<L: Link>(link: &mut L, buffer: &mut Buffer) -> HeadNext
         }
         match buffer.fill(link) {
             Filled::More => {}
-            Filled::End => {
-                if buffer.bytes().is_empty() {
-                    return HeadNext::End(CutEnd::Closed);
-                }
-                return HeadNext::End(CutEnd::CutShort);
-            }
+            Filled::End if buffer.bytes().is_empty() => return HeadNext::End(CutEnd::Closed),
+            Filled::End => return HeadNext::End(CutEnd::CutShort),
             Filled::Fault => return HeadNext::Fault,
         }
     }
@@ -120,6 +116,22 @@ fn move_bytes(buffer: &mut Buffer, message: &mut Message, size: usize)
     buffer.skip(count);
 }
 
+/// Reads where no bytes are left.
+fn fill_empty<L: Link>(link: &mut L, buffer: &mut Buffer) -> Filled
+    ensures input { FillsEmpty (L.input link.old) (L.input link.new)
+        buffer.old buffer.new result }
+    ensures output { L.output link.new ≡ L.output link.old }
+    ensures later { L.read_faults link.old ≤ L.read_faults link.new }
+    ensures write_later { L.write_faults link.old ≤ L.write_faults link.new }
+    ensures cause { result ≡ Filled.Fault →
+        HasRisen (L.read_faults link.old) (L.read_faults link.new) }
+{
+    if buffer.bytes().is_empty() {
+        return buffer.fill(link);
+    }
+    Filled::More
+}
+
 /// Reads on until the body is whole.
 fn read_body<L: Link>(
     link: &mut L,
@@ -140,14 +152,11 @@ fn read_body<L: Link>(
         HasRisen (L.read_faults link.old) (L.read_faults link.new) }
 {
     while message.body_len() < size {
-        if buffer.bytes().is_empty() {
-            match buffer.fill(link) {
-                Filled::More => {}
-                Filled::End => return BodyNext::End,
-                Filled::Fault => return BodyNext::Fault,
-            }
+        match fill_empty(link, buffer) {
+            Filled::More => move_bytes(buffer, message, size),
+            Filled::End => return BodyNext::End,
+            Filled::Fault => return BodyNext::Fault,
         }
-        move_bytes(buffer, message, size);
     }
     BodyNext::Whole
 }

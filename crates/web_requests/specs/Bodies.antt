@@ -4,8 +4,7 @@ use Rattle.std.specs.Prelude.{ℕ, List, codes}
 use Rattle.serde_json.specs.Data.{Data, string, number, unsigned, object, Members, no_members, put}
 use Rattle.edit_entries.specs.declared.fault.EditFault.{EditFault}
 use Rattle.edit_entries.specs.declared.fault.EditFault.TheVariants as faults
-use Rattle.geda_grammar.specs.declared.kind.ReadKind.{ReadKind}
-use Rattle.geda_grammar.specs.declared.kind.ReadKind.TheVariants as kinds
+use Rattle.geda_grammar.specs.KindNames.{read_kind_name}
 
 -- the member that tells a fault by its name
 abbrev pub fault_members : List ℕ → Members
@@ -35,22 +34,6 @@ abbrev pub done_entry : ℕ → ℕ → Data
 done_entry first_id serial =
     object (put (codes "serial") (number (unsigned serial))
     (put (codes "first_id") (number (unsigned first_id)) no_members))
-
--- the name of a reader's fault, as it prints
-abbrev pub read_kind_name : ReadKind → List ℕ
-read_kind_name kinds.NoVersion = codes "NoVersion"
-read_kind_name kinds.BadFormat = codes "BadFormat"
-read_kind_name kinds.UnknownLetter = codes "UnknownLetter"
-read_kind_name kinds.FieldCount = codes "FieldCount"
-read_kind_name kinds.BadNumber = codes "BadNumber"
-read_kind_name kinds.OutOfRange = codes "OutOfRange"
-read_kind_name kinds.BadAngle = codes "BadAngle"
-read_kind_name kinds.CutShort = codes "CutShort"
-read_kind_name kinds.StrayBracket = codes "StrayBracket"
-read_kind_name kinds.NotAttribute = codes "NotAttribute"
-read_kind_name kinds.Nested = codes "Nested"
-read_kind_name kinds.NotUtf8 = codes "NotUtf8"
-read_kind_name kinds.TooLarge = codes "TooLarge"
 
 -- why an edit is refused, with its numbers
 abbrev pub fault_data : EditFault → Data

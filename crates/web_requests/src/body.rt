@@ -3,12 +3,10 @@ ghost use Rattle.std.specs.Prelude.{◌≡◌, IfOk};
 ghost use Rattle.std.specs.String.{string_bytes};
 ghost use Rattle.serde_json.specs.View.{view};
 ghost use Rattle.serde_json.specs.Written.{compact_text};
-ghost use Rattle.web_requests.specs.Bodies as spec;
 ghost use Rattle.web_requests.specs.Bodies.{bad_edit, bad_text_fault, done_entry, fault_data};
 ghost use Rattle.web_requests.specs.Bodies.{named_fault, numbered_fault};
 
 use edit_entries::EditFault;
-use geda_grammar::ReadKind;
 use serde_json::{Value, json};
 use std::alloc::{AllocError, Global};
 
@@ -93,27 +91,6 @@ pub fn done_body(alloc: Global, first_id: u32, serial: u32) -> Result<String, Al
     value.to_string(alloc)
 }
 
-/// The name of why a reader refuses a text. It takes no memory.
-pub fn read_kind_name(kind: ReadKind) -> &'static str
-    ensures { result.now ≡ spec.read_kind_name kind }
-{
-    match kind {
-        ReadKind::NoVersion => "NoVersion",
-        ReadKind::BadFormat => "BadFormat",
-        ReadKind::UnknownLetter => "UnknownLetter",
-        ReadKind::FieldCount => "FieldCount",
-        ReadKind::BadNumber => "BadNumber",
-        ReadKind::OutOfRange => "OutOfRange",
-        ReadKind::BadAngle => "BadAngle",
-        ReadKind::CutShort => "CutShort",
-        ReadKind::StrayBracket => "StrayBracket",
-        ReadKind::NotAttribute => "NotAttribute",
-        ReadKind::Nested => "Nested",
-        ReadKind::NotUtf8 => "NotUtf8",
-        ReadKind::TooLarge => "TooLarge",
-    }
-}
-
 /// Why an edit is refused, with its numbers.
 pub fn fault_body(alloc: Global, fault: EditFault) -> Result<String, AllocError>
     ensures { IfOk result (λ s. string_bytes s ≡ compact_text (fault_data fault)) }
@@ -125,7 +102,7 @@ pub fn fault_body(alloc: Global, fault: EditFault) -> Result<String, AllocError>
         EditFault::SymbolExists => named_body(alloc, "SymbolExists"),
         EditFault::NoObject { id } => numbered_body(alloc, "NoObject", "id", id),
         EditFault::NotOnKind { id } => numbered_body(alloc, "NotOnKind", "id", id),
-        EditFault::BadText { read, line } => text_body(alloc, read_kind_name(read), line),
+        EditFault::BadText { read, line } => text_body(alloc, read.name(), line),
         EditFault::OutOfRange { id } => numbered_body(alloc, "OutOfRange", "id", id),
         EditFault::Stale { newer } => numbered_body(alloc, "Stale", "newer", newer),
         EditFault::NotYours => named_body(alloc, "NotYours"),

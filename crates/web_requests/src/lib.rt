@@ -23,7 +23,6 @@ mod request;
 mod route;
 mod writing;
 
-pub use body::read_kind_name;
 pub use fixed::{no_entry_text, no_memory_text};
 pub use laws::{acknowledged_law, held_law, one_request_law};
 pub use reply_text::ReplyText;

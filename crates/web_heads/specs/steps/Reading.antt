@@ -33,6 +33,12 @@ Fills before after old new filled.More =
 Fills before after old new filled.End = (after ≡ before) × (new ≡ old) × IsAtEnd after
 Fills before after old new filled.Fault = (after ≡ before) × (new ≡ old)
 
+-- after such a read where no bytes were there, and none where some were
+abbrev pub FillsEmpty : Option (List ℕ) → Option (List ℕ) → List ℕ → List ℕ → Filled → Type 0
+FillsEmpty before after [] new result = Fills before after [] new result
+FillsEmpty before after (byte ∷ bytes) new result =
+    (after ≡ before) × (new ≡ byte ∷ bytes) × (result ≡ filled.More)
+
 -- some bytes were read, and stand behind the old ones
 abbrev pub TakesSome : Option (List ℕ) → Option (List ℕ) → List ℕ → List ℕ → Type 0
 TakesSome before after old new = (got : List ℕ) × Takes got before after old new

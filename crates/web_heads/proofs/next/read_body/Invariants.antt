@@ -2,8 +2,8 @@ use Rattle.std.proofs.Common.{◌≡◌, ◌≤◌, ◌-◌, length}
 use Rattle.web_heads.specs.steps.Reading.{MovesSome, SameHead}
 use Rattle.web_heads.proofs.next.read_body.Given as goal
 
-abbrev pub invariant-loop-buffer : goal.invariant-loop-buffer
-invariant-loop-buffer g l =
+abbrev pub invariant-loop-link : goal.invariant-loop-link
+invariant-loop-link g l =
     record {
       moved : MovesSome (g.L.Link.input l.fn.link) (g.L.Link.input l.link) l.fn.buffer l.message.body l.buffer;
       fits : length l.message.body ≤ l.size;
@@ -13,5 +13,5 @@ invariant-loop-buffer g l =
       write_later : g.L.Link.write_faults l.fn.link ≤ g.L.Link.write_faults l.link;
     }
 
-abbrev pub decreases-loop-buffer : goal.decreases-loop-buffer
-decreases-loop-buffer g l = l.size - length l.message.body
+abbrev pub decreases-loop-link : goal.decreases-loop-link
+decreases-loop-link g l = l.size - length l.message.body
