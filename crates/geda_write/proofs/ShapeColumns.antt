@@ -12,7 +12,7 @@ use Rattle.geda_grammar.specs.Classes.{Field}
 use Rattle.geda_grammar.specs.Letters.{byte_of}
 use Rattle.geda_grammar.specs.Rows.{letter_of_shape, shape_fields}
 use Rattle.geda_grammar.specs.declared.row.Row.TheVariants.{Drawn}
-use Rattle.geda_write.specs.steps.Columns.{place_fields, extent_fields, color_fields, style_fields, own_fields, following_text}
+use Rattle.geda_write.specs.steps.Columns.{columns_text, place_fields, extent_fields, color_fields, style_fields, own_fields, following_text}
 use Rattle.geda_write.specs.steps.Texts.{fields_text, row_text}
 use Rattle.geda_write.proofs.Contents.{length_lines, lines_ended, picture_ended}
 
@@ -51,11 +51,16 @@ fields_cut front back bytes rest h = ap (λ (bs : List ℕ). bs ++ bytes) (flat_
 columns_cut : (a b c d e : List Field) (bytes : List ℕ) → fields_text (a ++ (b ++ (c ++ (d ++ e)))) ++ bytes ≡ fields_text a ++ (fields_text b ++ (fields_text c ++ (fields_text d ++ (fields_text e ++ bytes))))
 columns_cut a b c d e bytes = fields_cut a (b ++ (c ++ (d ++ e))) bytes _ (fields_cut b (c ++ (d ++ e)) bytes _ (fields_cut c (d ++ e) bytes _ (fields_cut d e bytes _ refl)))
 
-pub shape_row : (s : Shape) → ShapeIsInRange s → row_text (Drawn s) ≡ byte_of (letter_of_shape s) ∷ (fields_text (place_fields s) ++ (fields_text (extent_fields s) ++ (fields_text (color_fields s) ++ (fields_text (style_fields s) ++ (fields_text (own_fields s) ++ (10 ∷ following_text s))))))
+columns_apart : (a b c d bytes : List ℕ) → a ++ (b ++ (c ++ (d ++ bytes))) ≡ (a ++ (b ++ (c ++ d))) ++ bytes
+columns_apart a b c d bytes = sym (append_assoc a (b ++ (c ++ d)) bytes ∙ ap (λ (bs : List ℕ). a ++ bs) (append_assoc b (c ++ d) bytes ∙ ap (λ (bs : List ℕ). b ++ bs) (append_assoc c d bytes)))
+
+pub shape_row : (s : Shape) → ShapeIsInRange s → row_text (Drawn s) ≡ byte_of (letter_of_shape s) ∷ (fields_text (place_fields s) ++ (columns_text s ++ (10 ∷ following_text s)))
 shape_row s h =
     let letter = byte_of (letter_of_shape s) in
     let line = spaced_fields (letter ∷ []) (shape_fields s (length (following (Drawn s)))) ∙ ap (λ (fs : List Field). letter ∷ fields_text fs) (shape_columns s) in
+    let behind = 10 ∷ following_text s in
     ap (λ (bs : List ℕ). ended bs ++ flat_map ended (following (Drawn s))) line
     ∙ ap (λ (bs : List ℕ). ended (letter ∷ fields_text (columns_of s)) ++ bs) (following_ended s h)
     ∙ append_assoc (letter ∷ fields_text (columns_of s)) (10 ∷ []) (following_text s)
-    ∙ ap (λ (bs : List ℕ). letter ∷ bs) (columns_cut (place_fields s) (extent_fields s) (color_fields s) (style_fields s) (own_fields s) (10 ∷ following_text s))
+    ∙ ap (λ (bs : List ℕ). letter ∷ bs) (columns_cut (place_fields s) (extent_fields s) (color_fields s) (style_fields s) (own_fields s) behind)
+    ∙ ap (λ (bs : List ℕ). letter ∷ (fields_text (place_fields s) ++ bs)) (columns_apart (fields_text (extent_fields s)) (fields_text (color_fields s)) (fields_text (style_fields s)) (fields_text (own_fields s)) behind)

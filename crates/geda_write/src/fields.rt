@@ -1,33 +1,26 @@
 // The fields of a row, each behind a space.
-ghost use Rattle.std.specs.Prelude.{◌∷◌};
-ghost use Rattle.std.specs.Fmt.{signed_decimal};
+ghost use Rattle.std.specs.Prelude.{◌≤◌, length};
 ghost use Rattle.geda_grammar.specs.Rows.{fill_fields, stroke_fields};
 ghost use Rattle.geda_write.specs.steps.Output.{Adds};
 ghost use Rattle.geda_write.specs.steps.Texts.{fields_text, numbers_text};
 
+use crate::numbers::write_numbers;
 use crate::output::Output;
 use geda_model::{Fill, Stroke};
 
-#[tactic(auto, using(crate::proofs::Outputs::more_more))]
-pub(crate) fn put_number<O: Output>(out: &mut O, number: &i32) -> Result<(), O::Fault>
-    ensures { Adds result (O.got out.old) (O.got out.new) (32 ∷ signed_decimal number.now) }
-{
-    if *number < 0 {
-        out.piece(" -")?;
-    } else {
-        out.piece(" ")?;
-    }
-    out.digits(number.unsigned_abs())
-}
+// So many numbers are written at once: those of a text, which has the most. Each takes at most 12
+// bytes: a space, a minus sign and ten digits.
+const MOST_NUMBERS: usize = 9;
 
-#[tactic(auto, using(crate::proofs::Outputs::more_nothing, crate::proofs::Outputs::more_more))]
+const MOST_BYTES: usize = 108;
+
 pub(crate) fn put_numbers<O: Output>(out: &mut O, numbers: &[i32]) -> Result<(), O::Fault>
+    requires { length numbers.now ≤ MOST_NUMBERS }
     ensures { Adds result (O.got out.old) (O.got out.new) (numbers_text numbers.now) }
 {
-    for number in numbers {
-        put_number(out, number)?;
-    }
-    Ok(())
+    let mut bytes = [0; MOST_BYTES];
+    let start = write_numbers(numbers, &mut bytes, MOST_BYTES);
+    out.piece(&bytes[start..])
 }
 
 pub(crate) fn put_stroke<O: Output>(out: &mut O, stroke: &Stroke) -> Result<(), O::Fault>

@@ -8,6 +8,8 @@
 
 mod fields;
 mod laws;
+mod letter;
+mod numbers;
 mod objects;
 mod output;
 mod shapes;
@@ -15,5 +17,6 @@ mod sizes;
 mod texts;
 
 pub use laws::{object_again, sheet_again, symbol_again};
+pub use letter::letter_of_shape;
 pub use sizes::{object_size, symbol_size};
 pub use texts::{head_text, object_text, put_object_text, sheet_text, symbol_text};

@@ -64,7 +64,7 @@ fn put_embedded<O: Output>(out: &mut O, parts: &[Part]) -> Result<(), O::Fault>
 fn put_placement<O: Output>(out: &mut O, component: &Component) -> Result<(), O::Fault>
     ensures { Adds result (O.got out.old) (O.got out.new) (placement_text component.now) }
 {
-    out.piece("C")?;
+    out.piece(b"C")?;
     put_numbers(
         out,
         &[
@@ -87,8 +87,8 @@ fn put_component_line<O: Output>(
         (prefix.now ++ component.now.basename)) }
 {
     put_placement(out, component)?;
-    out.piece(" ")?;
-    out.piece(prefix)?;
+    out.piece(b" ")?;
+    out.piece(prefix.as_bytes())?;
     put_line(out, component.basename.as_str())
 }
 

@@ -1,9 +1,7 @@
 // Where a text goes: a text that grows, or a count of its bytes.
-ghost use Rattle.std.specs.Prelude.{◌≡◌, ◌<◌, ◌-◌, ◌^◌, length};
-ghost use Rattle.std.specs.Fmt.{decimal};
+ghost use Rattle.std.specs.Prelude.{◌≡◌, ◌<◌, ◌-◌, ◌^◌};
 ghost use Rattle.geda_write.specs.steps.Output.{Adds, Got, Spare, Written};
 
-use itoa::Buffer;
 use std::alloc::AllocError;
 use std::convert::Infallible;
 
@@ -13,11 +11,8 @@ pub(crate) trait Output {
     // What has gone out so far.
     ghost got: { Self → Got };
 
-    fn piece(&mut self, piece: &str) -> Result<(), Self::Fault>
+    fn piece(&mut self, piece: &[u8]) -> Result<(), Self::Fault>
         ensures { Adds result (got self.old) (got self.new) piece.now };
-
-    fn digits(&mut self, number: u32) -> Result<(), Self::Fault>
-        ensures { Adds result (got self.old) (got self.new) (decimal number) };
 }
 
 impl Output for Vec<u8> {
@@ -25,15 +20,10 @@ impl Output for Vec<u8> {
 
     ghost got = { λ v. Written v.items };
 
+    #[inline(always)]
     #[tactic(auto, unfolding(crate::specs::steps::Output::more))]
-    fn piece(&mut self, piece: &str) -> Result<(), AllocError> {
-        self.extend_from_slice(piece.as_bytes())?;
-        Ok(())
-    }
-
-    #[tactic(auto, unfolding(crate::specs::steps::Output::more))]
-    fn digits(&mut self, number: u32) -> Result<(), AllocError> {
-        self.extend_from_slice(Buffer::new().format(number).as_bytes())?;
+    fn piece(&mut self, piece: &[u8]) -> Result<(), AllocError> {
+        self.extend_from_slice(piece)?;
         Ok(())
     }
 }
@@ -53,32 +43,14 @@ impl Count {
     }
 }
 
-fn digit_count(number: u32) -> u64
-    ensures { result ≡ length (decimal number) }
-{
-    let mut rest = number;
-    let mut count = 1;
-    while rest >= 10 {
-        rest /= 10;
-        count += 1;
-    }
-    count
-}
-
 impl Output for Count {
     type Fault = Infallible;
 
     ghost got = { λ c. Spare (2 ^ 64 - 1 - c.bytes) };
 
     #[tactic(auto, unfolding(crate::specs::steps::Output::more))]
-    fn piece(&mut self, piece: &str) -> Result<(), Infallible> {
+    fn piece(&mut self, piece: &[u8]) -> Result<(), Infallible> {
         self.bytes = self.bytes.saturating_add(piece.len() as u64);
-        Ok(())
-    }
-
-    #[tactic(auto, unfolding(crate::specs::steps::Output::more))]
-    fn digits(&mut self, number: u32) -> Result<(), Infallible> {
-        self.bytes = self.bytes.saturating_add(digit_count(number));
         Ok(())
     }
 }

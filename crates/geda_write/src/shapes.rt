@@ -1,17 +1,16 @@
 // Shapes: each by its letter, the columns of its line, and the lines that follow it.
 ghost use Rattle.std.specs.Prelude.{◌≡◌, ◌∷◌, ◌++◌, ◌+◌, ◌<◌, [], pos};
 ghost use Rattle.geda_defs.specs.Lines.{ended};
-ghost use Rattle.geda_grammar.specs.Letters.{byte_of};
-ghost use Rattle.geda_grammar.specs.Rows.{letter_of_shape};
 ghost use Rattle.geda_grammar.specs.declared.row.Row.TheVariants.{Drawn};
 ghost use Rattle.geda_model.specs.Limits.{most_lines};
 ghost use Rattle.geda_model.specs.Ranges.{line_feeds};
 ghost use Rattle.geda_model.specs.Shapes.{IsEmbeddedData, ShapeIsInRange};
-ghost use Rattle.geda_write.specs.steps.Columns.{color_fields, extent_fields, following_text, own_fields, place_fields, style_fields, text_own_fields};
+ghost use Rattle.geda_write.specs.steps.Columns.{color_fields, columns_text, extent_fields, following_text, own_fields, place_fields, style_fields, text_fields};
 ghost use Rattle.geda_write.specs.steps.Output.{Adds};
 ghost use Rattle.geda_write.specs.steps.Texts.{data_text, fields_text, row_text, text_text};
 
-use crate::fields::{put_fill, put_number, put_numbers, put_stroke};
+use crate::fields::{put_fill, put_numbers, put_stroke};
+use crate::letter::letter_of_shape;
 use crate::output::Output;
 use geda_model::{Block, Shape, Text, line_feeds};
 
@@ -19,8 +18,8 @@ use geda_model::{Block, Shape, Text, line_feeds};
 pub(crate) fn put_line<O: Output>(out: &mut O, line: &str) -> Result<(), O::Fault>
     ensures { Adds result (O.got out.old) (O.got out.new) (ended line.now) }
 {
-    out.piece(line)?;
-    out.piece("\n")
+    out.piece(line.as_bytes())?;
+    out.piece(b"\n")
 }
 
 fn line_count(content: &str) -> i32
@@ -30,13 +29,15 @@ fn line_count(content: &str) -> i32
     line_feeds(content) as i32 + 1
 }
 
-// The columns of a text that no other shape has.
-fn put_text_own<O: Output>(out: &mut O, text: &Text) -> Result<(), O::Fault>
-    ensures { Adds result (O.got out.old) (O.got out.new) (fields_text (text_own_fields text.now)) }
+fn put_text_numbers<O: Output>(out: &mut O, text: &Text) -> Result<(), O::Fault>
+    ensures { Adds result (O.got out.old) (O.got out.new) (fields_text (text_fields text.now)) }
 {
     put_numbers(
         out,
         &[
+            text.x,
+            text.y,
+            text.color,
             text.size,
             i32::from(text.visible),
             i32::from(text.show),
@@ -50,45 +51,33 @@ fn put_text_own<O: Output>(out: &mut O, text: &Text) -> Result<(), O::Fault>
 pub(crate) fn put_text<O: Output>(out: &mut O, text: &Text) -> Result<(), O::Fault>
     ensures { Adds result (O.got out.old) (O.got out.new) (text_text text.now) }
 {
-    out.piece("T")?;
-    put_numbers(out, &[text.x, text.y, text.color])?;
-    put_text_own(out, text)?;
-    out.piece("\n")?;
+    out.piece(b"T")?;
+    put_text_numbers(out, text)?;
+    out.piece(b"\n")?;
     put_line(out, text.content.as_str())
 }
 
-fn shape_letter(shape: &Shape) -> &'static str
-    ensures { result.now ≡ byte_of (letter_of_shape shape.now) ∷ [] }
-{
-    match shape {
-        Shape::Straight { .. } => "L",
-        Shape::Picture { .. } => "G",
-        Shape::Rect { .. } => "B",
-        Shape::Circle { .. } => "V",
-        Shape::Arc { .. } => "A",
-        Shape::Text(_) => "T",
-        Shape::Net { .. } => "N",
-        Shape::Bus { .. } => "U",
-        Shape::Pin { .. } => "P",
-        Shape::Path { .. } => "H",
-    }
-}
-
-// The point at which it stands, or its two ends.
+// The point at which it stands, or its two ends; all numbers of a net and of a text.
 #[tactic(auto, using(crate::proofs::Outputs::more_nothing))]
 fn put_place<O: Output>(out: &mut O, shape: &Shape) -> Result<(), O::Fault>
     ensures { Adds result (O.got out.old) (O.got out.new) (fields_text (place_fields shape.now)) }
 {
     match shape {
+        Shape::Net {
+            x1,
+            y1,
+            x2,
+            y2,
+            color,
+        } => put_numbers(out, &[*x1, *y1, *x2, *y2, *color]),
         Shape::Straight { x1, y1, x2, y2, .. }
-        | Shape::Net { x1, y1, x2, y2, .. }
         | Shape::Bus { x1, y1, x2, y2, .. }
         | Shape::Pin { x1, y1, x2, y2, .. } => put_numbers(out, &[*x1, *y1, *x2, *y2]),
         Shape::Picture { x, y, .. }
         | Shape::Rect { x, y, .. }
         | Shape::Circle { x, y, .. }
         | Shape::Arc { x, y, .. } => put_numbers(out, &[*x, *y]),
-        Shape::Text(text) => put_numbers(out, &[text.x, text.y]),
+        Shape::Text(text) => put_text_numbers(out, text),
         Shape::Path { .. } => Ok(()),
     }
 }
@@ -102,7 +91,7 @@ fn put_extent<O: Output>(out: &mut O, shape: &Shape) -> Result<(), O::Fault>
         Shape::Picture { width, height, .. } | Shape::Rect { width, height, .. } => {
             put_numbers(out, &[*width, *height])
         }
-        Shape::Circle { radius, .. } => put_number(out, radius),
+        Shape::Circle { radius, .. } => put_numbers(out, &[*radius]),
         Shape::Arc {
             radius,
             start,
@@ -127,12 +116,10 @@ fn put_color<O: Output>(out: &mut O, shape: &Shape) -> Result<(), O::Fault>
         | Shape::Rect { color, .. }
         | Shape::Circle { color, .. }
         | Shape::Arc { color, .. }
-        | Shape::Net { color, .. }
         | Shape::Bus { color, .. }
         | Shape::Pin { color, .. }
-        | Shape::Path { color, .. } => put_number(out, color),
-        Shape::Text(text) => put_number(out, &text.color),
-        Shape::Picture { .. } => Ok(()),
+        | Shape::Path { color, .. } => put_numbers(out, &[*color]),
+        Shape::Picture { .. } | Shape::Text(_) | Shape::Net { .. } => Ok(()),
     }
 }
 
@@ -174,17 +161,34 @@ fn put_own<O: Output>(out: &mut O, shape: &Shape) -> Result<(), O::Fault>
             let flags = [i32::from(*angle), i32::from(*mirrored), i32::from(has_data)];
             put_numbers(out, &flags)
         }
-        Shape::Text(text) => put_text_own(out, text),
-        Shape::Bus { ripper, .. } => put_number(out, &i32::from(*ripper)),
+        Shape::Bus { ripper, .. } => put_numbers(out, &[i32::from(*ripper)]),
         Shape::Pin { bus, whichend, .. } => {
             put_numbers(out, &[i32::from(*bus), i32::from(*whichend)])
         }
-        Shape::Path { content, .. } => put_number(out, &line_count(content.as_str())),
+        Shape::Path { content, .. } => put_numbers(out, &[line_count(content.as_str())]),
         Shape::Straight { .. }
         | Shape::Rect { .. }
         | Shape::Circle { .. }
         | Shape::Arc { .. }
+        | Shape::Text(_)
         | Shape::Net { .. } => Ok(()),
+    }
+}
+
+// The columns behind those of its place.
+#[tactic(auto, using(crate::proofs::Outputs::more_nothing))]
+fn put_columns<O: Output>(out: &mut O, shape: &Shape) -> Result<(), O::Fault>
+    requires { ShapeIsInRange shape.now }
+    ensures { Adds result (O.got out.old) (O.got out.new) (columns_text shape.now) }
+{
+    match shape {
+        Shape::Net { .. } | Shape::Text(_) => Ok(()),
+        _ => {
+            put_extent(out, shape)?;
+            put_color(out, shape)?;
+            put_style(out, shape)?;
+            put_own(out, shape)
+        }
     }
 }
 
@@ -195,7 +199,7 @@ fn put_data<O: Output>(out: &mut O, picture: &Option<Block>) -> Result<(), O::Fa
     match picture {
         None => Ok(()),
         Some(lines) => {
-            out.piece(lines.as_str())?;
+            out.piece(lines.as_str().as_bytes())?;
             put_line(out, ".")
         }
     }
@@ -228,12 +232,9 @@ pub(crate) fn put_shape<O: Output>(out: &mut O, shape: &Shape) -> Result<(), O::
     requires { ShapeIsInRange shape.now }
     ensures { Adds result (O.got out.old) (O.got out.new) (row_text (Drawn shape.now)) }
 {
-    out.piece(shape_letter(shape))?;
+    out.piece(&[letter_of_shape(shape)])?;
     put_place(out, shape)?;
-    put_extent(out, shape)?;
-    put_color(out, shape)?;
-    put_style(out, shape)?;
-    put_own(out, shape)?;
-    out.piece("\n")?;
+    put_columns(out, shape)?;
+    out.piece(b"\n")?;
     put_following(out, shape)
 }

@@ -11,4 +11,5 @@ pub mod SourceLemmas
 pub mod KnownLemmas
 pub mod OrderLemmas
 pub mod ParentLemmas
+pub mod MetLemmas
 pub mod Cases

@@ -10,9 +10,10 @@ ghost use Rattle.hierarchy.specs.SheetTable.{sheet_table};
 ghost use Rattle.hierarchy.specs.steps.SheetRows.{AreLight, IsTableOf, bare_sheet, with_object};
 
 use crate::components::component_of;
+use crate::met_symbols::MetSymbols;
 use crate::places::place_of;
 use crate::table::TableSheet;
-use attr_rules::{has_sources, library_of, parts_of};
+use attr_rules::{has_sources, parts_of};
 use geda_model::{Name, Object};
 use project_model::{Placed, Project};
 use std::alloc::{AllocError, Global};
@@ -21,19 +22,19 @@ impl TableSheet {
     fn add(
         &mut self,
         alloc: Global,
-        project: &Project,
+        met: &mut MetSymbols<'_>,
         names: &[Name],
         id: u32,
         object: &Object,
     ) -> Result<(), AllocError>
-        requires names { names.now ≡ keys project.now.contents.sheets }
+        requires names { names.now ≡ keys met.old.sheets }
         requires rising { IsStrictlySortedBy (slice_cmp nat_cmp) names.now }
         requires light { self.old.weight ≤ 79228162514264337593543950336 }
-        ensures added { OnOk result
-            (self.new ≡ with_object project.now.contents id object.now self.old) }
+        ensures added { OnOk result (self.new ≡ with_object met.old id object.now self.old) }
         ensures light { OnOk result (self.new.weight ≤ self.old.weight + 4294967296) }
+        ensures kept { met.new ≡ met.old }
     {
-        let library = library_of(alloc, project, object)?;
+        let library = met.library_of(alloc, object)?;
         self.weight += 1 + parts_of(object, library).len() as u128;
         if has_sources(object, library) {
             let component = component_of(alloc, names, id, object, library)?;
@@ -45,27 +46,28 @@ impl TableSheet {
 
 fn add_object(
     alloc: Global,
-    project: &Project,
+    met: &mut MetSymbols<'_>,
     names: &[Name],
     table: &mut Vec<TableSheet>,
     id: u32,
     placed: &Placed,
 ) -> Result<(), AllocError>
-    requires names { names.now ≡ keys project.now.contents.sheets }
+    requires names { names.now ≡ keys met.old.sheets }
     requires rising { IsStrictlySortedBy (slice_cmp nat_cmp) names.now }
     requires named { map (λ sheet. sheet.name) table.old.items ≡ names.now }
     requires light { AreLight 18446744073709551616 table.old.items }
     ensures table { OnOk result ((rows : List (ℕ × Placed))
-        → IsTableOf project.now.contents rows table.old.items
-        → IsTableOf project.now.contents (rows ++ (id, placed.now) ∷ []) table.new.items) }
+        → IsTableOf met.old rows table.old.items
+        → IsTableOf met.old (rows ++ (id, placed.now) ∷ []) table.new.items) }
     ensures light { OnOk result ((count : ℕ)
         → AreLight count table.old.items → AreLight (count + 1) table.new.items) }
+    ensures kept { met.new ≡ met.old }
 {
     let name = &placed.sheet;
     match place_of(names, name.as_str()) {
         None => Ok(()),
         Some(place) => {
-            table[place].add(alloc, project, names, id, &placed.object)?;
+            table[place].add(alloc, met, names, id, &placed.object)?;
             Ok(())
         }
     }
@@ -83,8 +85,9 @@ fn add_objects(
     requires empty { table.old.items ≡ map bare_sheet names.now }
     ensures { OnOk result (IsTableOf project.now.contents (map row_now rows.now) table.new.items) }
 {
+    let mut met = MetSymbols::new(alloc, project);
     for row in rows {
-        add_object(alloc, project, names, table, row.0, row.1)?;
+        add_object(alloc, &mut met, names, table, row.0, row.1)?;
     }
     Ok(())
 }

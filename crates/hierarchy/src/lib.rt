@@ -16,6 +16,7 @@ mod fault;
 mod filling;
 mod instances;
 mod lost;
+mod met_symbols;
 mod places;
 mod table;
 mod texts;

@@ -5,7 +5,6 @@ ghost use Rattle.std.specs.Fmt.{decimal};
 ghost use Rattle.geda_defs.specs.Lines.{ended};
 ghost use Rattle.project_model.specs.Tables.{row_now};
 ghost use Rattle.project_model.specs.Projects.{ProjectData, is_on};
-ghost use Rattle.geda_model.specs.declared.object.Body.TheVariants as bodies;
 ghost use Rattle.geda_grammar.specs.Canonical.{sheet_text};
 ghost use Rattle.printed_texts.specs.PrintedTexts.{word};
 ghost use Rattle.instance_objects.specs.SheetIds.{AreIdsBySheet};
@@ -13,8 +12,8 @@ ghost use Rattle.reports.specs.SheetTexts.{object_letter, object_line, objects_o
 ghost use Rattle.reports.specs.SheetTexts.{sheet_line, sheet_under, sheets_text};
 ghost use Rattle.reports.specs.steps.Rows.{row_text};
 
-use geda_model::{Body, Head, Items, Name, Object, Shape};
-use geda_write::{head_text, object_text};
+use geda_model::{Body, Head, Items, Name, Object};
+use geda_write::{head_text, letter_of_shape, object_text};
 use instance_objects::{ids_at, ids_by_sheet};
 use printed_texts::put_word;
 use project_model::{Placed, Project};
@@ -78,23 +77,6 @@ pub fn sheet_text(
     let mut text = head_text(alloc, head)?;
     put_objects(alloc, &mut text, &rows)?;
     Ok(text)
-}
-
-fn letter_of_shape(shape: &Shape) -> u8
-    ensures { result ≡ object_letter (bodies.Shape shape.now) }
-{
-    match shape {
-        Shape::Straight { .. } => b'L',
-        Shape::Picture { .. } => b'G',
-        Shape::Rect { .. } => b'B',
-        Shape::Circle { .. } => b'V',
-        Shape::Arc { .. } => b'A',
-        Shape::Text(_) => b'T',
-        Shape::Net { .. } => b'N',
-        Shape::Bus { .. } => b'U',
-        Shape::Pin { .. } => b'P',
-        Shape::Path { .. } => b'H',
-    }
 }
 
 fn letter_of(body: &Body) -> u8

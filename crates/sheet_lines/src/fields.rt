@@ -37,6 +37,7 @@ fn any_number(rest: &mut Fields) -> Result<i32, LineFault>
 }
 
 /// The next field as a number that is at most so far from 0. It takes no memory.
+#[inline(always)]
 #[tactic(auto, unfolding(crate::specs::steps::Fields::number_at))]
 pub fn number(rest: &mut Fields, most: u32) -> Result<i32, LineFault>
     ensures given { Gives (λ z. (spec.Number z, rest.new)) result
@@ -51,6 +52,7 @@ pub fn number(rest: &mut Fields, most: u32) -> Result<i32, LineFault>
 }
 
 /// The next field as a number from 0 to so many. It takes no memory.
+#[inline(always)]
 #[tactic(auto, unfolding(crate::specs::steps::Fields::number_at))]
 pub fn natural(rest: &mut Fields, most: u32) -> Result<u32, LineFault>
     ensures given { Gives (λ n. (spec.Number (pos n), rest.new)) result
@@ -69,6 +71,7 @@ pub fn natural(rest: &mut Fields, most: u32) -> Result<u32, LineFault>
 }
 
 /// The next field as the number of lines that follow, 1 to 10,000. It takes no memory.
+#[inline(always)]
 #[tactic(auto, unfolding(crate::specs::steps::Fields::number_at))]
 pub fn line_count(rest: &mut Fields) -> Result<u32, LineFault>
     ensures given { Gives (λ n. (spec.Number (pos n), rest.new)) result
@@ -87,6 +90,7 @@ pub fn line_count(rest: &mut Fields) -> Result<u32, LineFault>
 }
 
 /// The next field as 0, 90, 180 or 270. It takes no memory.
+#[inline(always)]
 #[tactic(auto, unfolding(crate::specs::steps::Fields::number_at))]
 pub fn angle(rest: &mut Fields) -> Result<u16, LineFault>
     ensures given { Gives (λ n. (spec.Number (pos n), rest.new)) result
