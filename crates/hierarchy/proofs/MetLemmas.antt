@@ -2,11 +2,9 @@
 use Rattle.std.proofs.Common.{◌≡◌, ◌∙◌, ℕ, Bool, true, false, cond, List, Option, None, Some, Result, Ok, Err, OnOk, OnErr, IfSome, option_copied, Bor, sym, ap, refl}
 use Rattle.std.specs.Str.{bytes_eq}
 use Rattle.std.proofs.lemmas.Slice.Eq.{bytes_eq-Decides}
-use Rattle.geda_model.specs.declared.object.Body.TheVariants as bodies
-use Rattle.geda_model.specs.Shapes.{ComponentData}
-use Rattle.geda_model.specs.Sheets.{ObjectData, SymbolData}
+use Rattle.geda_model.specs.Sheets.{SymbolData}
 use Rattle.project_model.specs.Projects.{ProjectData}
-use Rattle.attr_rules.specs.Libraries.{library_of, symbol_named}
+use Rattle.attr_rules.specs.Libraries.{symbol_named}
 use Rattle.hierarchy.specs.steps.MetSymbols.{AreMet, MeetsSymbol}
 
 same_symbol : (a b : Option SymbolData) → Some a ≡ Some b → a ≡ b
@@ -32,7 +30,3 @@ met_still (Err y) p name symbol old new is puts same are = met_kept p old new sa
 pub met_found : (p : ProjectData) (name : List ℕ) (rows : List ℕ → Option (Option SymbolData)) (found : Option (Bor (Option SymbolData))) → option_copied found ≡ rows name → AreMet p rows → IfSome found (λ met. met.now ≡ symbol_named p name)
 met_found p name rows None e are = tt
 met_found p name rows (Some met) e are = are name met.now (sym e)
-
--- the library symbol of a component is the one of its basename
-pub symbol_of_component : (p : ProjectData) (o : ObjectData) (c : ComponentData) → o.body ≡ bodies.Component c → library_of p o ≡ symbol_named p c.basename
-symbol_of_component p o c body = rw body refl
