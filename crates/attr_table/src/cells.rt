@@ -248,8 +248,8 @@ fn texts_set<'a>(
 ) -> Result<Vec<Text>, AllocError>
     requires places { ArePlaces object.now.attrs firsts }
     requires good { list_all can_be_set cells.now ≡ true }
-    ensures { IfOk result
-        (λ texts. texts.items ≡ texts_set (first_point object.now.body) object.now.attrs cells.now) }
+    ensures { IfOk result (λ texts.
+        texts.items ≡ texts_set (first_point object.now.body) object.now.attrs cells.now) }
 {
     let at = first_point(object);
     let mut texts = copied(alloc, object.attrs.as_slice())?;

@@ -43,22 +43,17 @@ fn next_row<K: Keeper>(
     ensures finds { FindsRow (K.rows keeper.old) desk.now.history result }
 {
     let serial = desk.front();
-    match keeper.load(serial) {
-        Ok(None) => Ok(None),
-        Ok(Some(entry)) => match desk.judge(alloc, &entry) {
-            Ok(Verdict::Accept { change }) => Ok(Some((entry, change))),
-            Ok(Verdict::Repeat { serial: _ }) => {
-                drop(entry);
-                Err(OpenFault::RowRefused { serial })
-            }
-            Ok(Verdict::Refused { fault: _ }) => Err(OpenFault::RowRefused { serial }),
-            Err(_) => {
-                drop(entry);
-                Err(OpenFault::NoMemory)
-            }
-        },
-        Err(KeepFault::Failed) => Err(OpenFault::KeeperFault),
-        Err(KeepFault::NoMemory) => Err(OpenFault::NoMemory),
+    let entry = match keeper.load(serial) {
+        Ok(Some(entry)) => entry,
+        Ok(None) => return Ok(None),
+        Err(KeepFault::Failed) => return Err(OpenFault::KeeperFault),
+        Err(KeepFault::NoMemory) => return Err(OpenFault::NoMemory),
+    };
+    match desk.judge(alloc, &entry) {
+        Ok(Verdict::Accept { change }) => Ok(Some((entry, change))),
+        Ok(Verdict::Repeat { .. }) => Err(OpenFault::RowRefused { serial }),
+        Ok(Verdict::Refused { .. }) => Err(OpenFault::RowRefused { serial }),
+        Err(_) => Err(OpenFault::NoMemory),
     }
 }
 
