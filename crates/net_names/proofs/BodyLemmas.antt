@@ -1,11 +1,11 @@
 -- The bodies and the nets of gathered classes.
-use Rattle.std.proofs.Common.{◌≡◌, ℕ, suc, ◌+◌, ◌<◌, ◌≤◌, ◌==◌, ◌&&◌, not, Bool, true, false, cond, List, [], ◌∷◌, ◌++◌, Some, None, Ordering, length, get_or, map, filter, fold, refl, sym, ap, subst, ◌∙◌, arith}
+use Rattle.std.proofs.Common.{◌≡◌, ℕ, suc, ◌+◌, ◌<◌, ◌≤◌, ◌==◌, ◌&&◌, not, Bool, true, false, cond, List, [], ◌∷◌, ◌++◌, Some, None, Ordering, length, get_or, map, filter, fold, drop, refl, sym, ap, subst, ◌∙◌, arith}
 use Rattle.std.specs.Prelude.{is_some, slice_get, slice_index}
 use Rattle.std.specs.List.{dedup, range_with_len}
 use Rattle.std.specs.Ordering.{eq_by_cmp, match_ordering}
 use Rattle.std.specs.declared.cmp.Ordering.TheVariants.{Less, Equal, Greater}
 use Rattle.std.proofs.lemmas.Bool.{eq-eqb, eqb-true, ne_eqb}
-use Rattle.std.proofs.lemmas.List.{length-map}
+use Rattle.std.proofs.lemmas.List.{drop_more, length-map}
 use Rattle.std.proofs.lemmas.List.Sums.{fold-append}
 use Rattle.geda_defs.specs.Order.{once_in_order}
 use Rattle.rank_order.specs.Chains.{IsWalk}
@@ -15,14 +15,15 @@ use Rattle.rank_order.proofs.RankLemmas.{range_more}
 use Rattle.flat_rows.specs.Conductors.{FlatConductor}
 use Rattle.net_list.specs.declared.member.Member.{Member}
 use Rattle.net_list.specs.declared.nets.Net.{Net}
+use Rattle.net_list.specs.declared.nets.NetSort.{NetSort}
 use Rattle.net_list.specs.declared.nets.NetSort.TheVariants as sorts
 use Rattle.net_names.specs.NetClasses.{ClassPinData, NetClassData, by_member, has_pins, labelled_from, net_class_of}
-use Rattle.net_names.specs.NetLists.{by_name, first_or, is_named, is_unconnected, is_unnamed, named_net}
+use Rattle.net_names.specs.NetLists.{by_name, first_or, is_named, named_net}
 use Rattle.net_names.specs.declared.net_classes.ClassBody.{ClassBody}
 use Rattle.net_names.specs.declared.net_classes.NetClasses.{NetClasses}
 use Rattle.net_names.specs.steps.Orders.{by_member_total}
-use Rattle.net_names.specs.steps.Classes.{IsGathered, body_of, named_of, net_with, news, walk_pins, with_body, with_named}
-use Rattle.net_names.specs.steps.Gathering.{GrowingClassData, IsGrown, empty_class, lesser}
+use Rattle.net_names.specs.steps.Classes.{IsGathered, bodies_of, body_of, is_numbered, named_of, net_with, news, walk_pins, with_named}
+use Rattle.net_names.specs.steps.Gathering.{GrowingClassData, IsGrown, empty_class, is_nameless, lesser}
 use Rattle.net_names.specs.steps.Pins.{label_of, pins_in_order}
 use Rattle.net_names.proofs.GatheringLemmas.{least_first}
 use Rattle.net_names.proofs.PinLemmas.{chain_pins, news_are}
@@ -50,6 +51,12 @@ least_named (name ∷ names) = ap is_some (sym (least_first [] (name ∷ names))
 
 pub named_where : (g : GrowingClassData) (c : NetClassData) → IsGrown g c → is_named c ≡ is_some g.least
 named_where g c h = sym (least_named c.names) ∙ ap is_some (sym h.least)
+
+-- a class is numbered among nets of a sort where what was gathered of it says so
+numbered_where : (sort : NetSort) (g : GrowingClassData) (c : NetClassData) → IsGrown g c → is_numbered sort c ≡ is_nameless sort g
+numbered_where sorts.Named g c h = ap (λ (b : Bool). not b && not c.is_single_pin) (named_where g c h) ∙ ap (λ (b : Bool). not (is_some g.least) && not b) (sym h.is_single_pin)
+numbered_where sorts.Unnamed g c h = ap (λ (b : Bool). not b && not c.is_single_pin) (named_where g c h) ∙ ap (λ (b : Bool). not (is_some g.least) && not b) (sym h.is_single_pin)
+numbered_where sorts.Unconnected g c h = ap (λ (b : Bool). not b && c.is_single_pin) (named_where g c h) ∙ ap (λ (b : Bool). not (is_some g.least) && b) (sym h.is_single_pin)
 
 first_name : (names : List (List ℕ)) (name : List ℕ) → slice_get names 0 ≡ Some name → first_or [] names ≡ name
 first_name [] name e = absurd cc
@@ -153,26 +160,26 @@ module _ (conductors : List FlatConductor) (labels : List ℕ) (same : length la
       by true e b f = rw f refl
       by false e b f = absurd (let at = (filled_where r h).1 e in omega (arith, at, some_pin))
 
-  -- a named class has no body among those without names
-  pub passed_over : (t : NetClassData → Bool) → ((c : NetClassData) → is_named c ≡ true → t c ≡ false) → (r : ℕ) (bodies : List ClassBody) (name : List ℕ) → r < length conductors
-      → (get_or c.growing.items r empty_class).least ≡ Some name → bodies ≡ with_body t bodies (C r)
-  passed_over t nameless r bodies name h least =
-      let named : is_named (C r) ≡ true = named_where (get_or c.growing.items r empty_class) (C r) (are.grown r h) ∙ ap is_some least in
-      rw (nameless (C r) named) refl
+  -- a class without a name is numbered where what was gathered of it says so
+  numbered_here : (sort : NetSort) (r : ℕ) → r < length conductors → is_numbered sort (C r) ≡ is_nameless sort (get_or c.growing.items r empty_class)
+  numbered_here sort r h = numbered_where sort (get_or c.growing.items r empty_class) (C r) (are.grown r h)
 
-  -- a class without a name has a body, by whether it is a single pin
-  pub put_in : (single : Bool) (r : ℕ) → r < length conductors → (get_or c.growing.items r empty_class).least ≡ None → (get_or c.growing.items r empty_class).is_single_pin ≡ single
-      → (is_unnamed (C r) ≡ not single) × (is_unconnected (C r) ≡ single)
-  put_in single r h none is =
-      let unnamed : is_named (C r) ≡ false = named_where (get_or c.growing.items r empty_class) (C r) (are.grown r h) ∙ ap is_some none in
-      let one : (C r).is_single_pin ≡ single = sym (are.grown r h).is_single_pin ∙ is in
-      (rw (unnamed, one) refl, rw (unnamed, one) refl)
+  left_is : (rs : List ℕ) (at r : ℕ) → at < length rs → r ≡ get_or rs at 0 → drop at rs ≡ r ∷ drop (at + 1) rs
+  left_is rs at r inside e = drop_more rs at 0 inside ∙ ap (λ (x : ℕ). x ∷ drop (at + 1) rs) (sym e)
 
-pub with_pushed : (t : NetClassData → Bool) (bodies more : List ClassBody) (c : NetClassData) (body : ClassBody) → t c ≡ true → body ≡ body_of c → more ≡ bodies ++ body ∷ [] → more ≡ with_body t bodies c
-with_pushed t bodies more c body e b pushed = pushed ∙ ap (λ (x : ClassBody). bodies ++ x ∷ []) b ∙ rw e refl
+  -- bodies that are left, after one more label
+  pub left_skip : (sort : NetSort) (rs : List ℕ) (at r : ℕ) → at < length rs → r ≡ get_or rs at 0 → r < length conductors → is_nameless sort (get_or c.growing.items r empty_class) ≡ false
+      → bodies_of conductors labels sort (drop at rs) ≡ bodies_of conductors labels sort (drop (at + 1) rs)
+  left_skip sort rs at r inside e h test =
+      ap (bodies_of conductors labels sort) (left_is rs at r inside e)
+      ∙ ap (λ (b : Bool). map body_of (cond b (C r ∷ filter (is_numbered sort) (map C (drop (at + 1) rs))) (filter (is_numbered sort) (map C (drop (at + 1) rs))))) (numbered_here sort r h ∙ test)
 
-pub with_left : (t : NetClassData → Bool) (bodies : List ClassBody) (c : NetClassData) → t c ≡ false → bodies ≡ with_body t bodies c
-with_left t bodies c e = rw e refl
+  pub left_take : (sort : NetSort) (rs : List ℕ) (at r : ℕ) (body : ClassBody) → at < length rs → r ≡ get_or rs at 0 → r < length conductors → is_nameless sort (get_or c.growing.items r empty_class) ≡ true
+      → body ≡ body_of (C r) → bodies_of conductors labels sort (drop at rs) ≡ body ∷ bodies_of conductors labels sort (drop (at + 1) rs)
+  left_take sort rs at r body inside e h test b =
+      ap (bodies_of conductors labels sort) (left_is rs at r inside e)
+      ∙ ap (λ (b : Bool). map body_of (cond b (C r ∷ filter (is_numbered sort) (map C (drop (at + 1) rs))) (filter (is_numbered sort) (map C (drop (at + 1) rs))))) (numbered_here sort r h ∙ test)
+      ∙ ap (λ (x : ClassBody). x ∷ bodies_of conductors labels sort (drop (at + 1) rs)) (sym b)
 
 -- one label more
 pub named_more : (conductors : List FlatConductor) (labels : List ℕ) (n : ℕ)

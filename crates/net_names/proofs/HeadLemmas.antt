@@ -1,5 +1,5 @@
 -- Heads of texts compare as the texts do, unless they are equal.
-use Rattle.std.proofs.Common.{◌≡◌, ◌⊎◌, ℕ, zero, suc, ◌+◌, ◌*◌, ◌<◌, ◌≤◌, List, [], ◌∷◌, get_or, Ordering, refl, ap, subst, ◌∙◌, arith, inl, inr}
+use Rattle.std.proofs.Common.{◌≡◌, ◌⊎◌, ℕ, zero, suc, ◌+◌, ◌*◌, ◌<◌, ◌≤◌, List, [], ◌∷◌, get_or, drop, Ordering, refl, sym, ap, subst, ◌∙◌, arith, inl, inr}
 use Rattle.std.specs.declared.cmp.Ordering.TheVariants.{Less, Equal, Greater}
 use Rattle.std.specs.Ordering.{nat_cmp, ordering_then, ordering_reverse}
 use Rattle.std.specs.Cmp.{nat_cmp_total, tied_itself}
@@ -92,3 +92,38 @@ pub heads_compare : (n h k : ℕ) (xs ys : List ℕ) → IsTextHead n h xs → I
 heads_compare n h k xs ys p q ne =
     settled (nat_cmp h k) (by_bytes xs ys) (not_equal h k ne)
     (rw (p.is, q.is) (heads_from n 0 xs ys p.bytes q.bytes))
+
+-- ---- heads byte by byte
+
+drop_none : (k : ℕ) → drop {A = ℕ} k [] ≡ []
+drop_none zero = refl
+drop_none (suc k) = refl
+
+step_at : (n h at : ℕ) (xs : List ℕ) → head_from (suc n) h (drop at xs) ≡ head_from n (h * 256 + get_or xs at 0) (drop (at + 1) xs)
+step_at n h zero [] = ap (λ (k : ℕ). head_from n k []) (omega arith)
+step_at n h zero (x ∷ xs) = refl
+step_at n h (suc at) [] = ap (λ (k : ℕ). head_from n k []) (omega arith) ∙ ap (head_from n (h * 256 + 0)) (sym (drop_none (suc at + 1)))
+step_at n h (suc at) (x ∷ xs) =
+    let more : suc at + 1 ≡ suc (at + 1) = omega arith in
+    step_at n h at xs ∙ ap (λ (k : ℕ). head_from n (h * 256 + get_or xs at 0) (drop k (x ∷ xs))) (sym more)
+
+step_to : (n h at next : ℕ) (xs : List ℕ) → next ≡ at + 1 → head_from (suc n) h (drop at xs) ≡ head_from n (h * 256 + get_or xs at 0) (drop next xs)
+step_to n h at next xs e = step_at n h at xs ∙ ap (λ (k : ℕ). head_from n (h * 256 + get_or xs at 0) (drop k xs)) (sym e)
+
+four_to : (n h at : ℕ) (xs : List ℕ)
+    → head_from (suc (suc (suc (suc n)))) h (drop at xs)
+    ≡ head_from n ((((h * 256 + get_or xs at 0) * 256 + get_or xs (at + 1) 0) * 256 + get_or xs (at + 2) 0) * 256 + get_or xs (at + 3) 0) (drop (at + 4) xs)
+four_to n h at xs =
+    step_to (suc (suc (suc n))) h at (at + 1) xs refl
+    ∙ step_to (suc (suc n)) _ (at + 1) (at + 2) xs (omega arith)
+    ∙ step_to (suc n) _ (at + 2) (at + 3) xs (omega arith)
+    ∙ step_to n _ (at + 3) (at + 4) xs (omega arith)
+
+-- four bytes behind a head
+pub four_bytes : (h at a b c d : ℕ) (xs : List ℕ) → a ≡ get_or xs at 0 → b ≡ get_or xs (at + 1) 0 → c ≡ get_or xs (at + 2) 0 → d ≡ get_or xs (at + 3) 0
+    → head_from 4 h (drop at xs) ≡ h * 4294967296 + ((a * 256 + b) * 65536 + (c * 256 + d))
+four_bytes h at a b c d xs e f g i = four_to 0 h at xs ∙ omega (arith, e, f, g, i)
+
+-- eight bytes are four behind four
+pub eight_bytes : (xs : List ℕ) → head_from 8 0 xs ≡ head_from 4 (head_from 4 0 xs) (drop 4 xs)
+eight_bytes xs = four_to 4 0 0 xs ∙ ap (λ (k : ℕ). head_from 4 k (drop 4 xs)) (sym (four_to 0 0 0 xs))

@@ -19,7 +19,7 @@ use Rattle.net_names.specs.NetClasses.{labelled_from, ClassPinData, NetClassData
 use Rattle.net_names.specs.NetLists.{AreCountable, is_named, is_unnamed, is_unconnected, named_net, by_least_pin, is_free, numbered, numbered_nets, nets_by}
 use Rattle.net_names.specs.declared.net_classes.ClassBody.{ClassBody}
 use Rattle.net_names.specs.steps.Orders.{by_net_name}
-use Rattle.net_names.specs.steps.Classes.{bodies_of, body_of, named_of, with_body, with_named}
+use Rattle.net_names.specs.steps.Classes.{bodies_of, body_of, is_numbered, named_of, with_named}
 use Rattle.net_names.specs.steps.Numbering.{taken_names, is_taken, free_below, AreNumbered, numbered_bodies}
 use Rattle.net_names.specs.steps.Pins.{label_of, pins_in_order}
 use Rattle.net_names.proofs.GatheringLemmas.{any_sorts}
@@ -138,15 +138,6 @@ with_nets ks (c ∷ cs) = with_nets (with_named ks c) cs ∙ by (has_pins c) (is
     by true false e = rw e refl
     by false b e = refl
 
--- so are bodies of those that pass
-with_bodies : (t : NetClassData → Bool) (ks : List ClassBody) (cs : List NetClassData) → fold (with_body t) ks cs ≡ ks ++ map body_of (filter t cs)
-with_bodies t ks [] = sym (append-nil ks)
-with_bodies t ks (c ∷ cs) = with_bodies t (with_body t ks c) cs ∙ by (t c)
-  where
-    by : (b : Bool) → cond b (ks ++ body_of c ∷ []) ks ++ map body_of (filter t cs) ≡ ks ++ map body_of (cond b (c ∷ filter t cs) (filter t cs))
-    by true = append_assoc ks (body_of c ∷ []) (map body_of (filter t cs))
-    by false = refl
-
 filter_image : (t : NetClassData → Bool) (f : ℕ → NetClassData) (rs : List ℕ) → filter t (map f rs) ≡ map f (filter (λ r. t (f r)) rs)
 filter_image t f [] = refl
 filter_image t f (r ∷ rs) = by (t (f r)) (filter_image t f rs)
@@ -164,33 +155,31 @@ module _ (conductors : List FlatConductor) (labels : List ℕ) (len : length lab
   classes = net_classes (labelled_from 0 conductors labels) (length conductors)
 
   -- bodies of labels as they are met are those of the classes in order
-  bodies_met : (t : NetClassData → Bool) → bodies_of conductors labels t (met (label_of labels) (pins_in_order conductors)) ≡ map body_of (once_in_order by_least_pin (filter t classes))
-  bodies_met t =
-      ap (λ (ps : List ClassPinData). bodies_of conductors labels t (met (label_of labels) ps)) (ordered_are conductors labels len)
-      ∙ with_bodies t [] (map C (met (label_of labels) once_ordered))
-      ∙ ap (map body_of) (filter_image t C (met (label_of labels) once_ordered) ∙ sym (classes_met conductors labels len t (λ i h. All-get_or (λ label. label < length conductors) labels i 0 h below)))
+  bodies_met : (sort : NetSort) → bodies_of conductors labels sort (met (label_of labels) (pins_in_order conductors)) ≡ map body_of (once_in_order by_least_pin (filter (is_numbered sort) classes))
+  bodies_met sort =
+      ap (λ (ps : List ClassPinData). bodies_of conductors labels sort (met (label_of labels) ps)) (ordered_are conductors labels len)
+      ∙ ap (map body_of) (filter_image (is_numbered sort) C (met (label_of labels) once_ordered) ∙ sym (classes_met conductors labels len (is_numbered sort) (λ i h. All-get_or (λ label. label < length conductors) labels i 0 h below)))
     where
       once_ordered : List ClassPinData
       once_ordered = ordered conductors labels len
 
   -- the nets of conductors: first the named ones, then the unnamed and the unconnected ones
-  pub nets_by_steps : (count : ℕ) (met_labels : List ℕ) (taken taken_alone : List (List ℕ)) (nets_named named nets all : List Net) (unnamed unconnected : List ClassBody)
+  pub nets_by_steps : (count : ℕ) (met_labels : List ℕ) (taken taken_alone : List (List ℕ)) (nets_named named nets all : List Net)
       → count ≡ length conductors → met_labels ≡ met (label_of labels) (pins_in_order conductors)
       → taken ≡ taken_names (codes "unnamed_net") (sorted_names conductors)
       → taken_alone ≡ taken_names (codes "unconnected_pin-") (sorted_names conductors)
       → nets_named ≡ named_of conductors labels (range_with_len 0 count) → named ≡ once_in_order by_net_name nets_named
-      → unnamed ≡ bodies_of conductors labels is_unnamed met_labels → unconnected ≡ bodies_of conductors labels is_unconnected met_labels
-      → AreNumbered (codes "unnamed_net") sorts.Unnamed taken unnamed named nets
-      → AreNumbered (codes "unconnected_pin-") sorts.Unconnected taken_alone unconnected nets all
+      → AreNumbered (codes "unnamed_net") sorts.Unnamed taken (bodies_of conductors labels sorts.Unnamed met_labels) named nets
+      → AreNumbered (codes "unconnected_pin-") sorts.Unconnected taken_alone (bodies_of conductors labels sorts.Unconnected met_labels) nets all
       → all ≡ nets_by conductors labels
-  nets_by_steps count met_labels taken taken_alone nets_named named nets all unnamed unconnected counted m t a n o u v first second =
+  nets_by_steps count met_labels taken taken_alone nets_named named nets all counted m t a n o first second =
       let used = flat_map names_of conductors in
       let sorted : named ≡ once_in_order by_net_name (map named_net (filter is_named classes)) =
       o ∙ ap (once_in_order by_net_name) (n ∙ ap (λ (k : ℕ). named_of conductors labels (range_with_len 0 k)) counted ∙ with_nets [] (map C (range_with_len 0 (length conductors)))) in
-      let bodies_unnamed = u ∙ ap (bodies_of conductors labels is_unnamed) m ∙ bodies_met is_unnamed in
-      let bodies_alone = v ∙ ap (bodies_of conductors labels is_unconnected) m ∙ bodies_met is_unconnected in
-      let with_unnamed = numbers_grow conductors (codes "unnamed_net") sorts.Unnamed taken unnamed (filter is_unnamed classes) named nets t bodies_unnamed first in
-      let with_alone = numbers_grow conductors (codes "unconnected_pin-") sorts.Unconnected taken_alone unconnected (filter is_unconnected classes) nets all a bodies_alone second in
+      let bodies_unnamed = ap (bodies_of conductors labels sorts.Unnamed) m ∙ bodies_met sorts.Unnamed in
+      let bodies_alone = ap (bodies_of conductors labels sorts.Unconnected) m ∙ bodies_met sorts.Unconnected in
+      let with_unnamed = numbers_grow conductors (codes "unnamed_net") sorts.Unnamed taken (bodies_of conductors labels sorts.Unnamed met_labels) (filter is_unnamed classes) named nets t bodies_unnamed first in
+      let with_alone = numbers_grow conductors (codes "unconnected_pin-") sorts.Unconnected taken_alone (bodies_of conductors labels sorts.Unconnected met_labels) (filter is_unconnected classes) nets all a bodies_alone second in
       let alone = numbered_nets (codes "unconnected_pin-") sorts.Unconnected used (filter is_unconnected classes) in
       let middle = numbered_nets (codes "unnamed_net") sorts.Unnamed used (filter is_unnamed classes) in
       with_alone ∙ ap (λ (x : List Net). x ++ alone) (with_unnamed ∙ ap (λ (x : List Net). x ++ middle) sorted)

@@ -9,7 +9,7 @@ use Rattle.std.specs.BTreeSet.{insert_key}
 use Rattle.std.proofs.Math.Bool.{or_assoc, or_comm, or-false}
 use Rattle.std.proofs.lemmas.Bool.{cases_lt, eq-eqb}
 use Rattle.std.proofs.lemmas.Fmt.{decimal_injective}
-use Rattle.std.proofs.lemmas.List.{append_assoc, append_cancel_left}
+use Rattle.std.proofs.lemmas.List.{append-nil, append_assoc, append_cancel_left}
 use Rattle.std.proofs.lemmas.List.Elements.{filter_agree}
 use Rattle.std.proofs.lemmas.Map.Lookups.{exact_bytes}
 use Rattle.std.proofs.lemmas.Map.Text.{is_eq-slice_cmp}
@@ -18,7 +18,7 @@ use Rattle.net_list.specs.declared.nets.NetSort.{NetSort}
 use Rattle.net_names.specs.NetClasses.{NetClassData}
 use Rattle.net_names.specs.NetLists.{is_free, numbered, net_of}
 use Rattle.geda_defs.specs.Order.{by_bytes, is_equal}
-use Rattle.net_names.specs.steps.Numbering.{with_taken, taken_names, is_taken, free_below, AllTaken, TakeSame, IsNextFree, numbered_bodies}
+use Rattle.net_names.specs.steps.Numbering.{with_taken, taken_names, is_taken, free_below, AllTaken, AreNumbered, GoesOn, TakeSame, IsNextFree, numbered_bodies}
 use Rattle.net_names.specs.declared.net_classes.ClassBody.{ClassBody}
 use Rattle.net_names.specs.steps.Classes.{body_of, net_with}
 
@@ -194,12 +194,12 @@ numbered_same prefix sort (n ∷ ns) [] = refl
 numbered_same prefix sort (n ∷ ns) (c ∷ cs) = ap (λ (nets : List Net). net_of (prefix ++ decimal n) sort c ∷ nets) (numbered_same prefix sort ns cs)
 
 -- no bodies make no nets
-pub numbered_none : (prefix : List ℕ) (sort : NetSort) (ns : List ℕ) → numbered_bodies prefix sort ns [] ≡ []
+numbered_none : (prefix : List ℕ) (sort : NetSort) (ns : List ℕ) → numbered_bodies prefix sort ns [] ≡ []
 numbered_none prefix sort [] = refl
 numbered_none prefix sort (n ∷ ns) = refl
 
 -- the nets grow by that of the first body
-pub grows : (prefix : List ℕ) (sort : NetSort) (old taken new : List (List ℕ)) (n r stop : ℕ) (c : ClassBody) (cs left : List ClassBody)
+grows : (prefix : List ℕ) (sort : NetSort) (old taken new : List (List ℕ)) (n r stop : ℕ) (c : ClassBody) (cs left : List ClassBody)
     (net : Net) (nets grown all : List Net) → r < 2 ^ 64 → r < stop → TakeSame prefix old taken n → IsNextFree prefix taken new n r
     → net ≡ net_with (prefix ++ decimal r) sort c → grown ≡ nets ++ net ∷ [] → left ≡ c ∷ cs
     → nets ++ numbered_bodies prefix sort (free_below prefix old n stop) left ≡ all
@@ -212,3 +212,23 @@ grows prefix sort old taken new n r stop c cs left net nets grown all small belo
     ∙ ap (λ (x : List Net). nets ++ x) (sym (numbers_next prefix sort old taken new n r stop c cs small below same next))
     ∙ ap (λ (x : List ClassBody). nets ++ numbered_bodies prefix sort (free_below prefix old n stop) x) (sym rest)
     ∙ whole
+
+-- so numbering goes on
+pub goes_take : (prefix : List ℕ) (sort : NetSort) (old taken new : List (List ℕ)) (n r : ℕ) (body : ClassBody) (bs left all : List ClassBody) (net : Net) (first nets grown : List Net)
+    → r < 2 ^ 64 → TakeSame prefix old taken n → IsNextFree prefix taken new n r
+    → net ≡ net_with (prefix ++ decimal r) sort body → grown ≡ nets ++ net ∷ [] → left ≡ body ∷ bs
+    → GoesOn prefix sort old (length taken) n first nets all left → GoesOn prefix sort old (length new) (r + 1) first grown all bs
+goes_take prefix sort old taken new n r body bs left all net first nets grown small same next made pushed e h = record {
+  room = omega (arith, h.room, next.fewer, ap length e);
+  rest = λ stop enough.
+      let below : r < stop = omega (arith, enough, h.room, next.fewer, ap length e) in
+      grows prefix sort old taken new n r stop body bs left net nets grown (first ++ numbered_bodies prefix sort (free_below prefix old 1 stop) all) small below same next made pushed e (h.rest stop enough);
+}
+
+-- and after all bodies it is done
+pub goes_last : (prefix : List ℕ) (sort : NetSort) (taken : List (List ℕ)) (more next : ℕ) (first nets : List Net) (all : List ClassBody)
+    → GoesOn prefix sort taken more next first nets all [] → AreNumbered prefix sort taken all first nets
+goes_last prefix sort taken more next first nets all h = λ stop enough.
+    sym (append-nil nets)
+    ∙ ap (λ (xs : List Net). nets ++ xs) (sym (numbered_none prefix sort (free_below prefix taken next stop)))
+    ∙ h.rest stop enough

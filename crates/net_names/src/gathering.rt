@@ -1,13 +1,15 @@
 // What is told of each class by its conductors and their names, gathered in one pass over each.
 ghost use Rattle.std.specs.Prelude.{◌≡◌, ◌<◌, All, length, replicate, IfOk, option_copied};
 ghost use Rattle.net_names.specs.NetClasses.{is_drawn_pin};
-ghost use Rattle.net_names.specs.steps.Gathering.{empty_class, grown, keyed_rows, label_at};
-ghost use Rattle.net_names.specs.steps.Gathering.{taken_in, with_drawn, with_global, with_row};
+ghost use Rattle.net_names.specs.steps.Gathering.{empty_class, grown, is_nameless, keyed_rows};
+ghost use Rattle.net_names.specs.steps.Gathering.{label_at, taken_in, with_drawn, with_global};
+ghost use Rattle.net_names.specs.steps.Gathering.{with_row};
 
-use crate::names::{CountedName, lesser};
+use crate::names::{LentName, lesser};
 use flat_rows::FlatRow;
 use geda_geom::Conductor;
 use geda_model::Block;
+use net_list::NetSort;
 use std::alloc::{AllocError, Global};
 use std::marker::Model;
 
@@ -23,7 +25,7 @@ pub struct GrowingClass<'a> {
     /// Whether it has a pin of a no-connection directive.
     pub directive: bool,
     /// The least of its names.
-    pub least: Option<CountedName<'a>>,
+    pub least: Option<LentName<'a>>,
 }
 
 impl<'a> Model for GrowingClass<'a> {
@@ -63,6 +65,19 @@ impl<'a> GrowingClass<'a> {
             global: false,
             directive: false,
             least: None,
+        }
+    }
+
+    /// Whether it has no name, and its net is of this sort.
+    pub fn is_nameless(&self, sort: NetSort) -> bool
+        ensures { result ≡ is_nameless sort self.now }
+    {
+        if self.least.is_some() {
+            return false;
+        }
+        match sort {
+            NetSort::Unconnected => self.is_single_pin,
+            NetSort::Named | NetSort::Unnamed => !self.is_single_pin,
         }
     }
 

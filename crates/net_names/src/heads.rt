@@ -1,6 +1,6 @@
 // The first bytes of texts as numbers, by which most texts are told apart.
-ghost use Rattle.std.specs.Prelude.{◌≡◌, ◌<◌, slice_index_or};
-ghost use Rattle.net_names.specs.steps.Heads.{IsTextHead};
+ghost use Rattle.std.specs.Prelude.{◌≡◌, ◌<◌, ◌≤◌, ◌+◌, ◌*◌, ℕ, drop, slice_index_or};
+ghost use Rattle.net_names.specs.steps.Heads.{IsTextHead, head_from};
 
 use geda_model::Line;
 use std::cmp::Ordering;
@@ -17,26 +17,30 @@ fn byte_at(bytes: &[u8], at: usize) -> u64
     }
 }
 
+/// Four bytes from a place on as one number.
+fn four_at(bytes: &[u8], at: usize) -> u64
+    requires { at ≤ 4 }
+    ensures head { (head : ℕ) → head_from 4 head (drop at bytes.now) ≡ head * 4294967296 + result }
+    ensures small { result < 4294967296 }
+{
+    let first = byte_at(bytes, at) * 256 + byte_at(bytes, at + 1);
+    let second = byte_at(bytes, at + 2) * 256 + byte_at(bytes, at + 3);
+    first * 65_536 + second
+}
+
 /// The first eight bytes of a text as one number.
 fn text_head(text: &str) -> u64
     ensures { IsTextHead 8 result text.now }
 {
     let bytes = text.as_bytes();
-    let first = byte_at(bytes, 0) * 256 + byte_at(bytes, 1);
-    let second = byte_at(bytes, 2) * 256 + byte_at(bytes, 3);
-    let third = byte_at(bytes, 4) * 256 + byte_at(bytes, 5);
-    let fourth = byte_at(bytes, 6) * 256 + byte_at(bytes, 7);
-    ((first * 65_536 + second) * 65_536 + third) * 65_536 + fourth
+    four_at(bytes, 0) * 4_294_967_296 + four_at(bytes, 4)
 }
 
 /// The first four bytes of a text as one number.
 pub fn short_text_head(text: &str) -> u32
     ensures { IsTextHead 4 result text.now }
 {
-    let bytes = text.as_bytes();
-    let first = byte_at(bytes, 0) * 256 + byte_at(bytes, 1);
-    let second = byte_at(bytes, 2) * 256 + byte_at(bytes, 3);
-    (first * 65_536 + second) as u32
+    four_at(text.as_bytes(), 0) as u32
 }
 
 /// A refdes with its first bytes as a number. It is ordered by its bytes.

@@ -34,7 +34,7 @@ fn joined(alloc: Global, flat: FlatRows, groups: &[(Key, Key)]) -> Result<Nets, 
 {
     let labels = class_labels(alloc, &flat, groups)?;
     let ranks = part_ranks(alloc, flat.parts())?;
-    let nets = nets_by(alloc, &flat, &ranks, labels.as_slice())?;
+    let nets = nets_by(alloc, &flat, &ranks, labels)?;
     let packages = packages_of(alloc, flat.into_parts(), &ranks)?;
     Ok(Nets { packages, nets })
 }

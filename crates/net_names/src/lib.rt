@@ -13,7 +13,6 @@ mod joining;
 mod laws;
 mod listing;
 mod named;
-mod nameless;
 mod names;
 mod net_classes;
 mod numbering;

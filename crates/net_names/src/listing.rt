@@ -5,7 +5,6 @@ ghost use Rattle.rank_order.specs.Keys.{AreRanks};
 ghost use Rattle.net_names.specs.NetLists.{AreCountable, nets_by};
 
 use crate::named::{listed, named_nets};
-use crate::nameless::{NamelessClasses, nameless_classes};
 use crate::net_classes::net_classes;
 use crate::numbering::number_classes;
 use crate::taken::taken_names;
@@ -25,25 +24,21 @@ pub fn nets_by(
     alloc: Global,
     flat: &FlatRows,
     ranks: &Ranks,
-    labels: &[usize],
+    labels: Vec<usize>,
 ) -> Result<NetList, AllocError>
-    requires len { length labels.now ≡ length flat.now.conductors }
-    requires labels { All (λ label. label < length flat.now.conductors) labels.now }
+    requires len { length labels.items ≡ length flat.now.conductors }
+    requires labels { All (λ label. label < length flat.now.conductors) labels.items }
     requires ranks { AreRanks by_bytes (map (λ p. p.refdes) flat.now.parts)
         ranks.now.ranks.items ranks.now.count }
-    ensures nets { IfOk result (λ nets. nets ≡ nets_by flat.now.conductors labels.now) }
+    ensures nets { IfOk result (λ nets. nets ≡ nets_by flat.now.conductors labels.items) }
     ensures countable { IfOk result (λ _. AreCountable flat.now.conductors) }
 {
-    let classes = net_classes(alloc, flat, ranks, labels)?;
+    let classes = net_classes(alloc, flat, ranks, &labels)?;
+    drop(labels);
     let made = named_nets(alloc, &classes)?;
     let named = once_in_order(made)?;
-    let NamelessClasses {
-        unnamed,
-        unconnected,
-    } = nameless_classes(alloc, &classes)?;
-    drop(classes);
     let mut nets = listed(alloc, named)?;
-    nets.reserve_exact(unnamed.len().saturating_add(unconnected.len()))?;
+    nets.reserve_exact(classes.met.len())?;
     let global = flat.global_names();
     let drawn = flat.drawn_names();
     // Each of these counts is below 2^63, so that all names can be counted.
@@ -51,22 +46,17 @@ pub fn nets_by(
     let _ = global.len();
     let _ = drawn.len();
     let taken = taken_names(alloc, "unnamed_net", global, drawn)?;
-    number_classes(
-        alloc,
-        &mut nets,
-        "unnamed_net",
-        NetSort::Unnamed,
-        unnamed,
-        taken,
-    )?;
-    let alone = taken_names(alloc, "unconnected_pin-", global, drawn)?;
+    let unnamed = NetSort::Unnamed;
+    number_classes(alloc, &mut nets, "unnamed_net", unnamed, &classes, taken)?;
+    let taken = taken_names(alloc, "unconnected_pin-", global, drawn)?;
+    let unconnected = NetSort::Unconnected;
     number_classes(
         alloc,
         &mut nets,
         "unconnected_pin-",
-        NetSort::Unconnected,
         unconnected,
-        alone,
+        &classes,
+        taken,
     )?;
     Ok(Items::from_vec(nets))
 }

@@ -13,51 +13,51 @@ fn slashes(name: &str) -> usize
     name.as_bytes().iter().filter(|byte| **byte == b'/').count()
 }
 
-/// A name with its count of `/`, so that it is counted once.
+/// A name that is lent.
 #[derive(Debug, Drop)]
-pub struct CountedName<'a> {
+pub struct LentName<'a> {
     /// The name.
     pub text: &'a Block,
-    slashes: usize,
 }
 
-impl<'a> Model for CountedName<'a> {
-    ghost use Rattle.std.specs.Prelude.{◌≡◌, List, ℕ};
-    ghost use Rattle.net_names.specs.NetLists.{slashes as slash_count};
+impl<'a> Model for LentName<'a> {
+    ghost use Rattle.std.specs.Prelude.{List, ℕ};
 
     ghost Value = { List ℕ };
 
     ghost view = { λ n. n.text.now };
-
-    ghost invariant = { λ n. n.slashes ≡ slash_count n.text.now };
 }
 
-fn counted<'a>(text: &'a Block) -> CountedName<'a>
-    ensures { result ≡ text.now }
-{
-    let slashes = slashes(text.as_str());
-    CountedName { text, slashes }
-}
-
-fn compare_names(first: &CountedName<'_>, second: &CountedName<'_>) -> Ordering
+fn compare_names(first: &str, second: &str) -> Ordering
     ensures { result ≡ by_name first.now second.now }
 {
-    let by_slashes = first.slashes.cmp(&second.slashes);
-    by_slashes.then(first.text.as_str().cmp(second.text.as_str()))
+    let by_slashes = slashes(first).cmp(&slashes(second));
+    by_slashes.then(first.cmp(second))
+}
+
+/// The lesser of the least name so far and another one. Those of one net are mostly equal: then
+/// nothing is counted.
+fn lesser_of<'a>(least: &'a Block, name: &'a Block) -> &'a Block
+    ensures { Some result.now ≡ lesser (Some least.now) name.now }
+{
+    if least.as_str() == name.as_str() {
+        return least;
+    }
+    match compare_names(name.as_str(), least.as_str()) {
+        Ordering::Less => name,
+        Ordering::Equal | Ordering::Greater => least,
+    }
 }
 
 /// The lesser of a name and the least so far (docs/RULES.md, "Names of nets"), without memory.
-pub fn lesser<'a>(least: Option<CountedName<'a>>, name: &'a Block) -> CountedName<'a>
+pub fn lesser<'a>(least: Option<LentName<'a>>, name: &'a Block) -> LentName<'a>
     ensures { Some result ≡ lesser least.entry name.now }
 {
-    let name = counted(name);
-    match least {
+    let text = match least {
         None => name,
-        Some(least) => match compare_names(&name, &least) {
-            Ordering::Less => name,
-            Ordering::Equal | Ordering::Greater => least,
-        },
-    }
+        Some(least) => lesser_of(least.text, name),
+    };
+    LentName { text }
 }
 
 /// A name that is ordered by its bytes.

@@ -1,13 +1,14 @@
 // The packages of a list of parts, and the rank of each part among them.
-ghost use Rattle.std.specs.Prelude.{◌≡◌, ◌<◌, None, IfOk, length, map, replicate};
+ghost use Rattle.std.specs.Prelude.{◌≡◌, ◌<◌, None, Some, IfOk, length, map, replicate};
 ghost use Rattle.std.specs.List.{filter_map};
+ghost use Rattle.std.specs.Option.{option_or};
 ghost use Rattle.geda_defs.specs.Order.{by_bytes};
 ghost use Rattle.rank_order.specs.Keys.{AreRanks};
 ghost use Rattle.net_names.specs.Packages.{packages_by};
 ghost use Rattle.net_names.specs.steps.PackageRows.{merged, with_part};
 
 use crate::heads::HeadedRefdes;
-use geda_model::Items;
+use geda_model::{Block, Items};
 use net_list::{Package, Packages};
 use rank_order::{Ranks, ranks_of};
 use std::alloc::{AllocError, Global};
@@ -32,27 +33,21 @@ pub fn part_ranks(alloc: Global, parts: &[Package]) -> Result<Ranks, AllocError>
     Ok(ranks)
 }
 
-/// A part, or what is known of its package, with what the part says of it besides.
-fn merged(known: Option<Package>, part: Package) -> Package
-    ensures { result ≡ merged known part }
+fn put_if_none(slot: &mut Option<Block>, value: Option<Block>)
+    ensures { slot.new ≡ option_or slot.old value }
 {
-    match known {
-        None => part,
-        Some(known) => {
-            let Package {
-                refdes,
-                device,
-                value,
-                footprint,
-            } = known;
-            Package {
-                refdes,
-                device: device.or(part.device),
-                value: value.or(part.value),
-                footprint: footprint.or(part.footprint),
-            }
-        }
+    if slot.is_none() {
+        *slot = value;
     }
+}
+
+/// Puts what a part says behind what is known of its package.
+fn merge(known: &mut Package, part: Package)
+    ensures { known.new ≡ merged (Some known.old) part }
+{
+    put_if_none(&mut known.device, part.device);
+    put_if_none(&mut known.value, part.value);
+    put_if_none(&mut known.footprint, part.footprint);
 }
 
 fn no_packages(alloc: Global, count: usize) -> Result<Vec<Option<Package>>, AllocError>
@@ -70,8 +65,10 @@ fn take_part(rows: &mut Vec<Option<Package>>, rank: usize, part: Package)
     requires { rank < length rows.old.items }
     ensures { rows.new.items ≡ with_part rows.old.items rank part }
 {
-    let row = &mut rows[rank];
-    *row = Some(merged(row.take(), part));
+    match &mut rows[rank] {
+        Some(known) => merge(known, part),
+        free => *free = Some(part),
+    }
 }
 
 fn listed(alloc: Global, rows: Vec<Option<Package>>) -> Result<Packages, AllocError>

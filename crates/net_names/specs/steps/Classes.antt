@@ -1,14 +1,15 @@
 -- Steps of the code; no public clause cites them.
 -- Classes by one order of all pins, and by what is told of each.
-use Rattle.std.specs.Prelude.{◌≡◌, ℕ, ◌<◌, ◌++◌, ◌&&◌, All, not, cond, if◌then◌else◌, Bool, true, List, [], ◌∷◌, Option, Some, None, length, map, slice_get, slice_index, slice_index_or}
+use Rattle.std.specs.Prelude.{◌≡◌, ℕ, ◌<◌, ◌++◌, ◌&&◌, All, not, cond, if◌then◌else◌, Bool, true, List, [], ◌∷◌, Option, Some, None, length, map, filter, slice_get, slice_index, slice_index_or}
 use Rattle.std.specs.List.{filter_map, fold}
 use Rattle.rank_order.specs.Chains.{AreChains, Rises}
 use Rattle.rank_order.specs.Classes.{met}
 use Rattle.flat_rows.specs.Conductors.{FlatConductor}
 use Rattle.net_list.specs.declared.nets.Net.{Net}
 use Rattle.net_list.specs.declared.nets.NetSort.{NetSort}
+use Rattle.net_list.specs.declared.nets.NetSort.TheVariants as sorts
 use Rattle.net_names.specs.NetClasses.{ClassPinData, NetClassData, has_pins, labelled_from, net_class_of}
-use Rattle.net_names.specs.NetLists.{is_named, named_net}
+use Rattle.net_names.specs.NetLists.{is_named, is_unconnected, is_unnamed, named_net}
 use Rattle.net_names.specs.declared.net_classes.ClassBody.{ClassBody}
 use Rattle.net_names.specs.declared.net_classes.NetClasses.{NetClasses}
 use Rattle.net_names.specs.declared.net_classes.OrderedPins.{OrderedPins}
@@ -91,15 +92,16 @@ abbrev pub with_named : List Net → NetClassData → List Net
 with_named nets c =
     if has_pins c && is_named c then nets ++ named_net c ∷ [] else nets
 
--- bodies, with that of one more class if it passes
-abbrev pub with_body : (NetClassData → Bool) → List ClassBody → NetClassData → List ClassBody
-with_body test bodies c = if test c then bodies ++ body_of c ∷ [] else bodies
+-- the classes without a name whose nets are of a sort
+abbrev pub is_numbered : NetSort → NetClassData → Bool
+is_numbered sorts.Unconnected = is_unconnected
+is_numbered other = is_unnamed
 
--- the bodies of the classes of labels that pass
-abbrev pub bodies_of :
-    List FlatConductor → List ℕ → (NetClassData → Bool) → List ℕ → List ClassBody
-bodies_of conductors labels test rs =
-    fold (with_body test) [] (map (net_class_of (labelled_from 0 conductors labels)) rs)
+-- the bodies of those of the classes of labels
+abbrev pub bodies_of : List FlatConductor → List ℕ → NetSort → List ℕ → List ClassBody
+bodies_of conductors labels sort rs =
+    map body_of (filter (is_numbered sort)
+    (map (net_class_of (labelled_from 0 conductors labels)) rs))
 
 -- the named nets of the classes of labels that have members
 abbrev pub named_of : List FlatConductor → List ℕ → List ℕ → List Net

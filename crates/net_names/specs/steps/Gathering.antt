@@ -1,10 +1,12 @@
 -- Steps of the code; no public clause cites them.
 -- What is told of the class of each label, taken in one by one.
-use Rattle.std.specs.Prelude.{◌≡◌, ℕ, ◌<◌, ◌&&◌, ◌||◌, Bool, true, false, List, [], ◌∷◌, Option, Some, None, length, replicate, slice_get, slice_index, slice_index_or, slice_set}
+use Rattle.std.specs.Prelude.{◌≡◌, ℕ, ◌<◌, ◌&&◌, ◌||◌, not, Bool, true, false, List, [], ◌∷◌, Option, Some, None, is_some, length, replicate, slice_get, slice_index, slice_index_or, slice_set}
 use Rattle.std.specs.Ordering.{match_ordering}
 use Rattle.geda_defs.specs.Order.{once_in_order}
 use Rattle.flat_rows.specs.Keyed.{Keyed, keyed_from}
 use Rattle.flat_rows.specs.declared.rows.FlatRow.{FlatRow}
+use Rattle.net_list.specs.declared.nets.NetSort.{NetSort}
+use Rattle.net_list.specs.declared.nets.NetSort.TheVariants as sorts
 use Rattle.net_names.specs.NetClasses.{NetClassData, is_drawn_pin}
 use Rattle.net_names.specs.NetLists.{by_name}
 
@@ -96,6 +98,15 @@ grown rows globals drawns labels =
     let of_rows = taken_in (label_at labels) with_row empty (keyed_rows 0 rows) in
     let of_globals = taken_in (label_at labels) with_global of_rows globals in
     taken_in (label_at labels) with_drawn of_globals drawns
+
+-- a single drawn pin is unconnected; whatever else has no name is unnamed
+abbrev pub is_of_sort : NetSort → Bool → Bool
+is_of_sort sorts.Unconnected single = single
+is_of_sort other single = not single
+
+-- it has no name, and its net is of this sort
+abbrev pub is_nameless : NetSort → GrowingClassData → Bool
+is_nameless sort g = not (is_some g.least) && is_of_sort sort g.is_single_pin
 
 -- what was gathered of a class is what its net needs
 pub record IsGrown (g : GrowingClassData) (c : NetClassData) : Type 0 where

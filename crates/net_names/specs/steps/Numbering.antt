@@ -60,3 +60,12 @@ abbrev pub AreNumbered :
 AreNumbered prefix sort taken bodies old new =
     (stop : ℕ) → length taken + length bodies < stop
     → new ≡ old ++ numbered_bodies prefix sort (free_below prefix taken 1 stop) bodies
+
+-- nets while bodies are numbered: those that are left take free numbers from the next one on, which
+-- so many names may take, and come to the same nets as all bodies behind the first nets
+pub record GoesOn (prefix : List ℕ) (sort : NetSort) (taken : List (List ℕ)) (more next : ℕ)
+    (first nets : List Net) (all left : List ClassBody) : Type 0 where
+  pub room : next + more + length left ≤ 1 + length taken + length all
+  pub rest : (stop : ℕ) → length taken + length all < stop
+      → nets ++ numbered_bodies prefix sort (free_below prefix taken next stop) left
+      ≡ first ++ numbered_bodies prefix sort (free_below prefix taken 1 stop) all

@@ -5,4 +5,4 @@ use Rattle.net_names.proofs.joining.joined.Goals as goal
 
 pub nets_by-requires-clause-labels : goal.nets_by-requires-clause-labels
 nets_by-requires-clause-labels c =
-    rw c.as_slice.ensures.value (labels_all (length c.args.flat.conductors) c.in_ok-labels.labels.items (λ i h. label_inside _ _ c.in_ok-labels.labels.items c.in_ok-labels.ensures i h))
+    labels_all (length c.args.flat.conductors) c.in_ok-labels.labels.items (λ i h. label_inside _ _ c.in_ok-labels.labels.items c.in_ok-labels.ensures i h)

@@ -22,7 +22,7 @@ loop-alloc-preserved c =
     let fewer = length-remove_key (is_at (by_bytes text)) taken hit in
     let small : number < 2 ^ 64 = omega (arith, kept.fewer, c.requires) in
     record {
-      name = c.in_ok-name-2.ensures;
+      name = c.in_ok-name-3.ensures;
       above = omega (arith, kept.above);
       skipped = one_more prefix first taken from number small kept.skipped kept.same hit;
       same = subst (λ (keys : List (List ℕ)). TakeSame prefix first keys (number + 1)) (sym left) (take_same prefix first taken number small kept.same);

@@ -1,15 +1,15 @@
-use Rattle.std.proofs.Common.{◌≡◌, ◌++◌, ◌+◌, ◌<◌, ◌≤◌, ◌^◌, length}
-use Rattle.std.specs.Vec.Iter.{into_iter_items, into_iter_len}
-use Rattle.net_names.specs.steps.Numbering.{TakeSame, free_below, numbered_bodies}
+use Rattle.std.proofs.Common.{◌+◌, ◌<◌, ◌≤◌, ◌^◌, ℕ, List, drop, length}
+use Rattle.flat_rows.specs.Conductors.{FlatConductor}
+use Rattle.net_names.specs.steps.Classes.{IsGathered, bodies_of}
+use Rattle.net_names.specs.steps.Numbering.{GoesOn, TakeSame}
 use Rattle.net_names.proofs.numbering.number_classes.Given as goal
 
-abbrev pub invariant-loop-class : goal.invariant-loop-class
-invariant-loop-class l = record {
-  len : into_iter_len l.class-iterator ≡ length (into_iter_items l.class-iterator);
-  small : 1 + length l.fn.taken.keys + length l.fn.classes.items < 2 ^ 64;
-  room : l.next + length l.taken.keys + length (into_iter_items l.class-iterator) ≤ 1 + length l.fn.taken.keys + length l.fn.classes.items;
+abbrev pub invariant-loop-at : goal.invariant-loop-at
+invariant-loop-at l = record {
+  small : 1 + length l.fn.taken.keys + length l.classes.met.items < 2 ^ 64;
+  count : l.next + length l.taken.keys ≤ 1 + length l.fn.taken.keys + l.at;
   same : TakeSame l.prefix l.fn.taken.keys l.taken.keys l.next;
-  rest : (stop : _) → length l.fn.taken.keys + length l.fn.classes.items < stop
-      → l.nets.items ++ numbered_bodies l.prefix l.sort (free_below l.prefix l.fn.taken.keys l.next stop) (into_iter_items l.class-iterator)
-      ≡ l.fn.nets.items ++ numbered_bodies l.prefix l.sort (free_below l.prefix l.fn.taken.keys 1 stop) l.fn.classes.items;
+  rest : (conductors : List FlatConductor) (labels : List ℕ) → IsGathered conductors labels l.classes
+      → GoesOn l.prefix l.sort l.fn.taken.keys (length l.taken.keys) l.next l.fn.nets.items l.nets.items
+      (bodies_of conductors labels l.sort l.classes.met.items) (bodies_of conductors labels l.sort (drop l.at l.classes.met.items));
 }

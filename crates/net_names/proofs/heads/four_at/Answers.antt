@@ -1,0 +1,6 @@
+use Rattle.net_names.proofs.HeadLemmas.{four_bytes}
+use Rattle.net_names.proofs.heads.four_at.Goals as goal
+
+pub returns-clause-head : goal.returns-clause-head
+returns-clause-head c = λ head.
+    four_bytes head c.args.at _ _ _ _ c.args.bytes.now c.byte_at.ensures.byte c.byte_at-2.ensures.byte c.byte_at-3.ensures.byte c.byte_at-4.ensures.byte
