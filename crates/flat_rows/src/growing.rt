@@ -34,8 +34,8 @@ impl Model for GrowingRows {
 }
 
 impl GrowingRows {
-    /// Nothing, with room for a listed part, three drawn conductors and a hidden pin of each of this
-    /// many objects.
+    /// Nothing, with room for a listed part, three drawn conductors and a hidden pin of each of
+    /// this many objects.
     pub fn with_room(alloc: Global, objects: usize) -> Result<GrowingRows, AllocError>
         ensures parts { IfOk result (λ g. g.parts ≡ []) }
         ensures drawn { IfOk result (λ g. g.drawn ≡ []) }
@@ -91,8 +91,8 @@ impl GrowingRows {
         Ok(())
     }
 
-    /// Puts a drawn conductor with global names alone behind the others. On want of memory all drawn
-    /// ones are gone.
+    /// Puts a drawn conductor with global names alone behind the others. On want of memory all
+    /// drawn ones are gone.
     pub fn push_named(
         &mut self,
         row: FlatRow,
