@@ -3,7 +3,7 @@ ghost use Rattle.std.specs.Prelude.{◌≡◌};
 ghost use Rattle.geda_model.specs.Limits.{most_objects};
 ghost use Rattle.geda_text.specs.Lines.{fields_of, first_field};
 ghost use Rattle.geda_grammar.specs.Letters.{is_attribute, is_object, is_version};
-ghost use Rattle.geda_read.specs.steps.Levels.{count_of};
+ghost use Rattle.geda_read.specs.steps.Levels.{mode_of};
 ghost use Rattle.geda_read.specs.steps.Files.{admits_by};
 ghost use Rattle.sheet_lines.specs.Pending.{pending_of};
 ghost use Rattle.geda_read.specs.steps.Rows.{is_symbol_file};
@@ -13,7 +13,8 @@ use crate::objects::OpenObjects;
 use crate::parts::OpenParts;
 use crate::place::OpenSheet;
 use crate::rows::{FileMode, OpenRows};
-use geda_grammar::{Letter, Mode, ReadKind};
+use crate::tail::Tail;
+use geda_grammar::{Letter, ReadKind};
 use geda_model::MOST_OBJECTS;
 use geda_text::{fields, text_of};
 use sheet_lines::Pending;
@@ -37,24 +38,15 @@ pub struct Expected {
     pub close_symbol: bool,
 }
 
-fn count<B: Drop>(mode: &Mode<B>) -> usize
-    ensures { result ≡ count_of mode.now }
+fn level_expects(tail: Tail, room: bool) -> Expected
+    ensures { result ≡ level_expects (mode_of tail) room }
 {
-    match mode {
-        Mode::Settled => 0,
-        _ => 1,
-    }
-}
-
-fn level_expects<B: Drop>(mode: &Mode<B>, room: bool) -> Expected
-    ensures { result ≡ level_expects mode.now room }
-{
-    let in_block = matches!(mode, Mode::Block(_, _));
+    let in_block = tail.is_open();
     Expected {
         full: !in_block && !room,
         shape: !in_block && room,
         text: in_block || room,
-        open_block: matches!(mode, Mode::Last(_)),
+        open_block: tail.is_bare(),
         close_block: in_block,
         open_symbol: false,
         close_symbol: false,
@@ -65,16 +57,16 @@ fn objects_expect(objects: &OpenObjects, most: usize) -> Expected
     ensures { result ≡ level_expects objects.now.mode
         (has_room most objects.now.kept objects.now.mode) }
 {
-    let room = objects.kept.as_slice().len() + count(&objects.mode) < most;
-    level_expects(&objects.mode, room)
+    let room = objects.items.as_slice().len() < most;
+    level_expects(objects.tail, room)
 }
 
 fn parts_expect(parts: &OpenParts) -> Expected
     ensures { result ≡ level_expects parts.now.mode
         (has_room most_objects parts.now.kept parts.now.mode) }
 {
-    let room = parts.kept.as_slice().len() + count(&parts.mode) < MOST_OBJECTS;
-    level_expects(&parts.mode, room)
+    let room = parts.items.as_slice().len() < MOST_OBJECTS;
+    level_expects(parts.tail, room)
 }
 
 fn sheet_expects(sheet: &OpenSheet, most: usize) -> Expected

@@ -15,6 +15,7 @@ mod place;
 mod reading;
 mod refusal;
 mod rows;
+mod tail;
 mod version;
 
 pub use fault::ReadFault;

@@ -1,6 +1,6 @@
-// The objects of a sheet that is being read. What moves a whole object is inlined, since LLVM then
-// moves it once.
-ghost use Rattle.std.specs.Prelude.{◌≡◌, ◌<◌, ◌≤◌, [], OnOk, length};
+// The objects of a sheet that is being read. Each stands in their list at once, and a block's texts
+// go to the last one there. What moves a whole object is inlined, since LLVM then moves it once.
+ghost use Rattle.std.specs.Prelude.{◌≡◌, ◌<◌, ◌≤◌, [], OnOk, Some, length};
 ghost use Rattle.geda_model.specs.Limits.{most_objects};
 ghost use Rattle.geda_model.specs.Shapes.{ShapeIsInRange};
 ghost use Rattle.geda_model.specs.Sheets.{BodyIsInRange};
@@ -12,73 +12,75 @@ ghost use Rattle.sheet_lines.specs.SheetLines.{RowIsInRange};
 ghost use Rattle.geda_read.specs.steps.Levels.{Takes};
 
 use crate::refusal::Refusal;
-use geda_grammar::{Mode, Row};
+use crate::tail::Tail;
+use geda_grammar::Row;
 use geda_model::{Body, Object, Objects, Shape, Texts};
 use std::alloc::Global;
 use std::marker::Model;
-use std::mem;
 
-/// The objects before the last one, and the last one where a block may come for it.
+/// The objects that are there, and how far the last one is.
 #[derive(Drop)]
 pub struct OpenObjects {
-    pub kept: Objects,
-    pub mode: Mode<Body>,
+    pub items: Objects,
+    pub tail: Tail,
 }
 
 impl Model for OpenObjects {
     ghost use Rattle.geda_grammar.specs.steps.Levels.{Level};
     ghost use Rattle.geda_model.specs.Sheets.{ObjectData};
     ghost use Rattle.geda_model.specs.declared.object.Body.{Body};
-    ghost use Rattle.geda_read.specs.steps.Levels.{ObjectsStand};
+    ghost use Rattle.geda_read.specs.steps.Levels.{ObjectsStand, objects_level};
 
     ghost Value = { Level ObjectData Body };
 
-    ghost view = { λ l. record { kept = l.kept; mode = l.mode } };
+    ghost view = { λ l. objects_level l.items l.tail };
 
-    ghost invariant = { λ l. ObjectsStand l.kept l.mode };
+    ghost invariant = { λ l. ObjectsStand l.items l.tail };
 }
 
 impl OpenObjects {
     /// No object. It takes no memory.
+    #[tactic(auto, unfolding(crate::specs::steps::Levels::level_of))]
     pub fn new(alloc: Global) -> OpenObjects
         ensures { result ≡ record { kept = []; mode = modes.Settled } }
     {
         OpenObjects {
-            kept: Objects::new(alloc),
-            mode: Mode::Settled,
+            items: Objects::new(alloc),
+            tail: Tail::Done,
         }
     }
 
-    /// Puts the last object behind the others, where one more has room and no block is open.
+    /// Ends the last object, where one more has room and no block is open.
     #[inline(always)]
-    pub fn settle(&mut self, alloc: Global, most: usize) -> Result<(), Refusal>
+    pub fn settle(&mut self, most: usize) -> Result<(), Refusal>
         requires { most ≤ most_objects }
         ensures taken { Takes (λ _. self.new.kept) result
             (levels.room make_object most self.old.kept self.old.mode) }
         ensures few { OnOk result (length self.new.kept < most_objects) }
+        ensures settled { OnOk result (self.new.mode ≡ modes.Settled) }
     {
-        match mem::replace(&mut self.mode, Mode::Settled) {
-            Mode::Settled => {}
-            Mode::Last(body) => {
-                let attrs = Texts::new(alloc);
-                self.kept.push(Object { body, attrs })?;
-            }
-            Mode::Block(_, _) => return Err(Refusal::Stray),
+        if self.tail.is_open() {
+            return Err(Refusal::Stray);
         }
-        if self.kept.as_slice().len() >= most {
+        self.tail = Tail::Done;
+        if self.items.as_slice().len() >= most {
             return Err(Refusal::Stray);
         }
         Ok(())
     }
 
-    /// Begins the last object, for which a block may come, behind those that are kept.
+    /// Puts an object, for which a block may come, behind the others.
     #[inline(always)]
-    pub fn begin(&mut self, body: Body)
+    pub fn add(&mut self, alloc: Global, body: Body) -> Result<(), Refusal>
+        requires settled { self.old.mode ≡ modes.Settled }
         requires few { length self.old.kept < most_objects }
         requires range { BodyIsInRange body }
-        ensures { self.new ≡ levels.begun body self.old.kept }
+        ensures { Takes (λ _. self.new) result (Some (levels.begun body self.old.kept)) }
     {
-        self.mode = Mode::Last(body);
+        let attrs = Texts::new(alloc);
+        self.items.push(Object { body, attrs })?;
+        self.tail = Tail::Bare;
+        Ok(())
     }
 
     /// Takes one object more, for which a block may come.
@@ -89,8 +91,8 @@ impl OpenObjects {
         ensures { Takes (λ _. self.new) result
             (levels.push make_object most body self.old.kept self.old.mode) }
     {
-        self.settle(alloc, most)?;
-        self.begin(body);
+        self.settle(most)?;
+        self.add(alloc, body)?;
         Ok(())
     }
 
@@ -100,39 +102,35 @@ impl OpenObjects {
         ensures { Takes (λ _. self.new) result
             (levels.put make_object bodies.Shape most shape self.old.kept self.old.mode) }
     {
-        if let Mode::Block(_, texts) = &mut self.mode {
+        if self.tail.is_open() {
             let Shape::Text(text) = shape else {
                 return Err(Refusal::Stray);
             };
-            texts.push(text)?;
+            self.items.attach(text)?;
             return Ok(());
         }
         self.push(alloc, most, Body::Shape(shape))
     }
 
-    fn open_block(&mut self, alloc: Global) -> Result<(), Refusal>
+    fn open_block(&mut self) -> Result<(), Refusal>
         ensures { Takes (λ _. self.new) result (levels.open_block self.old.kept self.old.mode) }
     {
-        match mem::replace(&mut self.mode, Mode::Settled) {
-            Mode::Last(body) => {
-                self.mode = Mode::Block(body, Texts::new(alloc));
-                Ok(())
-            }
-            _ => Err(Refusal::Stray),
+        if !self.tail.is_bare() {
+            return Err(Refusal::Stray);
         }
+        self.tail = Tail::Open;
+        Ok(())
     }
 
     fn close_block(&mut self) -> Result<(), Refusal>
         ensures { Takes (λ _. self.new) result
             (levels.close_block make_object self.old.kept self.old.mode) }
     {
-        match mem::replace(&mut self.mode, Mode::Settled) {
-            Mode::Block(body, attrs) => {
-                self.kept.push(Object { body, attrs })?;
-                Ok(())
-            }
-            _ => Err(Refusal::Stray),
+        if !self.tail.is_open() {
+            return Err(Refusal::Stray);
         }
+        self.tail = Tail::Done;
+        Ok(())
     }
 
     /// Takes a row that is no component's.
@@ -144,25 +142,21 @@ impl OpenObjects {
     {
         match row {
             Row::Drawn(shape) => self.put(alloc, most, shape),
-            Row::OpenBlock => self.open_block(alloc),
+            Row::OpenBlock => self.open_block(),
             Row::CloseBlock => self.close_block(),
             _ => Err(Refusal::Stray),
         }
     }
 
     /// All objects, where no block is open.
-    pub fn close(self, alloc: Global) -> Result<Objects, Refusal>
+    pub fn close(self) -> Result<Objects, Refusal>
         ensures { Takes (λ v. v) result (levels.closed make_object self.kept self.mode) }
     {
-        let OpenObjects { mut kept, mode } = self;
-        match mode {
-            Mode::Settled => Ok(kept),
-            Mode::Last(body) => {
-                let attrs = Texts::new(alloc);
-                kept.push(Object { body, attrs })?;
-                Ok(kept)
-            }
-            Mode::Block(_, _) => Err(Refusal::Stray),
+        let OpenObjects { items, tail } = self;
+        if tail.is_open() {
+            drop(items);
+            return Err(Refusal::Stray);
         }
+        Ok(items)
     }
 }

@@ -1,5 +1,5 @@
 // The objects of a sheet, and the embedded symbol that is open among them.
-ghost use Rattle.std.specs.Prelude.{◌≡◌, ◌≢◌, ◌≤◌, []};
+ghost use Rattle.std.specs.Prelude.{◌≡◌, ◌≢◌, ◌≤◌, [], IfOk};
 ghost use Rattle.geda_model.specs.Limits.{most_objects};
 ghost use Rattle.geda_grammar.specs.declared.mode.Mode.TheVariants as modes;
 ghost use Rattle.geda_grammar.specs.declared.place.Place.TheVariants as places;
@@ -7,7 +7,7 @@ ghost use Rattle.geda_grammar.specs.declared.row.Row.TheVariants as grammar_rows
 ghost use Rattle.geda_grammar.specs.steps.Sheets.{component_of, object_step, sheet_end, sheet_step};
 ghost use Rattle.sheet_lines.specs.SheetLines.{RowIsInRange};
 ghost use Rattle.geda_read.specs.steps.Levels.{Takes};
-ghost use Rattle.geda_read.specs.steps.Embeddings.{awaiting, close_step, embedding_step};
+ghost use Rattle.geda_read.specs.steps.Embeddings.{IsEndedFor, awaiting, close_step, embedding_step};
 
 use crate::objects::OpenObjects;
 use crate::parts::OpenParts;
@@ -78,8 +78,9 @@ fn take_among(
 ) -> Result<Option<ComponentLine>, Refusal>
     requires most { most ≤ most_objects }
     requires range { RowIsInRange row }
-    ensures { Takes (awaiting objects.new) result
+    ensures taken { Takes (awaiting objects.new) result
         (object_step most objects.old.kept objects.old.mode row) }
+    ensures room { IfOk result (IsEndedFor objects.new) }
 {
     match row {
         Row::Library(line) => {
@@ -88,7 +89,7 @@ fn take_among(
             Ok(None)
         }
         Row::Embedding(line) => {
-            objects.settle(alloc, most)?;
+            objects.settle(most)?;
             Ok(Some(line))
         }
         row => {
@@ -138,9 +139,9 @@ impl OpenSheet {
         let Some(parts) = parts else {
             return Err(Refusal::Stray);
         };
-        let parts = parts.close(alloc)?;
-        self.objects
-            .begin(Body::Component(component(line, Some(parts))));
+        let parts = parts.close()?;
+        let body = Body::Component(component(line, Some(parts)));
+        self.objects.add(alloc, body)?;
         Ok(())
     }
 
@@ -173,7 +174,7 @@ impl OpenSheet {
     }
 
     /// All objects, where no block and no symbol is open.
-    pub fn close(self, alloc: Global) -> Result<Objects, Refusal>
+    pub fn close(self) -> Result<Objects, Refusal>
         ensures { Takes (λ v. v) result (sheet_end self) }
     {
         let OpenSheet { objects, symbol } = self;
@@ -183,6 +184,6 @@ impl OpenSheet {
             return Err(Refusal::Stray);
         }
         drop(symbol);
-        objects.close(alloc)
+        objects.close()
     }
 }

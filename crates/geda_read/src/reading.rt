@@ -64,11 +64,11 @@ fn take_lines(alloc: Global, mode: FileMode, cutter: &mut Cutter) -> Result<Stag
 }
 
 /// What is there of a sheet behind the last line.
-fn end_sheet(alloc: Global, stage: Stage) -> Result<Sheet, LineFault>
+fn end_sheet(stage: Stage) -> Result<Sheet, LineFault>
     ensures { Gives (λ s. s) result (end_sheet (state_of stage)) }
 {
     let (head, rows) = stage.end()?;
-    match rows.objects(alloc) {
+    match rows.objects() {
         Ok(objects) => Ok(Sheet { head, objects }),
         Err(Refusal::NoMemory) => Err(LineFault::NoMemory),
         Err(Refusal::Stray) => Err(LineFault::Refused(ReadKind::CutShort)),
@@ -76,11 +76,11 @@ fn end_sheet(alloc: Global, stage: Stage) -> Result<Sheet, LineFault>
 }
 
 /// What is there of a symbol behind the last line.
-fn end_symbol(alloc: Global, stage: Stage) -> Result<Symbol, LineFault>
+fn end_symbol(stage: Stage) -> Result<Symbol, LineFault>
     ensures { Gives (λ s. s) result (end_symbol (state_of stage)) }
 {
     let (head, rows) = stage.end()?;
-    match rows.parts(alloc) {
+    match rows.parts() {
         Ok(parts) => Ok(Symbol { head, parts }),
         Err(Refusal::NoMemory) => Err(LineFault::NoMemory),
         Err(Refusal::Stray) => Err(LineFault::Refused(ReadKind::CutShort)),
@@ -88,11 +88,11 @@ fn end_symbol(alloc: Global, stage: Stage) -> Result<Symbol, LineFault>
 }
 
 /// What is there of one object behind the last line.
-fn end_object(alloc: Global, stage: Stage) -> Result<Object, LineFault>
+fn end_object(stage: Stage) -> Result<Object, LineFault>
     ensures { Gives (λ o. o) result (end_object (state_of stage)) }
 {
     let (_, rows) = stage.end()?;
-    match rows.object(alloc) {
+    match rows.object() {
         Ok(object) => Ok(object),
         Err(Refusal::NoMemory) => Err(LineFault::NoMemory),
         Err(Refusal::Stray) => Err(LineFault::Refused(ReadKind::CutShort)),
@@ -118,7 +118,7 @@ fn sheet_in(alloc: Global, bytes: &[u8]) -> Result<Sheet, ReadFault>
 {
     let mut cutter = cut(bytes)?;
     let stage = take_lines(alloc, FileMode::Sheet, &mut cutter)?;
-    match end_sheet(alloc, stage) {
+    match end_sheet(stage) {
         Ok(sheet) => Ok(sheet),
         Err(fault) => Err(fault_at(fault, cutter.line() + 1)),
     }
@@ -130,7 +130,7 @@ fn symbol_in(alloc: Global, bytes: &[u8]) -> Result<Symbol, ReadFault>
 {
     let mut cutter = cut(bytes)?;
     let stage = take_lines(alloc, FileMode::Symbol, &mut cutter)?;
-    match end_symbol(alloc, stage) {
+    match end_symbol(stage) {
         Ok(symbol) => Ok(symbol),
         Err(fault) => Err(fault_at(fault, cutter.line() + 1)),
     }
@@ -142,7 +142,7 @@ fn object_in(alloc: Global, bytes: &[u8]) -> Result<Object, ReadFault>
 {
     let mut cutter = cut(bytes)?;
     let stage = take_lines(alloc, FileMode::Object, &mut cutter)?;
-    match end_object(alloc, stage) {
+    match end_object(stage) {
         Ok(object) => Ok(object),
         Err(fault) => Err(fault_at(fault, cutter.line() + 1)),
     }

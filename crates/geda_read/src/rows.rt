@@ -75,11 +75,11 @@ impl OpenRows {
     }
 
     /// The objects of a sheet, where no block and no symbol is open.
-    pub fn objects(self, alloc: Global) -> Result<Objects, Refusal>
+    pub fn objects(self) -> Result<Objects, Refusal>
         ensures { Takes (λ v. v) result (objects_in self) }
     {
         match self {
-            OpenRows::Sheet(sheet) => sheet.close(alloc),
+            OpenRows::Sheet(sheet) => sheet.close(),
             OpenRows::Symbol(parts) => {
                 drop(parts);
                 Err(Refusal::Stray)
@@ -88,11 +88,11 @@ impl OpenRows {
     }
 
     /// The parts of a symbol, where no block is open.
-    pub fn parts(self, alloc: Global) -> Result<Parts, Refusal>
+    pub fn parts(self) -> Result<Parts, Refusal>
         ensures { Takes (λ v. v) result (parts_in self) }
     {
         match self {
-            OpenRows::Symbol(parts) => parts.close(alloc),
+            OpenRows::Symbol(parts) => parts.close(),
             OpenRows::Sheet(sheet) => {
                 drop(sheet);
                 Err(Refusal::Stray)
@@ -102,10 +102,10 @@ impl OpenRows {
 
     /// The one object that is asked for, where it is there alone and no block and no symbol is
     /// open.
-    pub fn object(self, alloc: Global) -> Result<Object, Refusal>
+    pub fn object(self) -> Result<Object, Refusal>
         ensures { Takes (λ v. v) result (one_object self) }
     {
-        let mut objects = self.objects(alloc)?.into_vec();
+        let mut objects = self.objects()?.into_vec();
         match (objects.pop(), objects.is_empty()) {
             (Some(object), true) => Ok(object),
             (others, _) => {

@@ -1,6 +1,6 @@
 -- Steps of the code; no public clause cites them.
 -- A sheet that is being read, with the symbol that is to come or open behind its objects.
-use Rattle.std.specs.Prelude.{◌<◌, [], length, Option, Some, None}
+use Rattle.std.specs.Prelude.{◌≡◌, ◌<◌, [], length, Option, Some, None}
 use Rattle.std.specs.Option.{option_map}
 use Rattle.geda_model.specs.Limits.{most_objects}
 use Rattle.geda_model.specs.Shapes.{PartData}
@@ -26,15 +26,23 @@ place_of objects (Some symbol) = of_parts symbol.parts
     of_parts None = Waiting objects.kept symbol.line
     of_parts (Some parts) = Inside objects.kept symbol.line parts.kept parts.mode
 
--- the component of a symbol has room
+-- there is room for one more, and no block may come for the last one
+abbrev pub IsEnded : Level ObjectData Body → Type 0
+IsEnded objects = (length objects.kept < most_objects) × (objects.mode ≡ Settled)
+
+-- so it is where the component of a symbol is to come
 abbrev pub HasRoomFor : Level ObjectData Body → Option code.OpenSymbol → Type 0
 HasRoomFor objects None = Unit {0}
-HasRoomFor objects (Some symbol) = length objects.kept < most_objects
+HasRoomFor objects (Some symbol) = IsEnded objects
 
 -- the same where no symbol is open
 abbrev pub awaiting : Level ObjectData Body → Option ComponentLineData → Place
 awaiting objects None = Objects objects.kept objects.mode
 awaiting objects (Some line) = Waiting objects.kept line
+
+abbrev pub IsEndedFor : Level ObjectData Body → Option ComponentLineData → Type 0
+IsEndedFor objects None = Unit {0}
+IsEndedFor objects (Some line) = IsEnded objects
 
 -- a row that does not close the symbol
 abbrev pub symbol_with : code.OpenSymbol → Level PartData Shape → code.OpenSymbol
