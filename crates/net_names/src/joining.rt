@@ -25,14 +25,15 @@ use project_model::Project;
 use std::alloc::{AllocError, Global};
 
 /// The net list of what joins in a project, with these groups of touching conductors.
-fn joined(alloc: Global, flat: FlatRows, groups: &[(Key, Key)]) -> Result<Nets, AllocError>
-    requires groups { AreInstanceGroups flat.conductors (groups_by groups.now) }
-    requires rising { IsStrictlySortedBy by_key (keys_of groups.now) }
+fn joined(alloc: Global, flat: FlatRows, groups: Vec<(Key, Key)>) -> Result<Nets, AllocError>
+    requires groups { AreInstanceGroups flat.conductors (groups_by groups.items) }
+    requires rising { IsStrictlySortedBy by_key (keys_of groups.items) }
     ensures packages { IfOk result (λ list. list.packages ≡ packages_by flat.parts) }
     ensures nets { IfOk result (λ list. AreNetsOf flat.conductors list.nets) }
     ensures countable { IfOk result (λ _. AreCountable flat.conductors) }
 {
-    let labels = class_labels(alloc, &flat, groups)?;
+    let labels = class_labels(alloc, &flat, &groups)?;
+    drop(groups);
     let ranks = part_ranks(alloc, flat.parts())?;
     let nets = nets_by(alloc, &flat, &ranks, labels)?;
     let packages = packages_of(alloc, flat.into_parts(), &ranks)?;
@@ -40,13 +41,14 @@ fn joined(alloc: Global, flat: FlatRows, groups: &[(Key, Key)]) -> Result<Nets, 
 }
 
 /// The net list of a project by its objects in the instances of its sheets, with these groups of
-/// touching conductors (docs/RULES.md, "Nets", "Packages", "Names of nets").
+/// touching conductors, which go once it is known what joins (docs/RULES.md, "Nets", "Packages",
+/// "Names of nets").
 pub fn join_objects(
     alloc: Global,
     objects: &InstanceObjects<'_>,
-    groups: &[(Key, Key)],
+    groups: Vec<(Key, Key)>,
 ) -> Result<Nets, AllocError>
-    requires groups { AreGroups (sheet_conductors objects.now) groups.now }
+    requires groups { AreGroups (sheet_conductors objects.now) groups.items }
     ensures { IfOk result (IsNetListOf objects.now) }
 {
     let flat = flatten(alloc, objects)?;
@@ -70,15 +72,15 @@ fn flat_project(
 }
 
 /// The net list of a project with this hierarchy and these groups of touching conductors
-/// (docs/RULES.md, "Nets", "Packages", "Names of nets").
+/// (docs/RULES.md, "Nets", "Packages", "Names of nets"). The groups go once it is known what joins.
 pub fn join(
     alloc: Global,
     project: &Project,
     hierarchy: &Hierarchy,
-    groups: &[(Key, Key)],
+    groups: Vec<(Key, Key)>,
 ) -> Result<Nets, AllocError>
     requires hierarchy { hierarchy.now.instances ≡ instances_of project.now.contents }
-    requires groups { AreGroups (sheet_conductors project.now.contents) groups.now }
+    requires groups { AreGroups (sheet_conductors project.now.contents) groups.items }
     ensures { IfOk result (IsNetListOf project.now.contents) }
 {
     let flat = flat_project(alloc, project, hierarchy)?;

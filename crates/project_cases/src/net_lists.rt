@@ -12,7 +12,7 @@ use std::alloc::Global;
 fn net_list(alloc: Global, project: &Project) -> Result<Nets, CaseFault> {
     let hierarchy = elaborate(alloc, project).map_err(case_fault)?;
     let groups = local_groups(alloc, project)?;
-    Ok(join(alloc, project, &hierarchy, &groups)?)
+    Ok(join(alloc, project, &hierarchy, groups)?)
 }
 
 /// The net list of the project of a sheet.

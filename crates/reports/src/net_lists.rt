@@ -26,7 +26,7 @@ pub fn net_list(alloc: Global, project: &Project) -> Result<Nets, ElabFault>
 {
     let hierarchy = elaborate(alloc, project)?;
     let groups = local_groups(alloc, project)?;
-    Ok(join(alloc, project, &hierarchy, &groups)?)
+    Ok(join(alloc, project, &hierarchy, groups)?)
 }
 
 /// The text of the net list of a project with these groups, in a form.
@@ -34,9 +34,9 @@ fn net_report_by(
     alloc: Global,
     form: Form,
     project: &Project,
-    groups: &[(Key, Key)],
+    groups: Vec<(Key, Key)>,
 ) -> Result<Vec<u8>, ElabFault>
-    requires { AreGroups (sheet_conductors project.now.contents) groups.now }
+    requires { AreGroups (sheet_conductors project.now.contents) groups.items }
     ensures { Elaborates
         (OfNetList ElabFault.TooManyInstances (net_text form) project.now.contents)
         (seen_text result) }
@@ -55,7 +55,7 @@ pub fn net_report(alloc: Global, form: Form, project: &Project) -> Result<Vec<u8
         (seen_text result) }
 {
     let groups = local_groups(alloc, project)?;
-    net_report_by(alloc, form, project, &groups)
+    net_report_by(alloc, form, project, groups)
 }
 
 /// The text of the net list of a board's project in a form, by the groups that the board has.
@@ -65,7 +65,7 @@ pub(crate) fn board_report(alloc: Global, form: Form, board: &Board) -> Result<V
         (seen_text result) }
 {
     let groups = board.local_groups(alloc)?;
-    net_report_by(alloc, form, board.project(), &groups)
+    net_report_by(alloc, form, board.project(), groups)
 }
 
 /// The report of the check of a project with these groups, under a matrix, and the net list that
@@ -74,9 +74,9 @@ fn check_and_nets_by(
     alloc: Global,
     matrix: &Matrix,
     project: &Project,
-    groups: &[(Key, Key)],
+    groups: Vec<(Key, Key)>,
 ) -> Result<(Check, Nets), ElabFault>
-    requires { AreGroups (sheet_conductors project.now.contents) groups.now }
+    requires { AreGroups (sheet_conductors project.now.contents) groups.items }
     ensures { Elaborates
         (OfNetList ElabFault.TooManyInstances
         (λ nets. (checked project.now.contents matrix.now nets, nets))
@@ -94,9 +94,9 @@ fn check_by(
     alloc: Global,
     matrix: &Matrix,
     project: &Project,
-    groups: &[(Key, Key)],
+    groups: Vec<(Key, Key)>,
 ) -> Result<Check, ElabFault>
-    requires { AreGroups (sheet_conductors project.now.contents) groups.now }
+    requires { AreGroups (sheet_conductors project.now.contents) groups.items }
     ensures { Elaborates
         (OfNetList ElabFault.TooManyInstances (checked project.now.contents matrix.now)
         project.now.contents) result }
@@ -120,7 +120,7 @@ pub fn check_and_nets(
         project.now.contents) result }
 {
     let groups = local_groups(alloc, project)?;
-    check_and_nets_by(alloc, matrix, project, &groups)
+    check_and_nets_by(alloc, matrix, project, groups)
 }
 
 /// The report of the check of a project under a matrix (docs/RULES.md, "Findings").
@@ -132,7 +132,7 @@ pub fn check(alloc: Global, matrix: &Matrix, project: &Project) -> Result<Check,
         project.now.contents) result }
 {
     let groups = local_groups(alloc, project)?;
-    check_by(alloc, matrix, project, &groups)
+    check_by(alloc, matrix, project, groups)
 }
 
 /// The report of the check of a board's project under a matrix, by the groups that the board has.
@@ -142,5 +142,5 @@ pub(crate) fn board_check(alloc: Global, matrix: &Matrix, board: &Board) -> Resu
         board.now.project) result }
 {
     let groups = board.local_groups(alloc)?;
-    check_by(alloc, matrix, board.project(), &groups)
+    check_by(alloc, matrix, board.project(), groups)
 }
