@@ -51,9 +51,15 @@ fn next_row<K: Keeper>(
     };
     match desk.judge(alloc, &entry) {
         Ok(Verdict::Accept { change }) => Ok(Some((entry, change))),
-        Ok(Verdict::Repeat { .. }) => Err(OpenFault::RowRefused { serial }),
-        Ok(Verdict::Refused { .. }) => Err(OpenFault::RowRefused { serial }),
-        Err(_) => Err(OpenFault::NoMemory),
+        Ok(Verdict::Repeat { serial: _ }) => {
+            drop(entry);
+            Err(OpenFault::RowRefused { serial })
+        }
+        Ok(Verdict::Refused { fault: _ }) => Err(OpenFault::RowRefused { serial }),
+        Err(_) => {
+            drop(entry);
+            Err(OpenFault::NoMemory)
+        }
     }
 }
 
