@@ -13,7 +13,7 @@ use Rattle.std.proofs.lemmas.List.Sums.{position_or_len_is}
 use Rattle.geda_text.specs.Lines.{digits_of, fields_of, first_field, is_blank, whole_of}
 use Rattle.geda_text.specs.steps.Words.{BeginsWith, BeginsWithDigits, StartsWord}
 use Rattle.geda_text.proofs.CuttingFields.{fields_of-some, fields_of-none}
-use Rattle.geda_text.proofs.Digits.{digit_at}
+use Rattle.geda_text.proofs.Digits.{digit_at, one_digit}
 
 -- a field before a blank
 before_blank : (bs : List ℕ) (end : ℕ) (z : ℤ) → 0 < length bs → StartsWord bs → position is_blank bs ≡ Some end → whole_of (take end bs) ≡ Some z → BeginsWith bs z (drop (end + 1) bs)
@@ -114,3 +114,21 @@ module _ (bytes : List ℕ) (count value : ℕ) (within : count ≤ length bytes
           plain = before_end bytes (pos value) (omega (arith, some, all)) starts (nowhere bytes count at (omega (arith, all))) (ap whole_of (sym whole) ∙ spelled);
           minus = before_end (45 ∷ bytes) (neg_ℤ (pos value)) (omega arith) refl (nowhere (45 ∷ bytes) (suc count) (one_more (position_or_len is_blank bytes) ∙ ap suc at) (omega (arith, all))) (ap (λ (w : List ℕ). whole_of (45 ∷ w)) (sym whole) ∙ negative);
         }
+
+-- one digit alone, and one before a space
+alone : (b digit : ℕ) → is_ascii_digit b ≡ true → digit + 48 ≡ b → BeginsWithDigits (b ∷ []) digit []
+alone b digit is plain =
+    let d = one_digit (b ∷ []) 0 0 (omega arith) (omega arith) is refl (omega arith) in
+    digits_at_end (b ∷ []) 1 digit (omega arith) (omega arith) (omega arith) (rw is refl) (omega (arith, plain, d.low, d.next)) (omega (arith, plain, d.low, d.bound)) refl
+
+spaced : (b digit : ℕ) (bs : List ℕ) → is_ascii_digit b ≡ true → digit + 48 ≡ b → BeginsWithDigits (b ∷ 32 ∷ bs) digit bs
+spaced b digit bs is plain =
+    let d = one_digit (b ∷ 32 ∷ bs) 0 0 (omega arith) (omega arith) is refl (omega arith) in
+    digits_before_blank (b ∷ 32 ∷ bs) 1 digit (omega arith) (omega arith) (omega arith) (rw is refl) (omega (arith, plain, d.low, d.next)) (omega (arith, plain, d.low, d.bound)) (omega arith) refl
+
+pub digit_at_end : (bytes : List ℕ) (b digit : ℕ) (after : List ℕ) → bytes ≡ b ∷ after → length after ≡ 0 → is_ascii_digit b ≡ true → digit + 48 ≡ b → BeginsWithDigits bytes digit []
+digit_at_end bytes b digit [] all none is plain = rw all (alone b digit is plain)
+digit_at_end bytes b digit (c ∷ cs) all none is plain = absurd (omega (arith, none))
+
+pub digit_before_space : (bytes : List ℕ) (b digit : ℕ) (after : List ℕ) (c : ℕ) (others : List ℕ) → bytes ≡ b ∷ after → after ≡ c ∷ others → c ≡ 32 → is_ascii_digit b ≡ true → digit + 48 ≡ b → BeginsWithDigits bytes digit others
+digit_before_space bytes b digit after c others all more space is plain = rw (all, more, space) (spaced b digit others is plain)

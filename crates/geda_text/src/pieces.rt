@@ -58,12 +58,33 @@ fn digit_of(byte: u8) -> Option<u32>
     Some(digit)
 }
 
+/// The number that one digit spells, where it stands first and before a space or the end, and the
+/// bytes behind that space. Most fields are one digit.
+#[inline(always)]
+fn cut_digit(bytes: &[u8]) -> Option<(u32, &[u8])>
+    ensures { IfSome result (λ r. BeginsWithDigits bytes.now r.0 r.1.now) }
+{
+    let (first, after) = bytes.split_first()?;
+    let Some((second, others)) = after.split_first() else {
+        let digit = digit_of(*first)?;
+        return Some((digit, &[]));
+    };
+    if *second != b' ' {
+        return None;
+    }
+    let digit = digit_of(*first)?;
+    Some((digit, others))
+}
+
 /// The number that 1 to 9 digits spell, where they stand first and before a blank or the end, and
 /// the bytes behind that blank.
 #[inline(always)]
 fn cut_digits(bytes: &[u8]) -> Option<(u32, &[u8])>
     ensures { IfSome result (λ r. BeginsWithDigits bytes.now r.0 r.1.now) }
 {
+    if let Some(cut) = cut_digit(bytes) {
+        return Some(cut);
+    }
     let mut value: u32 = 0;
     let mut count = 0;
     while count < bytes.len() {
@@ -138,12 +159,22 @@ impl<'a> Fields<'a> {
 
     /// The same of any next field.
     #[inline(never)]
-    fn next_as_whole(&mut self) -> Option<Option<i32>>
+    fn next_of_any(&mut self) -> Option<Option<i32>>
         ensures given { result ≡ next_whole self.old }
         ensures rest { self.new ≡ other_fields self.old }
     {
         let field = self.next()?;
         Some(whole(field))
+    }
+
+    /// The same, as a function of its own: what calls it fills no room for an answer that it does
+    /// not ask for.
+    #[inline(always)]
+    fn next_as_whole(&mut self) -> Option<Option<i32>>
+        ensures given { result ≡ next_whole self.old }
+        ensures rest { self.new ≡ other_fields self.old }
+    {
+        self.next_of_any()
     }
 
     /// The number that the next field spells, as `whole` reads it. It takes no memory.

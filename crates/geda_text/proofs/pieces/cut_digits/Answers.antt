@@ -10,23 +10,23 @@ pub overflow_mul-value : goal.overflow_mul-value
 overflow_mul-value c =
     let inv = c.loop-count.invariant in
     let few : c.loop-count.count < 9 = omega (arith, inv.4, c.if-count-eq9.false) in
-    let d = one_digit c.args.bytes.now c.loop-count.count c.loop-count.value c.loop-count-test.true few c.in-Some.ensures.0 inv.0 inv.1 in
+    let d = one_digit c.args.bytes.now c.loop-count.count c.loop-count.value c.loop-count-test.true few c.in-Some-digit_of.ensures.0 inv.0 inv.1 in
     omega arith
 
 pub overflow_add-value : goal.overflow_add-value
 overflow_add-value c =
     let inv = c.loop-count.invariant in
     let few : c.loop-count.count < 9 = omega (arith, inv.4, c.if-count-eq9.false) in
-    let d = one_digit c.args.bytes.now c.loop-count.count c.loop-count.value c.loop-count-test.true few c.in-Some.ensures.0 inv.0 inv.1 in
-    omega (arith, c.in-Some.ensures.1)
+    let d = one_digit c.args.bytes.now c.loop-count.count c.loop-count.value c.loop-count-test.true few c.in-Some-digit_of.ensures.0 inv.0 inv.1 in
+    omega (arith, c.in-Some-digit_of.ensures.1)
 
 pub loop-count-preserved : goal.loop-count-preserved
 loop-count-preserved c =
     let inv = c.loop-count.invariant in
     let few : c.loop-count.count < 9 = omega (arith, inv.4, c.if-count-eq9.false) in
-    let digit = c.in-Some.ensures.0 in
+    let digit = c.in-Some-digit_of.ensures.0 in
     let d = one_digit c.args.bytes.now c.loop-count.count c.loop-count.value c.loop-count-test.true few digit inv.0 inv.1 in
-    let plain = c.in-Some.ensures.1 in
+    let plain = c.in-Some-digit_of.ensures.1 in
     (omega (arith, plain, d.low, d.next), omega (arith, plain, d.low, d.bound), rw (list_all_more is_ascii_digit c.args.bytes.now c.loop-count.count 0 c.loop-count-test.true, inv.2, digit) refl, omega (arith, c.loop-count-test.true), omega (arith, few))
 
 pub returns-then-count-bytes : goal.returns-then-count-bytes
