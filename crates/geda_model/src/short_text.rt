@@ -7,18 +7,27 @@ use std::marker::Model;
 use std::str;
 
 /// So many bytes stand in the value: those of most attributes, words and names.
-const MOST_SHORT: usize = 23;
+const MOST_SHORT: usize = 24;
+
+/// Bytes in the value. They are aligned as a `String` is, so that a text moves as five numbers,
+/// wherever its bytes stand.
+#[derive(Clone, Copy, Debug)]
+struct Room {
+    bytes: [u8; 24],
+    /// None: it aligns the bytes.
+    aligned: [u64; 0],
+}
 
 /// Where the bytes of a text stand.
 #[derive(Debug, Drop)]
 enum Place {
     /// In the value: so many of these bytes, from the first on.
-    Here(u8, [u8; 23]),
+    Here(u8, Room),
     /// In memory.
     There(String),
 }
 
-/// Any UTF-8 text. One of at most 23 bytes takes no memory.
+/// Any UTF-8 text. One of at most 24 bytes takes no memory.
 #[derive(Debug, Drop)]
 pub(crate) struct ShortText {
     place: Place,
@@ -39,13 +48,13 @@ impl ShortText {
     /// A short text. It takes no memory.
     #[inline(always)]
     fn here(text: &str) -> ShortText
-        requires { length text.now ≤ 23 }
+        requires { length text.now ≤ 24 }
         ensures { result ≡ text.now }
     {
-        let mut bytes = [0; 23];
+        let mut bytes = [0; 24];
         bytes[..text.len()].copy_from_slice(text.as_bytes());
         ShortText {
-            place: Place::Here(text.len() as u8, bytes),
+            place: Place::Here(text.len() as u8, Room { bytes, aligned: [] }),
         }
     }
 
@@ -81,7 +90,9 @@ impl ShortText {
     {
         match &self.place {
             // The model says that these bytes are UTF-8.
-            Place::Here(len, bytes) => unsafe { str::from_utf8_unchecked(&bytes[..*len as usize]) },
+            Place::Here(len, room) => unsafe {
+                str::from_utf8_unchecked(&room.bytes[..*len as usize])
+            },
             Place::There(text) => text.as_str(),
         }
     }
@@ -94,7 +105,7 @@ impl Clone for ShortText {
 
     fn clone(&self) -> Result<ShortText, AllocError> {
         let place = match &self.place {
-            Place::Here(len, bytes) => Place::Here(*len, *bytes),
+            Place::Here(len, room) => Place::Here(*len, *room),
             Place::There(text) => Place::There(text.clone()?),
         };
         Ok(ShortText { place })

@@ -158,6 +158,18 @@ impl Clone for Text {
     }
 }
 
+/// So many texts find room when a list gets its first one: those of most objects.
+const FIRST_ROOM: usize = 2;
+
+fn make_first_room(list: &mut Vec<Text>) -> Result<(), AllocError>
+    ensures { list.new.items ≡ list.old.items }
+{
+    if list.is_empty() {
+        return list.reserve_exact(FIRST_ROOM);
+    }
+    Ok(())
+}
+
 /// Texts in order, each in its ranges.
 #[derive(Debug, Drop)]
 pub struct Texts {
@@ -194,6 +206,7 @@ impl Texts {
         ensures ok { OnOk result (self.new ≡ self.old ++ text ∷ []) }
         ensures err { OnErr result (self.new ≡ self.old) }
     {
+        make_first_room(&mut self.list)?;
         self.list.push(text)?;
         Ok(())
     }

@@ -7,10 +7,10 @@ use Rattle.geda_model.specs.declared.short_text.Place.TheVariants.{Here, There}
 
 -- the bytes of the text
 abbrev pub bytes_at : Place → List ℕ
-bytes_at (Here len bytes) = take len bytes
+bytes_at (Here len room) = take len room.bytes
 bytes_at (There text) = string_bytes text
 
 -- what stands in the value is UTF-8
 abbrev pub IsPlace : Place → Type 0
-IsPlace (Here len bytes) = (len ≤ 23) × (is_utf8 (take len bytes) ≡ true)
+IsPlace (Here len room) = (len ≤ 24) × (is_utf8 (take len room.bytes) ≡ true)
 IsPlace (There text) = Unit {0}
