@@ -1,6 +1,6 @@
 // Changes: things with their new values.
 ghost use Rattle.std.specs.Prelude.{◌≡◌, ◌≤◌, ◌++◌, ◌∷◌, [], IfOk, OnErr, OnOk, length};
-ghost use Rattle.project_model.specs.Changes.{CanApply, IsIdInRange, as_placed, as_head, as_symbol};
+ghost use Rattle.project_model.specs.Changes.{CanApply, IsIdInRange, as_head, as_symbol};
 ghost use Rattle.project_model.specs.Changes.{count_names};
 
 use geda_model::{Head, Items, Name, Object, Symbol};
@@ -110,15 +110,6 @@ fn count_names(items: &[(Thing, Option<Value>)]) -> usize
         }
     }
     count
-}
-
-pub(crate) fn placed_of(value: Option<Value>) -> Option<Placed>
-    ensures { result ≡ as_placed value }
-{
-    match value {
-        Some(Value::Object(placed)) => Some(placed),
-        _ => None,
-    }
 }
 
 pub(crate) fn head_of(value: Option<Value>) -> Option<Head>

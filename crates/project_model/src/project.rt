@@ -1,11 +1,13 @@
 // Projects, and how a change is put into one.
-ghost use Rattle.std.specs.Prelude.{◌≡◌, ◌+◌, ◌≤◌, ◌<◌, IfOk, OnOk, length, map, option_copied};
+ghost use Rattle.std.specs.Prelude.{◌≡◌, ◌+◌, ◌≤◌, ◌<◌, IfOk, None, OnOk, length, map};
+ghost use Rattle.std.specs.Prelude.{option_copied, option_map};
 ghost use Rattle.std.specs.FinMap.{entries, get, keys};
-ghost use Rattle.project_model.specs.Tables.{row_now};
+ghost use Rattle.project_model.specs.Tables.{row_now, set_row};
 ghost use Rattle.project_model.specs.Projects.{empty_project, ids_on};
 ghost use Rattle.project_model.specs.Changes.{value_at, put_one, put, values_in, CanApply, IsIdInRange, IsRoomFor, count_names, name_count};
+ghost use Rattle.project_model.specs.Changes.{as_head, as_symbol};
 
-use crate::change::{Change, Placed, Thing, Value, head_of, placed_of, symbol_of};
+use crate::change::{Change, Placed, Thing, Value, head_of, symbol_of};
 use crate::ordered::{ids_in, names_in, rows_in};
 use crate::table::{ById, ByName};
 use geda_model::{Head, Items, Name, Symbol};
@@ -43,6 +45,42 @@ impl Model for Project {
         names = min p.sheets.spare p.symbols.spare;
       };
     } };
+}
+
+// Most changes put new objects in. What else they do stands in functions of their own, so that an
+// object moves once.
+
+/// Takes an object out, and answers it.
+#[inline(never)]
+fn take_object(objects: &mut ById<Placed>, id: u32) -> Option<Value>
+    requires { 0 < objects.old.spare }
+    ensures before { result ≡ option_map Value.Object (get objects.old.rows id) }
+    ensures rows { objects.new.rows ≡ set_row objects.old.rows id None }
+    ensures spare { objects.old.spare ≤ objects.new.spare + 1 }
+{
+    objects.set(id, None).map(Value::Object)
+}
+
+/// Gives a sheet its version line, or none, and answers the one that it had.
+#[inline(never)]
+fn set_head(sheets: &mut ByName<Head>, name: &Name, value: Option<Value>) -> Option<Value>
+    requires { 0 < sheets.old.spare }
+    ensures before { result ≡ option_map Value.Head (get sheets.old.rows name.now) }
+    ensures rows { sheets.new.rows ≡ set_row sheets.old.rows name.now (as_head value) }
+    ensures spare { sheets.old.spare ≤ sheets.new.spare + 1 }
+{
+    sheets.set(name, head_of(value)).map(Value::Head)
+}
+
+/// Gives a name its symbol, or none, and answers the one that it had.
+#[inline(never)]
+fn set_symbol(symbols: &mut ByName<Symbol>, name: &Name, value: Option<Value>) -> Option<Value>
+    requires { 0 < symbols.old.spare }
+    ensures before { result ≡ option_map Value.Symbol (get symbols.old.rows name.now) }
+    ensures rows { symbols.new.rows ≡ set_row symbols.old.rows name.now (as_symbol value) }
+    ensures spare { symbols.old.spare ≤ symbols.new.spare + 1 }
+{
+    symbols.set(name, symbol_of(value)).map(Value::Symbol)
 }
 
 impl Project {
@@ -169,15 +207,19 @@ impl Project {
         ensures things { self.old.spare.things ≤ self.new.spare.things + 1 }
         ensures names { self.old.spare.names ≤ self.new.spare.names + name_count thing.now }
     {
-        match thing {
-            Thing::Object(id) => {
-                let id = *id;
-                self.next_id = self.next_id.max(id + 1);
-                self.objects.set(id, placed_of(value)).map(Value::Object)
-            }
-            Thing::SheetName(name) => self.sheets.set(name, head_of(value)).map(Value::Head),
-            Thing::SymbolName(name) => self.symbols.set(name, symbol_of(value)).map(Value::Symbol),
+        let id = match thing {
+            Thing::Object(id) => *id,
+            Thing::SheetName(name) => return set_head(&mut self.sheets, name, value),
+            Thing::SymbolName(name) => return set_symbol(&mut self.symbols, name, value),
+        };
+        self.next_id = self.next_id.max(id + 1);
+        let Some(Value::Object(placed)) = value else {
+            return take_object(&mut self.objects, id);
+        };
+        if let Some(old) = self.objects.put(id, placed) {
+            return Some(Value::Object(old));
         }
+        None
     }
 
     /// Puts the values of a change in, and answers the same things in the same order, each with the

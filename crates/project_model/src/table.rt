@@ -74,9 +74,19 @@ impl<V> ById<V> {
         ensures spare { self.old.spare ≤ self.new.spare + 1 }
     {
         match row {
-            Some(row) => self.rows.insert(id, row).unwrap(),
+            Some(row) => self.put(id, row),
             None => self.rows.remove(&id),
         }
+    }
+
+    /// Gives a key a row, and answers the row that it had. It can't fail and takes no memory.
+    pub(crate) fn put(&mut self, id: u32, row: V) -> Option<V>
+        requires { 0 < self.old.spare }
+        ensures old { result ≡ map.get self.old.rows id }
+        ensures rows { self.new.rows ≡ map.insert self.old.rows id row }
+        ensures spare { self.old.spare ≤ self.new.spare + 1 }
+    {
+        self.rows.insert(id, row).unwrap()
     }
 }
 

@@ -1,19 +1,7 @@
 use Rattle.std.proofs.Common.{sym, ap, ◌∙◌}
 use Rattle.std.specs.FinMap as map
-use Rattle.project_model.proofs.Rows.{ids, get_row, put_row, remove_row}
+use Rattle.project_model.proofs.Rows.{ids, get_row, remove_row}
 use Rattle.project_model.proofs.table.ById.set.Goals as goal
-
-pub returns-in-Some-clause-old : goal.returns-in-Some-clause-old
-returns-in-Some-clause-old g c =
-    let old = rw c.unwrap.ensures at c.insert.ensures.old in
-    old ∙ sym (get_row ids c.self.inside.rows.entries c.args.id) ∙ ap (λ t. map.get t.rows c.args.id) c.self.view_is
-
-pub returns-in-Some-clause-rows : goal.returns-in-Some-clause-rows
-returns-in-Some-clause-rows g c =
-    let updates = rw c.unwrap.ensures at c.insert.ensures.updates in
-    rw c.in-Some.is (
-    put_row ids c.self.inside.rows.entries c.insert.new.self.entries c.args.id c.in-Some.row updates.0
-    ∙ ap (λ t. map.insert t.rows c.args.id c.in-Some.row) c.self.view_is)
 
 pub returns-in-None-clause-old : goal.returns-in-None-clause-old
 returns-in-None-clause-old g c = c.remove.ensures.value ∙ sym (get_row ids c.self.inside.rows.entries c.args.id) ∙ ap (λ t. map.get t.rows c.args.id) c.self.view_is
