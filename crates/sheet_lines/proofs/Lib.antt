@@ -1,4 +1,5 @@
 pub mod Contents
+pub mod FirstFields
 pub mod Following
 pub mod LineLaws
 pub mod Names

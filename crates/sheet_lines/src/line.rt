@@ -1,5 +1,5 @@
 // What one line of a file says by itself.
-ghost use Rattle.std.specs.Prelude.{◌≡◌, IfOk, length};
+ghost use Rattle.std.specs.Prelude.{◌≡◌, [], ◌∷◌, IfOk, MatchOption, length};
 ghost use Rattle.geda_model.specs.Shapes.{ShapeIsInRange};
 ghost use Rattle.geda_grammar.specs.Classes.{classes_of};
 ghost use Rattle.geda_grammar.specs.steps.SheetLines.{drawn_line};
@@ -81,14 +81,31 @@ fn whole_line(alloc: Global, letter: Letter, rest: &mut Fields) -> Result<SheetL
     Ok(line)
 }
 
+/// The first field of a line, and the fields behind it. `None` exactly where the line has no field.
+/// It takes no memory.
+///
+/// Most lines begin with a letter and one space: these need no search for the field's end.
+fn cut_first(line: &[u8]) -> Option<(&[u8], Fields<'_>)>
+    ensures { MatchOption result (fields_of line.now ≡ [])
+        (λ r. fields_of line.now ≡ r.0.now ∷ r.1) }
+{
+    if let [first, second, others @ ..] = line {
+        if *first > b' ' && *second == b' ' {
+            return Some((&line[..1], fields(others)));
+        }
+    }
+    let mut rest = fields(line);
+    let first = rest.next()?;
+    Some((first, rest))
+}
+
 /// What a line says by itself, by its fields.
 #[tactic(auto, unfolding(crate::specs::steps::Letters::line_in))]
 fn line_in(alloc: Global, line: &[u8]) -> Result<SheetLine, LineFault>
     ensures given { Gives as_line result (line_in line.now) }
     ensures range { IfOk result LineIsInRange }
 {
-    let mut rest = fields(line);
-    let Some(first) = rest.next() else {
+    let Some((first, mut rest)) = cut_first(line) else {
         return Ok(SheetLine::Blank);
     };
     let letter = Letter::from_field(first).ok_or(LineFault::Refused(ReadKind::UnknownLetter))?;
