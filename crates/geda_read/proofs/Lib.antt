@@ -1,3 +1,4 @@
+pub mod LoneBrackets
 pub mod Counting
 pub mod Dates
 pub mod Levels

@@ -1,12 +1,15 @@
 // A file that is being read, line by line.
-ghost use Rattle.std.specs.Prelude.{◌≡◌, IfOk, option_map};
+ghost use Rattle.std.specs.Prelude.{◌≡◌, ◌≢◌, [], ◌∷◌, IfOk, IfSome, None, option_map};
 ghost use Rattle.geda_text.specs.Lines.{IsCutLine};
 ghost use Rattle.sheet_lines.specs.SheetLines.{RowIsInRange, LineIsInRange};
 ghost use Rattle.sheet_lines.specs.Pending.{pending_of};
+ghost use Rattle.sheet_lines.specs.declared.fault.LineFault.TheVariants as faults;
 ghost use Rattle.sheet_lines.specs.steps.Results.{Gives};
 ghost use Rattle.geda_grammar.specs.declared.kind.ReadKind.TheVariants.{OutOfRange};
+ghost use Rattle.geda_grammar.specs.declared.row.Row.TheVariants as grammar_rows;
 ghost use Rattle.geda_read.specs.steps.Expecting.{rows_expect};
-ghost use Rattle.geda_grammar.specs.steps.Reading.{Amid};
+ghost use Rattle.geda_grammar.specs.steps.Reading.{Amid, Complete, Ready};
+ghost use Rattle.geda_grammar.specs.steps.SheetLines.{sheet_line};
 ghost use Rattle.geda_read.specs.steps.Rows.{is_symbol_file};
 ghost use Rattle.geda_read.specs.steps.Files.{IsReadBy, end_rows, go_on, map_ok, reader_of, refused_kind, start_of, state_of, take_amid, take_between, take_line, take_row, take_shape, take_version};
 
@@ -31,7 +34,7 @@ pub struct Stage {
     pending: Option<Pending>,
 }
 
-/// Takes a row, or refuses its line for this.
+/// Takes a row that is no `]`, or refuses its line for this.
 #[tactic(auto, unfolding(crate::specs::steps::Files::take_row))]
 fn take_row(
     alloc: Global,
@@ -40,7 +43,8 @@ fn take_row(
     row: Row,
     kind: ReadKind,
 ) -> Result<(), LineFault>
-    requires { RowIsInRange row }
+    requires range { RowIsInRange row }
+    requires other { row ≢ grammar_rows.CloseSymbol }
     ensures { Gives (λ _. rows.new) result (take_row mode rows.old row kind) }
 {
     match rows.take(alloc, mode, row) {
@@ -48,6 +52,16 @@ fn take_row(
         Err(Refusal::NoMemory) => Err(LineFault::NoMemory),
         Err(Refusal::Stray) => Err(LineFault::Refused(kind)),
     }
+}
+
+/// The fault of a line that may not come where it stands; `kind` is the kind of its first wrong
+/// field, if it has one. It takes no memory.
+#[inline(never)]
+fn refused(mode: FileMode, rows: &OpenRows, line: &[u8], kind: ReadKind) -> LineFault
+    ensures { result ≡ faults.Refused (refused_kind mode rows.now line.now kind) }
+{
+    let expected = Expected::behind(rows, mode);
+    LineFault::Refused(expected.line_kind(mode, line, kind))
 }
 
 /// What a line says where a row comes next, or why it is refused there.
@@ -61,16 +75,57 @@ fn read_line(
     ensures range { IfOk result LineIsInRange }
 {
     match sheet_line(alloc, line) {
-        Err(LineFault::Refused(kind)) => {
-            let expected = Expected::behind(rows, mode);
-            Err(LineFault::Refused(expected.line_kind(mode, line, kind)))
-        }
+        Err(LineFault::Refused(kind)) => Err(refused(mode, rows, line, kind)),
         said => said,
     }
 }
 
-/// Takes the row of a line.
+/// Takes the `]` of a line. What may come is worked out before, since a refusal keeps nothing.
 #[tactic(auto, unfolding(crate::specs::steps::Files::take_row))]
+fn take_close(
+    alloc: Global,
+    mode: FileMode,
+    rows: &mut OpenRows,
+    line: &[u8],
+) -> Result<(), LineFault>
+    ensures { Gives (λ _. rows.new) result (take_row mode rows.old grammar_rows.CloseSymbol
+        (refused_kind mode rows.old line.now OutOfRange)) }
+{
+    let expected = Expected::behind(rows, mode);
+    match rows.close_symbol(alloc) {
+        Ok(()) => Ok(()),
+        Err(Refusal::NoMemory) => Err(LineFault::NoMemory),
+        Err(Refusal::Stray) => {
+            let kind = expected.line_kind(mode, line, ReadKind::OutOfRange);
+            Err(LineFault::Refused(kind))
+        }
+    }
+}
+
+/// Takes the row of a line that is no `]`.
+#[inline(always)]
+#[tactic(auto, unfolding(crate::specs::steps::Files::take_row))]
+fn take_other(
+    alloc: Global,
+    mode: FileMode,
+    rows: &mut OpenRows,
+    row: Row,
+    line: &[u8],
+) -> Result<(), LineFault>
+    requires range { RowIsInRange row }
+    requires other { row ≢ grammar_rows.CloseSymbol }
+    ensures { Gives (λ _. rows.new) result
+        (take_row mode rows.old row (refused_kind mode rows.old line.now OutOfRange)) }
+{
+    match rows.take(alloc, mode, row) {
+        Ok(()) => Ok(()),
+        Err(Refusal::NoMemory) => Err(LineFault::NoMemory),
+        Err(Refusal::Stray) => Err(refused(mode, rows, line, ReadKind::OutOfRange)),
+    }
+}
+
+/// Takes the row of a line.
+#[inline(always)]
 fn take_complete(
     alloc: Global,
     mode: FileMode,
@@ -82,14 +137,9 @@ fn take_complete(
     ensures { Gives (λ _. rows.new) result
         (take_row mode rows.old row (refused_kind mode rows.old line.now OutOfRange)) }
 {
-    let expected = Expected::behind(rows, mode);
-    match rows.take(alloc, mode, row) {
-        Ok(()) => Ok(()),
-        Err(Refusal::NoMemory) => Err(LineFault::NoMemory),
-        Err(Refusal::Stray) => {
-            let kind = expected.line_kind(mode, line, ReadKind::OutOfRange);
-            Err(LineFault::Refused(kind))
-        }
+    match row {
+        Row::CloseSymbol => take_close(alloc, mode, rows, line),
+        row => take_other(alloc, mode, rows, row, line),
     }
 }
 
@@ -104,18 +154,17 @@ fn take_begun(
         (take_shape (rows_expect mode rows.now) rows.now (pending_of pending)
         (refused_kind mode rows.now line.now OutOfRange)) }
 {
-    let expected = Expected::behind(rows, mode);
-    if !expected.admits(&pending) {
-        let kind = expected.line_kind(mode, line, ReadKind::OutOfRange);
-        return Err(LineFault::Refused(kind));
+    if !Expected::behind(rows, mode).admits(&pending) {
+        return Err(refused(mode, rows, line, ReadKind::OutOfRange));
     }
     Ok(pending)
 }
 
-/// Takes a line where a row comes next. Answers the shape whose lines are to come, if it begins
-/// one.
+/// Takes a line by its fields, where a row comes next. Answers the shape whose lines are to come,
+/// if it begins one.
+#[inline(always)]
 #[tactic(auto, unfolding(crate::specs::steps::Files::take_between))]
-fn take_between(
+fn take_fields(
     alloc: Global,
     mode: FileMode,
     rows: &mut OpenRows,
@@ -133,26 +182,31 @@ fn take_between(
     }
 }
 
-/// Takes a line of a shape. Answers the shape while other lines are to come. A shape that was begun
-/// may stand there.
-#[tactic(auto, unfolding(crate::specs::steps::Files::take_amid))]
-fn take_amid(
+/// Takes the row that a line says.
+#[inline(always)]
+#[tactic(auto, unfolding(crate::specs::steps::Files::take_between))]
+fn take_said(
     alloc: Global,
     mode: FileMode,
     rows: &mut OpenRows,
-    pending: Pending,
+    row: Row,
     line: &[u8],
-) -> Result<Option<Pending>, LineFault>
-    requires { IsCutLine line.now }
-    ensures { Gives (reader_of rows.new) result
-        (take_amid mode rows.old (pending_of pending) line.now) }
+) -> Result<(), LineFault>
+    requires said { sheet_line line.now ≡ Complete row }
+    requires range { RowIsInRange row }
+    ensures { Gives (λ _. Ready rows.new) result (take_between mode rows.old line.now) }
 {
-    match pending.with(alloc, line)? {
-        Progress::Still(pending) => Ok(Some(pending)),
-        Progress::Whole(shape) => {
-            take_row(alloc, mode, rows, Row::Drawn(shape), ReadKind::NotUtf8)?;
-            Ok(None)
-        }
+    take_complete(alloc, mode, rows, row, line)?;
+    Ok(())
+}
+
+/// The byte that a line is. `None` exactly where it is not one byte.
+fn only_byte(line: &[u8]) -> Option<u8>
+    ensures { IfSome result (λ byte. line.now ≡ byte ∷ []) }
+{
+    match line {
+        [byte] => Some(*byte),
+        _ => None,
     }
 }
 
@@ -190,6 +244,7 @@ impl Stage {
     }
 
     /// Takes a line of the shape whose lines are to come. Where there is none, nothing changes.
+    #[tactic(auto, unfolding(crate::specs::steps::Files::take_amid))]
     fn go_on(&mut self, alloc: Global, mode: FileMode, line: &[u8]) -> Result<(), LineFault>
         requires { IsCutLine line.now }
         ensures head { self.new.head ≡ self.old.head }
@@ -199,11 +254,52 @@ impl Stage {
         let Some(pending) = self.pending.take() else {
             return Ok(());
         };
-        self.pending = take_amid(alloc, mode, &mut self.rows, pending, line)?;
+        match pending.with(alloc, line)? {
+            Progress::Still(pending) => self.pending = Some(pending),
+            Progress::Whole(shape) => {
+                let row = Row::Drawn(shape);
+                take_row(alloc, mode, &mut self.rows, row, ReadKind::NotUtf8)?;
+            }
+        }
         Ok(())
     }
 
+    /// Takes a line by its fields, where a row comes next.
+    #[inline(never)]
+    fn take_long(&mut self, alloc: Global, mode: FileMode, line: &[u8]) -> Result<(), LineFault>
+        requires { self.old.pending ≡ None }
+        ensures head { self.new.head ≡ self.old.head }
+        ensures more { Gives (λ _. reader_of self.new.rows self.new.pending) result
+            (take_between mode self.old.rows line.now) }
+    {
+        if let Some(pending) = take_fields(alloc, mode, &mut self.rows, line)? {
+            self.pending = Some(pending);
+        }
+        Ok(())
+    }
+
+    /// Takes a line where a row comes next. A bracket alone is taken at once, since it wants no
+    /// search for fields.
+    #[inline(always)]
+    #[tactic(auto, using(crate::proofs::LoneBrackets::open_block, crate::proofs::LoneBrackets::close_block, crate::proofs::LoneBrackets::open_symbol, crate::proofs::LoneBrackets::close_symbol))]
+    fn take_next(&mut self, alloc: Global, mode: FileMode, line: &[u8]) -> Result<(), LineFault>
+        requires { self.old.pending ≡ None }
+        ensures head { self.new.head ≡ self.old.head }
+        ensures more { Gives (λ _. reader_of self.new.rows self.new.pending) result
+            (take_between mode self.old.rows line.now) }
+    {
+        let rows = &mut self.rows;
+        match only_byte(line) {
+            Some(b'{') => take_said(alloc, mode, rows, Row::OpenBlock, line),
+            Some(b'}') => take_said(alloc, mode, rows, Row::CloseBlock, line),
+            Some(b'[') => take_said(alloc, mode, rows, Row::OpenSymbol, line),
+            Some(b']') => take_said(alloc, mode, rows, Row::CloseSymbol, line),
+            _ => self.take_long(alloc, mode, line),
+        }
+    }
+
     /// Takes the next line, or says why it is refused.
+    #[inline(always)]
     pub fn take(&mut self, alloc: Global, mode: FileMode, line: &[u8]) -> Result<(), LineFault>
         requires { IsCutLine line.now }
         ensures { Gives (λ _. state_of self.new) result
@@ -215,10 +311,7 @@ impl Stage {
         if self.pending.is_some() {
             return self.go_on(alloc, mode, line);
         }
-        if let Some(pending) = take_between(alloc, mode, &mut self.rows, line)? {
-            self.pending = Some(pending);
-        }
-        Ok(())
+        self.take_next(alloc, mode, line)
     }
 
     /// What the version line says, behind the last line, or why a line is missing.

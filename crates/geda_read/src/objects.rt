@@ -1,6 +1,6 @@
 // The objects of a sheet that is being read. Each stands in their list at once, and a block's texts
 // go to the last one there. What moves a whole object is inlined, since LLVM then moves it once.
-ghost use Rattle.std.specs.Prelude.{◌≡◌, ◌<◌, ◌≤◌, [], OnOk, Some, length};
+ghost use Rattle.std.specs.Prelude.{◌≡◌, ◌<◌, ◌≤◌, [], OnOk, length};
 ghost use Rattle.geda_model.specs.Limits.{most_objects};
 ghost use Rattle.geda_model.specs.Shapes.{ShapeIsInRange};
 ghost use Rattle.geda_model.specs.Sheets.{BodyIsInRange};
@@ -10,12 +10,13 @@ ghost use Rattle.geda_grammar.specs.steps.Levels as levels;
 ghost use Rattle.geda_grammar.specs.steps.Sheets.{make_object};
 ghost use Rattle.sheet_lines.specs.SheetLines.{RowIsInRange};
 ghost use Rattle.geda_read.specs.steps.Levels.{Takes};
+ghost use Rattle.geda_read.specs.steps.Staying.{Stays};
 
 use crate::refusal::Refusal;
 use crate::tail::Tail;
 use geda_grammar::Row;
 use geda_model::{Body, Object, Objects, Shape, Texts};
-use std::alloc::Global;
+use std::alloc::{AllocError, Global};
 use std::marker::Model;
 
 /// The objects that are there, and how far the last one is.
@@ -58,24 +59,25 @@ impl OpenObjects {
             (levels.room make_object most self.old.kept self.old.mode) }
         ensures few { OnOk result (length self.new.kept < most_objects) }
         ensures settled { OnOk result (self.new.mode ≡ modes.Settled) }
+        ensures stays { Stays result self.old self.new }
     {
         if self.tail.is_open() {
             return Err(Refusal::Stray);
         }
-        self.tail = Tail::Done;
         if self.items.as_slice().len() >= most {
             return Err(Refusal::Stray);
         }
+        self.tail = Tail::Done;
         Ok(())
     }
 
     /// Puts an object, for which a block may come, behind the others.
     #[inline(always)]
-    pub fn add(&mut self, alloc: Global, body: Body) -> Result<(), Refusal>
+    pub fn add(&mut self, alloc: Global, body: Body) -> Result<(), AllocError>
         requires settled { self.old.mode ≡ modes.Settled }
         requires few { length self.old.kept < most_objects }
         requires range { BodyIsInRange body }
-        ensures { Takes (λ _. self.new) result (Some (levels.begun body self.old.kept)) }
+        ensures { OnOk result (self.new ≡ levels.begun body self.old.kept) }
     {
         let attrs = Texts::new(alloc);
         self.items.push(Object { body, attrs })?;
@@ -88,19 +90,22 @@ impl OpenObjects {
     pub fn push(&mut self, alloc: Global, most: usize, body: Body) -> Result<(), Refusal>
         requires most { most ≤ most_objects }
         requires range { BodyIsInRange body }
-        ensures { Takes (λ _. self.new) result
+        ensures taken { Takes (λ _. self.new) result
             (levels.push make_object most body self.old.kept self.old.mode) }
+        ensures stays { Stays result self.old self.new }
     {
         self.settle(most)?;
         self.add(alloc, body)?;
         Ok(())
     }
 
+    #[inline(always)]
     fn put(&mut self, alloc: Global, most: usize, shape: Shape) -> Result<(), Refusal>
         requires most { most ≤ most_objects }
         requires range { ShapeIsInRange shape }
-        ensures { Takes (λ _. self.new) result
+        ensures taken { Takes (λ _. self.new) result
             (levels.put make_object bodies.Shape most shape self.old.kept self.old.mode) }
+        ensures stays { Stays result self.old self.new }
     {
         if self.tail.is_open() {
             let Shape::Text(text) = shape else {
@@ -113,7 +118,9 @@ impl OpenObjects {
     }
 
     fn open_block(&mut self) -> Result<(), Refusal>
-        ensures { Takes (λ _. self.new) result (levels.open_block self.old.kept self.old.mode) }
+        ensures taken { Takes (λ _. self.new) result
+            (levels.open_block self.old.kept self.old.mode) }
+        ensures stays { Stays result self.old self.new }
     {
         if !self.tail.is_bare() {
             return Err(Refusal::Stray);
@@ -123,8 +130,9 @@ impl OpenObjects {
     }
 
     fn close_block(&mut self) -> Result<(), Refusal>
-        ensures { Takes (λ _. self.new) result
+        ensures taken { Takes (λ _. self.new) result
             (levels.close_block make_object self.old.kept self.old.mode) }
+        ensures stays { Stays result self.old self.new }
     {
         if !self.tail.is_open() {
             return Err(Refusal::Stray);
@@ -134,11 +142,13 @@ impl OpenObjects {
     }
 
     /// Takes a row that is no component's.
+    #[inline(always)]
     pub fn take(&mut self, alloc: Global, most: usize, row: Row) -> Result<(), Refusal>
         requires most { most ≤ most_objects }
         requires range { RowIsInRange row }
-        ensures { Takes (λ _. self.new) result
+        ensures taken { Takes (λ _. self.new) result
             (levels.level_step make_object bodies.Shape most self.old.kept self.old.mode row) }
+        ensures stays { Stays result self.old self.new }
     {
         match row {
             Row::Drawn(shape) => self.put(alloc, most, shape),

@@ -7,6 +7,7 @@ ghost use Rattle.geda_grammar.specs.declared.row.Row.TheVariants as grammar_rows
 ghost use Rattle.geda_grammar.specs.steps.Sheets.{component_of, object_step, sheet_end, sheet_step};
 ghost use Rattle.sheet_lines.specs.SheetLines.{RowIsInRange};
 ghost use Rattle.geda_read.specs.steps.Levels.{Takes};
+ghost use Rattle.geda_read.specs.steps.Staying.{Stays};
 ghost use Rattle.geda_read.specs.steps.Embeddings.{IsEndedFor, awaiting, close_step, embedding_step};
 
 use crate::objects::OpenObjects;
@@ -70,6 +71,7 @@ fn component(line: ComponentLine, embedded: Option<Parts>) -> Component
 }
 
 /// Takes a row where an object may stand. Answers the line of a component whose symbol is to come.
+#[inline(always)]
 fn take_among(
     objects: &mut OpenObjects,
     alloc: Global,
@@ -81,6 +83,7 @@ fn take_among(
     ensures taken { Takes (awaiting objects.new) result
         (object_step most objects.old.kept objects.old.mode row) }
     ensures room { IfOk result (IsEndedFor objects.new) }
+    ensures stays { Stays result objects.old objects.new }
 {
     match row {
         Row::Library(line) => {
@@ -101,9 +104,11 @@ fn take_among(
 
 impl OpenSymbol {
     /// Takes a row that does not close the symbol.
+    #[inline(always)]
     fn take(&mut self, alloc: Global, row: Row) -> Result<(), Refusal>
         requires { RowIsInRange row }
-        ensures { Takes (λ _. self.new) result (embedding_step self.old row) }
+        ensures taken { Takes (λ _. self.new) result (embedding_step self.old row) }
+        ensures stays { Stays result self.old self.new }
     {
         if let Some(parts) = &mut self.parts {
             return parts.take(alloc, row);
@@ -130,7 +135,7 @@ impl OpenSheet {
     }
 
     /// Takes the `]` of the symbol that is open.
-    fn close_symbol(&mut self, alloc: Global) -> Result<(), Refusal>
+    pub fn close_symbol(&mut self, alloc: Global) -> Result<(), Refusal>
         ensures { Takes (λ _. self.new) result (close_step self.old) }
     {
         let Some(OpenSymbol { line, parts }) = self.symbol.take() else {
@@ -145,12 +150,15 @@ impl OpenSheet {
         Ok(())
     }
 
-    /// Takes a row that is no `]`.
-    fn take_other(&mut self, alloc: Global, most: usize, row: Row) -> Result<(), Refusal>
+    /// Takes a row that is no `]`, of a sheet which has room for so many objects. Where it may not
+    /// stand nothing changes.
+    #[inline(always)]
+    pub fn take(&mut self, alloc: Global, most: usize, row: Row) -> Result<(), Refusal>
         requires most { most ≤ most_objects }
         requires range { RowIsInRange row }
         requires other { row ≢ grammar_rows.CloseSymbol }
-        ensures { Takes (λ _. self.new) result (sheet_step most self.old row) }
+        ensures taken { Takes (λ _. self.new) result (sheet_step most self.old row) }
+        ensures stays { Stays result self.old self.new }
     {
         if let Some(symbol) = &mut self.symbol {
             return symbol.take(alloc, row);
@@ -159,18 +167,6 @@ impl OpenSheet {
             self.symbol = Some(OpenSymbol { line, parts: None });
         }
         Ok(())
-    }
-
-    /// Takes a row of a sheet, which has room for so many objects.
-    pub fn take(&mut self, alloc: Global, most: usize, row: Row) -> Result<(), Refusal>
-        requires most { most ≤ most_objects }
-        requires range { RowIsInRange row }
-        ensures { Takes (λ _. self.new) result (sheet_step most self.old row) }
-    {
-        match row {
-            Row::CloseSymbol => self.close_symbol(alloc),
-            row => self.take_other(alloc, most, row),
-        }
     }
 
     /// All objects, where no block and no symbol is open.

@@ -1,8 +1,10 @@
 // What is read, and what is there of it: a sheet, a symbol or one object.
-ghost use Rattle.std.specs.Prelude.{◌≡◌, ◌≤◌};
+ghost use Rattle.std.specs.Prelude.{◌≡◌, ◌≢◌, ◌≤◌};
 ghost use Rattle.geda_model.specs.Limits.{most_objects};
+ghost use Rattle.geda_grammar.specs.declared.row.Row.TheVariants as grammar_rows;
 ghost use Rattle.sheet_lines.specs.SheetLines.{RowIsInRange};
 ghost use Rattle.geda_read.specs.steps.Levels.{Takes};
+ghost use Rattle.geda_read.specs.steps.Staying.{Stays};
 ghost use Rattle.geda_read.specs.steps.Rows.{is_symbol_file, most_of, objects_in, one_object, parts_in, rows_start, rows_step};
 
 use crate::parts::OpenParts;
@@ -63,10 +65,24 @@ impl OpenRows {
         }
     }
 
-    /// Takes a row.
+    /// Takes the `]` of the symbol that is open.
+    pub fn close_symbol(&mut self, alloc: Global) -> Result<(), Refusal>
+        ensures { (mode : FileMode) →
+            Takes (λ _. self.new) result (rows_step mode self.old grammar_rows.CloseSymbol) }
+    {
+        match self {
+            OpenRows::Sheet(sheet) => sheet.close_symbol(alloc),
+            OpenRows::Symbol(_) => Err(Refusal::Stray),
+        }
+    }
+
+    /// Takes a row that is no `]`. Where it may not stand nothing changes.
+    #[inline(always)]
     pub fn take(&mut self, alloc: Global, mode: FileMode, row: Row) -> Result<(), Refusal>
-        requires { RowIsInRange row }
-        ensures { Takes (λ _. self.new) result (rows_step mode self.old row) }
+        requires range { RowIsInRange row }
+        requires other { row ≢ grammar_rows.CloseSymbol }
+        ensures taken { Takes (λ _. self.new) result (rows_step mode self.old row) }
+        ensures stays { Stays result self.old self.new }
     {
         match self {
             OpenRows::Sheet(sheet) => sheet.take(alloc, mode.most(), row),

@@ -13,20 +13,20 @@ use Rattle.geda_read.specs.steps.Levels.{objects_level}
 use Rattle.geda_read.proofs.LastOnes.{attached_stands, no_text, put_more, put_text}
 use Rattle.geda_read.proofs.objects.OpenObjects.put.Goals as goal
 
-pub returns-in_default : goal.returns-in_default
-returns-in_default c =
+pub returns-in_default-clause-taken : goal.returns-in_default-clause-taken
+returns-in_default-clause-taken c =
     let news : TextData → Level ObjectData Body = λ (t : TextData). objects_level (with_last (object_with t) c.self.inside.items) c.self.inside.tail in
     rw (← c.self.view_is) (put_text ObjectData Body (λ o. o.body) (λ o. o.attrs) make_object (λ o. refl) (λ t o. object_with t o) (λ t o. refl) (λ t o. refl) bodies.Shape c.args.most c.args.shape c.self.inside.items c.self.inside.tail c.self.invariant.last (sym c.is_open.ensures ∙ c.if-is_open.true) ∙ ap (λ (o : Option TextData). option_map news o) (no_text c.args.shape c.in_default.not-Text))
 
 pub invariant_of-self-then-is_open : goal.invariant_of-self-then-is_open
 invariant_of-self-then-is_open c = attached_stands ObjectData Body (λ o. o.body) (λ o. o.attrs) make_object (λ o. refl) (λ t o. object_with t o) (λ t o. refl) (λ t o. refl) c.in-Text.text c.self.inside.items c.self.inside.tail c.attach.new.self c.self.invariant (sym c.is_open.ensures ∙ c.if-is_open.true) c.in_ok-attach.ensures.ok
 
-pub returns-then-is_open : goal.returns-then-is_open
-returns-then-is_open c =
+pub returns-then-is_open-clause-taken : goal.returns-then-is_open-clause-taken
+returns-then-is_open-clause-taken c =
     let news : TextData → Level ObjectData Body = λ (t : TextData). objects_level (with_last (object_with t) c.self.inside.items) c.self.inside.tail in
     rw (← c.self.view_is) (put_text ObjectData Body (λ o. o.body) (λ o. o.attrs) make_object (λ o. refl) (λ t o. object_with t o) (λ t o. refl) (λ t o. refl) bodies.Shape c.args.most c.args.shape c.self.inside.items c.self.inside.tail c.self.invariant.last (sym c.is_open.ensures ∙ c.if-is_open.true) ∙ ap (λ (s : Shape). option_map news (text_in s)) c.in-Text.is ∙ ap (λ (l : List ObjectData). Some (objects_level l c.self.inside.tail)) (sym c.in_ok-attach.ensures.ok))
 
-pub returns : goal.returns
-returns c =
+pub returns-clause-taken : goal.returns-clause-taken
+returns-clause-taken c =
     let same : put make_object bodies.Shape c.args.most c.args.shape c.args.self.now.kept c.args.self.now.mode ≡ push make_object c.args.most (bodies.Shape c.args.shape) c.args.self.now.kept c.args.self.now.mode = rw (← c.self.view_is) (put_more ObjectData Body (λ o. o.body) (λ o. o.attrs) make_object (λ o. refl) bodies.Shape c.args.most c.args.shape c.self.inside.items c.self.inside.tail c.self.invariant.last (sym c.is_open.ensures ∙ c.if-is_open.false)) in
-    rw same c.push.ensures
+    rw same c.push.ensures.taken
