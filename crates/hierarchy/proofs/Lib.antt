@@ -12,4 +12,5 @@ pub mod KnownLemmas
 pub mod OrderLemmas
 pub mod ParentLemmas
 pub mod MetLemmas
+pub mod SourcelessLemmas
 pub mod Cases

@@ -1,11 +1,12 @@
 -- The place of a name among names that rise.
-use Rattle.std.proofs.Common.{◌≡◌, ◌<◌, ◌+◌, ℕ, Bool, true, false, List, [], length, get_or, None, Some, Result, Ok, Err, refl, sym, ap, ◌∙◌, inl, inr, arith}
+use Rattle.std.proofs.Common.{◌≡◌, ◌<◌, ◌+◌, ℕ, Bool, true, false, List, [], length, get_or, Option, None, Some, Result, Ok, Err, refl, sym, ap, ◌∙◌, inl, inr, arith}
 use Rattle.std.specs.Prelude.{cond, nat_lt}
 use Rattle.std.specs.declared.cmp.Ordering.{Ordering}
 use Rattle.std.specs.declared.cmp.Ordering.TheVariants.{Less, Greater}
 use Rattle.std.specs.Ordering.{is_eq, is_lt, nat_cmp, ordering_index, ordering_reverse}
 use Rattle.std.specs.Cmp.Lexicographic.{slice_cmp}
-use Rattle.std.specs.List.{position, position_or_len}
+use Rattle.std.specs.Cmp.{tied_itself}
+use Rattle.std.specs.List.{position, position_or_len, slice_get}
 use Rattle.std.specs.List.Sorted.{IsBinarySearchResult, IsNonDecreasingBy, IsSearchInRange, IsSortedBy, IsStrictlySortedBy}
 use Rattle.std.specs.Result.{result_ok}
 use Rattle.std.specs.Str.{bytes_eq}
@@ -18,9 +19,12 @@ use Rattle.std.proofs.lemmas.List.Sums.{fails_before_first, position_or_len_is}
 use Rattle.std.proofs.lemmas.Map.Keys.{Less-from_sorted}
 use Rattle.std.proofs.lemmas.Map.Lookups.{exact_bytes}
 use Rattle.std.proofs.lemmas.Map.Text.{is_eq-slice_cmp}
+use Rattle.std.proofs.lemmas.Option.{get_or_from_slice_get, slice_get_within}
+use Rattle.std.proofs.lemmas.Slice.Eq.{bytes_eq-Decides}
 use Rattle.geda_defs.proofs.Bytes.{bytes_true, bytes_false}
 use Rattle.project_model.specs.Projects.{ProjectData}
 use Rattle.project_model.proofs.OrderedRows.{keys_sorted}
+use Rattle.hierarchy.specs.steps.SheetRows.{is_name}
 
 pub lt_true : (i n : ℕ) → i < n → nat_lt i n ≡ true
 lt_true i n lt = grind (arith, nat_tests)
@@ -89,6 +93,17 @@ module _ (names : List (List ℕ)) (rising : IsStrictlySortedBy (slice_cmp nat_c
         | inl lt ↦ untied (get_or names k []) value Less (part.0 k [] (omega arith) lt) refl (sym same)
         | inr le ↦ untied (get_or names k []) value Greater (part.1 k [] le h) refl (sym same)
       ])))
+
+  -- the value stands at the place where its name is read
+  pub near_place : (value : List ℕ) (near : ℕ) → is_name value (slice_get names near) ≡ true → Some near ≡ position (bytes_eq value) names
+  near_place value near e = by (slice_get names near) refl e
+    where
+      by : (found : Option (List ℕ)) → slice_get names near ≡ found → is_name value found ≡ true → Some near ≡ position (bytes_eq value) names
+      by None read h = absurd (let other : false ≡ true = h in cc)
+      by (Some name) read h =
+          let same : name ≡ value = (bytes_eq-Decides name value).0 h in
+          searched value (Ok near) (slice_get_within names near name read)
+          (λ d. rw (get_or_from_slice_get names near name d read, same) (tied_itself nat_list_cmp_total value))
 
 -- the names of a project's sheets rise
 pub keys_rise : (p : ProjectData) → IsStrictlySortedBy (slice_cmp nat_cmp) (keys p.sheets)

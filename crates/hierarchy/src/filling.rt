@@ -11,7 +11,7 @@ ghost use Rattle.hierarchy.specs.steps.SheetRows.{AreLight, IsTableOf, bare_shee
 
 use crate::components::component_of;
 use crate::met_symbols::MetSymbols;
-use crate::places::place_of;
+use crate::places::place_near;
 use crate::table::TableSheet;
 use attr_rules::{has_sources, parts_of};
 use geda_model::{Name, Object};
@@ -34,8 +34,12 @@ impl TableSheet {
         ensures light { OnOk result (self.new.weight ≤ self.old.weight + 4294967296) }
         ensures kept { met.new ≡ met.old }
     {
-        let library = met.library_of(alloc, object)?;
+        let met_symbol = met.library_of(alloc, object)?;
+        let library = met_symbol.symbol();
         self.weight += 1 + parts_of(object, library).len() as u128;
+        if met_symbol.tells_no_source(object) {
+            return Ok(());
+        }
         if has_sources(object, library) {
             let component = component_of(alloc, names, id, object, library)?;
             self.components.push(component)?;
@@ -44,14 +48,17 @@ impl TableSheet {
     }
 }
 
+/// Takes in an object, the sheet of which may be the one at a place, and gives the place where it
+/// was looked for last.
 fn add_object(
     alloc: Global,
     met: &mut MetSymbols<'_>,
     names: &[Name],
     table: &mut Vec<TableSheet>,
+    near: usize,
     id: u32,
     placed: &Placed,
-) -> Result<(), AllocError>
+) -> Result<usize, AllocError>
     requires names { names.now ≡ keys met.old.sheets }
     requires rising { IsStrictlySortedBy (slice_cmp nat_cmp) names.now }
     requires named { map (λ sheet. sheet.name) table.old.items ≡ names.now }
@@ -64,11 +71,11 @@ fn add_object(
     ensures kept { met.new ≡ met.old }
 {
     let name = &placed.sheet;
-    match place_of(names, name.as_str()) {
-        None => Ok(()),
+    match place_near(names, near, name.as_str()) {
+        None => Ok(near),
         Some(place) => {
             table[place].add(alloc, met, names, id, &placed.object)?;
-            Ok(())
+            Ok(place)
         }
     }
 }
@@ -86,8 +93,9 @@ fn add_objects(
     ensures { OnOk result (IsTableOf project.now.contents (map row_now rows.now) table.new.items) }
 {
     let mut met = MetSymbols::new(alloc, project);
+    let mut near = 0;
     for row in rows {
-        add_object(alloc, &mut met, names, table, row.0, row.1)?;
+        near = add_object(alloc, &mut met, names, table, near, row.0, row.1)?;
     }
     Ok(())
 }

@@ -1,5 +1,7 @@
 -- How the table grows by one object (own).
 use Rattle.std.specs.Prelude.{◌≡◌, ℕ, ◌+◌, ◌*◌, ◌≤◌, List, [], ◌++◌, All, map}
+use Rattle.std.specs.Prelude.{Bool, false, Option, None, Some}
+use Rattle.std.specs.Str.{bytes_eq}
 use Rattle.std.specs.Option.{option_to_list}
 use Rattle.std.specs.FinMap.{keys}
 use Rattle.project_model.specs.declared.change.Placed.{Placed}
@@ -26,3 +28,8 @@ AreLight count sheets = All (λ sheet. sheet.weight ≤ count * 4294967296) shee
 -- a sheet of this name, with no objects on it so far
 abbrev pub bare_sheet : List ℕ → TableSheetData
 bare_sheet name = record { name = name; components = []; weight = 0 }
+
+-- the name, if there is one, is this one
+abbrev pub is_name : List ℕ → Option (List ℕ) → Bool
+is_name value None = false
+is_name value (Some name) = bytes_eq name value

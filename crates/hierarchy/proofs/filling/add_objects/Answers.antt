@@ -24,10 +24,10 @@ loop-row-preserved c =
     let items = c.add_object.new.table.items in
     let more = map_take_more row_now c.args.rows.now c.loop-row.row-index c.row-item.result (omega arith) c.row-item.is in
     let before = subst (λ (q : ProjectData). IsTableOf q rows c.loop-row.table.items) (sym same) c.loop-row.invariant.0 in
-    let after = subst (λ (rows : List (ℕ × Placed)). IsTableOf met rows items) (sym more) (c.in_ok-add_object.ensures.table rows before) in (
+    let after = subst (λ (rows : List (ℕ × Placed)). IsTableOf met rows items) (sym more) (c.in_ok-near.ensures.table rows before) in (
       subst (λ (q : ProjectData). IsTableOf q (map row_now (take (c.loop-row.row-index + 1) c.args.rows.now)) items) same after,
-      c.in_ok-add_object.ensures.light c.loop-row.row-index c.loop-row.invariant.1,
-      c.in_ok-add_object.ensures.kept ∙ same,
+      c.in_ok-near.ensures.light c.loop-row.row-index c.loop-row.invariant.1,
+      c.in_ok-near.ensures.kept ∙ same,
     )
 
 pub returns : goal.returns
