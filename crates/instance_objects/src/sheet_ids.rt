@@ -1,41 +1,81 @@
 // The ids of the objects of each sheet.
-ghost use Rattle.std.specs.Prelude.{◌≡◌, ◌++◌, ◌∷◌, [], IfOk, OnOk, map};
+ghost use Rattle.std.specs.Prelude.{◌≡◌, ◌≤◌, ◌∷◌, IfOk, drop, length, map};
 ghost use Rattle.project_model.specs.Tables.{row_now};
 ghost use Rattle.instance_objects.specs.SheetIds.{AreIdsBySheet, ids_at};
-ghost use Rattle.instance_objects.specs.steps.SheetIds.{AddsId, AreIdsOf};
+ghost use Rattle.instance_objects.specs.steps.SheetIds.{AddsRun, AreIdsOf, PutsRun};
 
 use geda_model::{Items, Name};
 use project_model::{Placed, Project};
 use std::alloc::{AllocError, Global};
 use std::collections::BTreeMap;
-use std::mem;
 
-/// Puts an id behind others.
-fn push_id(alloc: Global, ids: &mut Items<u32>, id: u32) -> Result<(), AllocError>
-    ensures { OnOk result (ids.new ≡ ids.old ++ id ∷ []) }
+/// Puts the ids of objects from a place on behind others, as far as they stand on a sheet, and
+/// gives the place after them.
+fn push_run(
+    ids: &mut Items<u32>,
+    sheet: &Name,
+    rows: &[(u32, &Placed)],
+    from: usize,
+) -> Result<usize, AllocError>
+    requires { from ≤ length rows.now }
+    ensures from { IfOk result (λ end. from ≤ end) }
+    ensures end { IfOk result (λ end. end ≤ length rows.now) }
+    ensures ids { IfOk result (λ end. PutsRun sheet.now ids.old ids.new
+        (map row_now (drop from rows.now)) (map row_now (drop end rows.now))) }
 {
-    let mut longer = mem::replace(ids, Items::from_vec(Vec::new(alloc))).into_vec();
-    longer.push(id)?;
-    *ids = Items::from_vec(longer);
-    Ok(())
+    for place in from..rows.len() {
+        let row = &rows[place];
+        if row.1.sheet != *sheet {
+            return Ok(place);
+        }
+        ids.push(row.0)?;
+    }
+    Ok(rows.len())
 }
 
-/// Puts the id of an object behind those of its sheet.
-fn add_id(
+/// The same behind the id of an object of the sheet.
+fn push_with_run(
+    ids: &mut Items<u32>,
+    id: u32,
+    placed: &Placed,
+    rows: &[(u32, &Placed)],
+    from: usize,
+) -> Result<usize, AllocError>
+    requires { from ≤ length rows.now }
+    ensures from { IfOk result (λ end. from ≤ end) }
+    ensures end { IfOk result (λ end. end ≤ length rows.now) }
+    ensures ids { IfOk result (λ end. PutsRun placed.now.sheet ids.old ids.new
+        ((id, placed.now) ∷ map row_now (drop from rows.now)) (map row_now (drop end rows.now))) }
+{
+    ids.push(id)?;
+    let end = push_run(ids, &placed.sheet, rows, from)?;
+    Ok(end)
+}
+
+/// Puts the id of an object behind those of its sheet, and with it those of the objects directly
+/// after it on the same sheet, which stand from a place on: the sheet is looked up once for all of
+/// them. Gives the place after them.
+fn add_run(
     alloc: Global,
     table: &mut BTreeMap<Name, Items<u32>>,
     id: u32,
     placed: &Placed,
-) -> Result<(), AllocError>
-    ensures { OnOk result (AddsId (id, placed.now) table.old table.new) }
+    rows: &[(u32, &Placed)],
+    from: usize,
+) -> Result<usize, AllocError>
+    requires { from ≤ length rows.now }
+    ensures from { IfOk result (λ end. from ≤ end) }
+    ensures end { IfOk result (λ end. end ≤ length rows.now) }
+    ensures ids { IfOk result (λ end. AddsRun table.old table.new
+        ((id, placed.now) ∷ map row_now (drop from rows.now)) (map row_now (drop end rows.now))) }
 {
     if let Some(ids) = table.get_mut(&placed.sheet) {
-        return push_id(alloc, ids, id);
+        return push_with_run(ids, id, placed, rows, from);
     }
-    let mut ids = Vec::new(alloc);
-    ids.push(id)?;
-    table.insert(placed.sheet.clone()?, Items::from_vec(ids))?;
-    Ok(())
+    let mut ids = Items::from_vec(Vec::new(alloc));
+    let end = push_with_run(&mut ids, id, placed, rows, from)?;
+    table.insert(placed.sheet.clone()?, ids)?;
+    Ok(end)
 }
 
 fn ids_of_rows(
@@ -45,8 +85,10 @@ fn ids_of_rows(
     ensures { IfOk result (AreIdsOf (map row_now rows.now)) }
 {
     let mut table = BTreeMap::new(alloc);
-    for row in rows {
-        add_id(alloc, &mut table, row.0, row.1)?;
+    let mut place = 0;
+    while place < rows.len() {
+        let row = &rows[place];
+        place = add_run(alloc, &mut table, row.0, row.1, rows, place + 1)?;
     }
     Ok(table)
 }
