@@ -20,7 +20,7 @@ pub rows_length : (cs : List NewConductor) → length (map bare_row cs) ≡ leng
 rows_length [] = refl
 rows_length (c ∷ cs) = ap suc (rows_length cs)
 
-first_option : {A : Type 0} (o : Option A) → first_of (option_to_list o) ≡ o
+pub first_option : {A : Type 0} (o : Option A) → first_of (option_to_list o) ≡ o
 first_option None = refl
 first_option (Some a) = refl
 

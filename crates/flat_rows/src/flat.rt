@@ -6,15 +6,15 @@ ghost use Rattle.flat_rows.specs.Rows.{member_of, row_of};
 
 use crate::conductors::PortPins;
 use crate::lists::Lists;
+use crate::parts::PartRows;
 use crate::rows::{FlatRow, RowMember};
-use geda_model::Block;
-use net_list::Package;
+use geda_model::{Block, Line};
 use std::marker::Model;
 
 /// What joins in a project, and its listed parts.
 #[derive(Drop)]
 pub struct FlatRows {
-    pub(crate) parts: Vec<Package>,
+    pub(crate) parts: PartRows,
     pub(crate) lists: Lists,
 }
 
@@ -25,24 +25,24 @@ impl Model for FlatRows {
     ghost Value = { FlatData };
 
     ghost view = { λ f. record {
-      parts = f.parts.items;
-      conductors = flat_in f.parts.items f.lists;
+      parts = f.parts;
+      conductors = flat_in f.parts f.lists;
     } };
 
-    ghost invariant = { λ f. AreRows f.parts.items f.lists };
+    ghost invariant = { λ f. AreRows f.parts f.lists };
 }
 
 impl FlatRows {
-    /// The listed parts. It takes no memory.
-    pub fn parts(&self) -> &[Package]
-        ensures { result.now ≡ self.now.parts }
+    /// The printed refdes of each listed part. It takes no memory.
+    pub fn refdeses(&self) -> &[Line]
+        ensures { result.now ≡ map (λ p. p.refdes) self.now.parts }
     {
-        &self.parts
+        self.parts.refdeses()
     }
 
     /// The listed parts alone. It takes no memory.
-    pub fn into_parts(self) -> Vec<Package>
-        ensures { result.items ≡ self.parts }
+    pub fn into_parts(self) -> PartRows
+        ensures { result ≡ self.parts }
     {
         self.parts
     }

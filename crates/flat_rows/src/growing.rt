@@ -4,6 +4,7 @@ ghost use Rattle.flat_rows.specs.Rows.{IsPartOf, conductor_of, named_conductor, 
 
 use crate::flat::FlatRows;
 use crate::lists::Lists;
+use crate::parts::PartRows;
 use crate::rows::{FlatRow, NewConductor, RowMember};
 use geda_model::Block;
 use net_list::Package;
@@ -13,7 +14,7 @@ use std::marker::Model;
 /// What joins in a project and its listed parts, as far as its objects are taken in.
 #[derive(Drop)]
 pub struct GrowingRows {
-    parts: Vec<Package>,
+    parts: PartRows,
     drawn: Lists,
     hidden: Lists,
 }
@@ -25,12 +26,12 @@ impl Model for GrowingRows {
     ghost Value = { GrowingData };
 
     ghost view = { λ g. record {
-      parts = g.parts.items;
-      drawn = flat_in g.parts.items g.drawn;
-      hidden = flat_in g.parts.items g.hidden;
+      parts = g.parts;
+      drawn = flat_in g.parts g.drawn;
+      hidden = flat_in g.parts g.hidden;
     } };
 
-    ghost invariant = { λ g. AreRows g.parts.items g.drawn × AreRows g.parts.items g.hidden };
+    ghost invariant = { λ g. AreRows g.parts g.drawn × AreRows g.parts g.hidden };
 }
 
 impl GrowingRows {
@@ -42,13 +43,13 @@ impl GrowingRows {
         ensures hidden { IfOk result (λ g. g.hidden ≡ []) }
     {
         Ok(GrowingRows {
-            parts: Vec::with_capacity(alloc, objects)?,
+            parts: PartRows::with_room(alloc, objects)?,
             drawn: Lists::with_room(alloc, objects.saturating_mul(3))?,
             hidden: Lists::with_room(alloc, objects)?,
         })
     }
 
-    /// Puts a listed part behind the others, and gives its place.
+    /// Puts a listed part behind the others, and gives its place. On want of memory all is gone.
     pub fn add_part(&mut self, part: Package) -> Result<usize, AllocError>
         ensures place { IfOk result (λ place. place ≡ length self.old.parts) }
         ensures parts { OnOk result (self.new.parts ≡ self.old.parts ++ part ∷ []) }
@@ -56,7 +57,11 @@ impl GrowingRows {
         ensures hidden { OnOk result (self.new.hidden ≡ self.old.hidden) }
     {
         let place = self.parts.len();
-        self.parts.push(part)?;
+        if let Err(error) = self.parts.push(part) {
+            self.drawn.clear();
+            self.hidden.clear();
+            return Err(error);
+        }
         Ok(place)
     }
 

@@ -54,7 +54,8 @@ fn put_copies(
     Ok(())
 }
 
-fn put<T: Drop>(
+/// Puts a value, if there is one, behind others, with its place.
+pub fn put<T: Drop>(
     list: &mut Vec<(T, usize)>,
     value: Option<T>,
     place: usize,

@@ -8,4 +8,4 @@ use Rattle.flat_rows.proofs.flat.FlatRows.downs.Goals as goal
 pub returns : goal.returns
 returns c =
     let f = c.self.inside in
-    rw c.deref.ensures.value (subst (λ (d : FlatData). f.lists.downs.items ≡ keyed_from (λ c. option_to_list c.leads_down) 0 d.conductors) c.self.view_is (downs_tell f.parts.items f.lists c.self.invariant))
+    rw c.deref.ensures.value (subst (λ (d : FlatData). f.lists.downs.items ≡ keyed_from (λ c. option_to_list c.leads_down) 0 d.conductors) c.self.view_is (downs_tell f.parts f.lists c.self.invariant))

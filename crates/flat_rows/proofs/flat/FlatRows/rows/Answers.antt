@@ -7,4 +7,4 @@ use Rattle.flat_rows.proofs.flat.FlatRows.rows.Goals as goal
 pub returns : goal.returns
 returns c =
     let f = c.self.inside in
-    rw c.deref.ensures.value (subst (λ (d : FlatData). f.lists.rows.items ≡ map row_of d.conductors) c.self.view_is (rows_tell f.parts.items f.lists c.self.invariant))
+    rw c.deref.ensures.value (subst (λ (d : FlatData). f.lists.rows.items ≡ map row_of d.conductors) c.self.view_is (rows_tell f.parts f.lists c.self.invariant))

@@ -13,8 +13,8 @@ invariant_of-result c =
     let drawn = conductors_in g.drawn in
     let hidden = conductors_in g.hidden in
     let more = c.in_ok-append.ensures drawn hidden c.self.invariant.0.lists c.self.invariant.1.lists in
-    rows_are g.parts.items c.append.new.self (drawn ++ hidden) more
-    (All-append (HasPart (length g.parts.items)) drawn hidden c.self.invariant.0.known c.self.invariant.1.known)
+    rows_are g.parts c.append.new.self (drawn ++ hidden) more
+    (All-append (HasPart (length g.parts)) drawn hidden c.self.invariant.0.known c.self.invariant.1.known)
 
 pub returns-clause-conductors : goal.returns-clause-conductors
 returns-clause-conductors c =
@@ -22,6 +22,6 @@ returns-clause-conductors c =
     let drawn = conductors_in g.drawn in
     let hidden = conductors_in g.hidden in
     let more = c.in_ok-append.ensures drawn hidden c.self.invariant.0.lists c.self.invariant.1.lists in
-    flat_is g.parts.items c.append.new.self (drawn ++ hidden) more
-    ∙ map-append (conductor_of g.parts.items) drawn hidden
+    flat_is g.parts c.append.new.self (drawn ++ hidden) more
+    ∙ map-append (conductor_of g.parts) drawn hidden
     ∙ ap (λ (d : GrowingData). d.drawn ++ d.hidden) c.self.view_is

@@ -10,11 +10,11 @@ invariant_of-self-in_default c =
     let g = c.self.inside in
     let part = subst (λ (d : GrowingData). IsPartOf (length d.parts) c.args.conductor.member) (sym c.self.view_is) c.requires in
     let more = c.in_default.ensures (conductors_in g.drawn) c.self.invariant.0.lists in
-    (rows_push g.parts.items g.drawn c.push.new.self c.args.conductor c.self.invariant.0 more part, c.self.invariant.1)
+    (rows_push g.parts g.drawn c.push.new.self c.args.conductor c.self.invariant.0 more part, c.self.invariant.1)
 
 pub returns-clause-drawn : goal.returns-clause-drawn
 returns-clause-drawn c =
     let g = c.self.inside in
     let more = c.in_default.ensures (conductors_in g.drawn) c.self.invariant.0.lists in
-    flat_push g.parts.items g.drawn c.push.new.self c.args.conductor c.self.invariant.0 more
+    flat_push g.parts g.drawn c.push.new.self c.args.conductor c.self.invariant.0 more
     ∙ ap (λ (d : GrowingData). d.drawn ++ conductor_of d.parts c.args.conductor ∷ []) c.self.view_is

@@ -10,11 +10,11 @@ invariant_of-self-in_default c =
     let g = c.self.inside in
     let part = subst (λ (d : GrowingData). IsPartOf (length d.parts) c.args.conductor.member) (sym c.self.view_is) c.requires in
     let more = c.in_default.ensures (conductors_in g.hidden) c.self.invariant.1.lists in
-    (c.self.invariant.0, rows_push g.parts.items g.hidden c.push.new.self c.args.conductor c.self.invariant.1 more part)
+    (c.self.invariant.0, rows_push g.parts g.hidden c.push.new.self c.args.conductor c.self.invariant.1 more part)
 
 pub returns-clause-hidden : goal.returns-clause-hidden
 returns-clause-hidden c =
     let g = c.self.inside in
     let more = c.in_default.ensures (conductors_in g.hidden) c.self.invariant.1.lists in
-    flat_push g.parts.items g.hidden c.push.new.self c.args.conductor c.self.invariant.1 more
+    flat_push g.parts g.hidden c.push.new.self c.args.conductor c.self.invariant.1 more
     ∙ ap (λ (d : GrowingData). d.hidden ++ conductor_of d.parts c.args.conductor ∷ []) c.self.view_is

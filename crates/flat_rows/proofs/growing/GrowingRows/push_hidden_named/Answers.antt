@@ -11,12 +11,12 @@ invariant_of-self-in_default c =
     let d = named_conductor c.args.row c.args.member c.args.names.now in
     let part = subst (λ (x : GrowingData). IsPartOf (length x.parts) c.args.member) (sym c.self.view_is) c.requires in
     let more = c.in_default.ensures (conductors_in g.hidden) c.self.invariant.1.lists in
-    (c.self.invariant.0, rows_push g.parts.items g.hidden c.push_named.new.self d c.self.invariant.1 more part)
+    (c.self.invariant.0, rows_push g.parts g.hidden c.push_named.new.self d c.self.invariant.1 more part)
 
 pub returns-clause-hidden : goal.returns-clause-hidden
 returns-clause-hidden c =
     let g = c.self.inside in
     let d = named_conductor c.args.row c.args.member c.args.names.now in
     let more = c.in_default.ensures (conductors_in g.hidden) c.self.invariant.1.lists in
-    flat_push g.parts.items g.hidden c.push_named.new.self d c.self.invariant.1 more
+    flat_push g.parts g.hidden c.push_named.new.self d c.self.invariant.1 more
     ∙ ap (λ (x : GrowingData). x.hidden ++ conductor_of x.parts d ∷ []) c.self.view_is

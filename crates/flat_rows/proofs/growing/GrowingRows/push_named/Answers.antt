@@ -11,12 +11,12 @@ invariant_of-self-in_default c =
     let d = named_conductor c.args.row c.args.member c.args.names.now in
     let part = subst (λ (x : GrowingData). IsPartOf (length x.parts) c.args.member) (sym c.self.view_is) c.requires in
     let more = c.in_default.ensures (conductors_in g.drawn) c.self.invariant.0.lists in
-    (rows_push g.parts.items g.drawn c.push_named.new.self d c.self.invariant.0 more part, c.self.invariant.1)
+    (rows_push g.parts g.drawn c.push_named.new.self d c.self.invariant.0 more part, c.self.invariant.1)
 
 pub returns-clause-drawn : goal.returns-clause-drawn
 returns-clause-drawn c =
     let g = c.self.inside in
     let d = named_conductor c.args.row c.args.member c.args.names.now in
     let more = c.in_default.ensures (conductors_in g.drawn) c.self.invariant.0.lists in
-    flat_push g.parts.items g.drawn c.push_named.new.self d c.self.invariant.0 more
+    flat_push g.parts g.drawn c.push_named.new.self d c.self.invariant.0 more
     ∙ ap (λ (x : GrowingData). x.drawn ++ conductor_of x.parts d ∷ []) c.self.view_is
