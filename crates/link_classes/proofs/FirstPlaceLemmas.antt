@@ -14,7 +14,7 @@ use Rattle.pair_classes.specs.Pairs.{IsSameAt, Spans}
 use Rattle.pair_classes.proofs.LabelLemmas.{joined_by}
 use Rattle.link_classes.proofs.ListLemmas.{no_conductor}
 
-option_or-none : (o : Option ℕ) → option_or o None ≡ o
+pub option_or-none : (o : Option ℕ) → option_or o None ≡ o
 option_or-none None = refl
 option_or-none (Some v) = refl
 
@@ -121,7 +121,7 @@ module _ {K : Type 0} (keys : FlatConductor → List K) where
       ∙ sym (append_assoc (keyed_at place (keys f)) (keyed_from keys (place + 1) fs) (keyed_from keys (place + 1 + length fs) gs))
       ∙ ap (λ (n : ℕ). (keyed_at place (keys f) ++ keyed_from keys (place + 1) fs) ++ keyed_from keys n gs) (omega arith)
 
-  keyed_next : (fs : List FlatConductor) (k : ℕ) (f : FlatConductor) → k < length fs → f ≡ get_or fs k f → keyed_from keys 0 (take k fs) ++ keyed_at k (keys f) ≡ keyed_from keys 0 (take (k + 1) fs)
+  pub keyed_next : (fs : List FlatConductor) (k : ℕ) (f : FlatConductor) → k < length fs → f ≡ get_or fs k f → keyed_from keys 0 (take k fs) ++ keyed_at k (keys f) ≡ keyed_from keys 0 (take (k + 1) fs)
   keyed_next fs k f h is =
       let len : length (take k fs) ≡ k = length-take k fs ∙ omega arith in
       let whole : take (k + 1) fs ≡ take k fs ++ f ∷ [] = take_more fs k f h ∙ ap (λ (x : FlatConductor). take k fs ++ x ∷ []) (sym is) in

@@ -12,25 +12,13 @@ ghost use Rattle.link_classes.specs.steps.GroupPlaces.{InstanceGroup, group_plac
 ghost use Rattle.link_classes.specs.steps.GroupPlaces.{same_group};
 ghost use Rattle.pair_classes.specs.Pairs.{Spans};
 
+use crate::rows::key_row;
+use crate::runs::rising_pairs;
 use flat_rows::{FlatRow, FlatRows};
 use geda_geom::Key;
 use std::alloc::{AllocError, Global};
 use std::collections::HashMap;
 use std::collections::hash_map::Entry;
-
-/// The group of a key, if it has one, by a search. The place after that of its row comes next.
-fn searched_group(rows: &[(Key, Key)], next: &mut usize, key: Key) -> Option<Key>
-    requires rising { IsStrictlySortedBy by_key (keys_of rows.now) }
-    ensures { result ≡ groups_by rows.now key }
-{
-    match rows.binary_search_by_key(&key, |row| row.0) {
-        Ok(place) => {
-            *next = place.saturating_add(1);
-            Some(rows[place].1)
-        }
-        Err(_) => None,
-    }
-}
 
 /// The group of a key, if it has one. In an instance keys rise, so that its row comes next for the
 /// most part.
@@ -38,13 +26,9 @@ fn group_at(rows: &[(Key, Key)], next: &mut usize, key: Key) -> Option<Key>
     requires rising { IsStrictlySortedBy by_key (keys_of rows.now) }
     ensures { result ≡ groups_by rows.now key }
 {
-    if let Some(row) = rows.get(*next) {
-        if row.0 == key {
-            *next = next.saturating_add(1);
-            return Some(row.1);
-        }
-    }
-    searched_group(rows, next, key)
+    let at = key_row(rows, *next, &key)?;
+    *next = at.saturating_add(1);
+    Some(rows[at].1)
 }
 
 /// The instance and the group of a conductor, if it is drawn and has a group. The place after that
@@ -103,8 +87,9 @@ fn tie_member(
     Ok(())
 }
 
-/// Pairs that stand for all that touches: at most one for each conductor.
-pub(crate) fn group_pairs(
+/// Pairs that stand for all that touches, whatever the order of the conductors: at most one for
+/// each.
+fn mapped_pairs(
     alloc: Global,
     flat: &FlatRows,
     groups: &[(Key, Key)],
@@ -123,4 +108,22 @@ pub(crate) fn group_pairs(
         tie_member(&mut first, &mut pairs, group, place)?;
     }
     Ok(pairs)
+}
+
+/// Pairs that stand for all that touches: at most one for each conductor. A map is needed only
+/// where the instances of what is drawn fall, or the key of a group has no row.
+pub(crate) fn group_pairs(
+    alloc: Global,
+    flat: &FlatRows,
+    groups: &[(Key, Key)],
+) -> Result<Vec<(usize, usize)>, AllocError>
+    requires groups { AreInstanceGroups flat.now.conductors (groups_by groups.now) }
+    requires rising { IsStrictlySortedBy by_key (keys_of groups.now) }
+    ensures { IfOk result (λ pairs. Spans (AtPlaces AreTouching flat.now.conductors)
+        (length flat.now.conductors) pairs.items) }
+{
+    if let Some(pairs) = rising_pairs(alloc, flat, groups)? {
+        return Ok(pairs);
+    }
+    Ok(mapped_pairs(alloc, flat, groups)?)
 }

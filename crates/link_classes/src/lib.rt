@@ -12,5 +12,7 @@ mod groups;
 mod labels;
 mod names;
 mod ports;
+mod rows;
+mod runs;
 
 pub use labels::class_labels;

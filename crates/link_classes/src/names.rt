@@ -58,9 +58,11 @@ pub(crate) fn name_pairs(alloc: Global, flat: &FlatRows) -> Result<Vec<(usize, u
     ensures { IfOk result (λ pairs. Spans (AtPlaces ShareName flat.now.conductors)
         (length flat.now.conductors) pairs.items) }
 {
+    let globals = flat.global_names();
+    let drawn = flat.drawn_names();
     let mut first = HashMap::new(alloc);
-    let mut pairs = Vec::new(alloc);
-    tie_names(alloc, &mut first, &mut pairs, flat.global_names())?;
-    tie_names(alloc, &mut first, &mut pairs, flat.drawn_names())?;
+    let mut pairs = Vec::with_capacity(alloc, globals.len().saturating_add(drawn.len()))?;
+    tie_names(alloc, &mut first, &mut pairs, globals)?;
+    tie_names(alloc, &mut first, &mut pairs, drawn)?;
     Ok(pairs)
 }

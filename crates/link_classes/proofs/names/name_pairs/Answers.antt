@@ -10,5 +10,5 @@ returns c =
     let first = get_by_text c.tie_names-2.new.first in
     let pairs = c.tie_names-2.new.pairs.items in
     let globals = c.in_ok-tie_names.ensures [] (search rules) in
-    let all = c.in_ok-tie_names-2.ensures ([] ++ c.global_names.result.now) globals in
-    spans_keys names_of first pairs cs (ties_names first pairs cs c.global_names.result.now c.drawn_names.result.now c.global_names.ensures c.drawn_names.ensures all)
+    let all = c.in_ok-tie_names-2.ensures ([] ++ c.global_names-globals.result.now) globals in
+    spans_keys names_of first pairs cs (ties_names first pairs cs c.global_names-globals.result.now c.drawn_names-drawn.result.now c.global_names-globals.ensures c.drawn_names-drawn.ensures all)

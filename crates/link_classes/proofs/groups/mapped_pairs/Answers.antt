@@ -6,7 +6,7 @@ use Rattle.link_classes.specs.steps.GroupPlaces.{group_place, groups_of, row_gro
 use Rattle.link_classes.proofs.FirstPlaceLemmas.{spans_all, ties_next}
 use Rattle.link_classes.proofs.GroupLemmas.{spans_touching}
 use Rattle.link_classes.proofs.ListLemmas.{no_conductor, row_is, rows_length}
-use Rattle.link_classes.proofs.groups.group_pairs.Goals as goal
+use Rattle.link_classes.proofs.groups.mapped_pairs.Goals as goal
 
 pub loop-place-preserved : goal.loop-place-preserved
 loop-place-preserved c =
