@@ -60,6 +60,7 @@ fn add_package(
 }
 
 /// Adds the package of a component with these first values in this role, if it is a listed part.
+#[inline(always)]
 pub fn listed_role(
     rows: &mut GrowingRows,
     alloc: Global,

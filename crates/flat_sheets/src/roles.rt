@@ -93,6 +93,7 @@ fn role_by(
 
 /// What a component with these first values is in an instance of its sheet (docs/RULES.md,
 /// "Packages", "Ports" and "No-connection directives").
+#[inline(always)]
 pub fn role_of(
     alloc: Global,
     found: &InstanceObject<'_>,
