@@ -22,10 +22,11 @@ use Rattle.net_names.specs.NetLists.{by_name, first_or, is_named, named_net}
 use Rattle.net_names.specs.declared.net_classes.ClassBody.{ClassBody}
 use Rattle.net_names.specs.declared.net_classes.NetClasses.{NetClasses}
 use Rattle.net_names.specs.steps.Orders.{by_member_total}
-use Rattle.net_names.specs.steps.Classes.{IsGathered, bodies_of, body_of, is_numbered, named_of, net_with, news, walk_pins, with_named}
+use Rattle.net_names.specs.steps.Classes.{IsGathered, bodies_of, body_of, is_numbered, named_of, net_with, news, pins_by, walk_pins, with_named}
 use Rattle.net_names.specs.steps.Gathering.{GrowingClassData, IsGrown, empty_class, is_nameless, lesser}
 use Rattle.net_names.specs.steps.Pins.{label_of, pins_in_order}
 use Rattle.net_names.proofs.GatheringLemmas.{least_first}
+use Rattle.net_names.proofs.OrderedLemmas.{places_there}
 use Rattle.net_names.proofs.PinLemmas.{chain_pins, news_are}
 use Rattle.net_names.proofs.RankedNets.{class_filled, class_pins, ordered_are}
 
@@ -75,7 +76,7 @@ module _ (conductors : List FlatConductor) (labels : List ℕ) (same : length la
   C = net_class_of (labelled_from 0 conductors labels)
 
   abbrev pins : List ClassPinData
-  pins = c.ordered.pins.items
+  pins = pins_by c.ordered
 
   abbrev places : List ℕ
   places = c.ordered.places.items
@@ -83,7 +84,7 @@ module _ (conductors : List FlatConductor) (labels : List ℕ) (same : length la
   -- the chain of a label walks over the pins with it
   chain_of : (r : ℕ) → walk_pins pins places (places_from 0 (map (label_of labels) (pins_in_order conductors)) r) ≡ filter (λ p. label_of labels p == r) (pins_in_order conductors)
   chain_of r = subst (λ (ps : List ClassPinData). walk_pins pins places (places_from 0 (map (label_of labels) ps) r) ≡ filter (λ p. label_of labels p == r) ps) are.ordered.order
-      (chain_pins (label_of labels) r pins places are.whole.order.inside)
+      (chain_pins (label_of labels) r pins places (places_there c.ordered places are.whole.order.inside))
 
   pub members_of : (r : ℕ) (members : List Member) → r < length conductors
       → ((walk : List ℕ) → IsWalk c.chains.nexts.items (slice_index c.chains.heads.items r) walk → members ≡ map (λ p. p.member) (news (eq_by_cmp by_member) None (walk_pins pins places walk)))

@@ -11,14 +11,17 @@ use Rattle.rank_order.proofs.KeyLemmas.{met_map}
 use Rattle.rank_order.proofs.OrderLemmas.{all_append, all_moved}
 use Rattle.flat_rows.specs.Conductors.{FlatConductor}
 use Rattle.flat_rows.specs.Keyed.{Keyed, keyed_at, keyed_from}
-use Rattle.flat_rows.specs.Rows.{row_of}
+use Rattle.flat_rows.specs.Rows.{member_of, row_of}
+use Rattle.flat_rows.specs.declared.rows.RowMember.{RowMember}
 use Rattle.net_list.specs.declared.member.Member.{Member}
+use Rattle.net_list.specs.declared.package.Package.{Package}
 use Rattle.net_names.specs.NetClasses.{ClassPinData, labelled_from, net_class_of}
 use Rattle.net_names.specs.declared.net_classes.NetClasses.{NetClasses}
-use Rattle.net_names.specs.steps.Classes.{AreOrdered, IsGathered}
+use Rattle.net_names.specs.steps.Classes.{AreOrdered, IsGathered, pins_by}
 use Rattle.net_names.specs.steps.Gathering.{GrowingClassData, IsGrown, empty_class, grown}
 use Rattle.net_names.specs.steps.Pins.{at_places, label_of, labels_at, pins_in_order, pins_of, placed_pin}
 use Rattle.net_names.proofs.GatheringLemmas.{grown_length, grown_told}
+use Rattle.net_names.proofs.OrderedLemmas.{pins_placed, places_there}
 use Rattle.net_names.proofs.PinLemmas.{length_at}
 
 -- the places of keys are those of conductors
@@ -37,6 +40,19 @@ within keys cs = all_moved (λ k. k.1 < 0 + length cs) (λ k. k.1 < length cs) (
 
 pub keys_within : {K : Type 0} (keys : FlatConductor → List K) (cs : List FlatConductor) → All (λ k. k.1 < length cs) (keyed_from keys 0 cs)
 keys_within keys cs = All-from_recursion (λ k. k.1 < length cs) (keyed_from keys 0 cs) (within keys cs)
+
+all_unmapped : {X Y : Type 0} (P : Y → Type 0) (f : X → Y) (xs : List X) → AllByRecursion P (map f xs) → AllByRecursion (λ x. P (f x)) xs
+all_unmapped P f [] a = tt
+all_unmapped P f (x ∷ xs) a = (a.0, all_unmapped P f xs a.1)
+
+-- members stand at places of conductors
+pub members_within : (parts : List Package) (members : List (Keyed RowMember)) (conductors : List FlatConductor)
+    → map (λ m. (member_of parts m.0, m.1)) members ≡ keyed_from (λ c. option_to_list c.member) 0 conductors → All (λ m. m.1 < length conductors) members
+members_within parts members conductors told =
+    let place : Keyed RowMember → Keyed Member = λ m. (member_of parts m.0, m.1) in
+    let within = recursion_from_All (λ k. k.1 < length conductors) (keyed_from (λ c. option_to_list c.member) 0 conductors) (keys_within (λ c. option_to_list c.member) conductors) in
+    All-from_recursion (λ m. m.1 < length conductors) members
+    (all_unmapped (λ k. k.1 < length conductors) place members (subst (λ (ks : List (Keyed Member)). AllByRecursion (λ k. k.1 < length conductors) ks) (sym told) within))
 
 all_placed : (n : ℕ) (ks : List (Keyed Member)) → AllByRecursion (λ k. k.1 < n) ks → AllByRecursion (λ p. p.place < n) (map placed_pin ks)
 all_placed n [] a = tt
@@ -96,24 +112,25 @@ rows_count cs = length-map cs row_of
 
 -- what was made of conductors is gathered of them
 pub gathered : (conductors : List FlatConductor) (labels : List ℕ) (c : NetClasses) (pin_labels : List ℕ) → length labels ≡ length conductors → All (λ l. l < length conductors) labels
-    → AreOrdered conductors c.ordered → pin_labels ≡ labels_at c.ordered.pins.items c.ordered.places.items labels
+    → AreOrdered conductors c.ordered → pin_labels ≡ labels_at (pins_by c.ordered) c.ordered.places.items labels
     → AreChains pin_labels (length labels) c.chains.heads.items c.chains.nexts.items → c.met.items ≡ met (λ l. l) pin_labels
     → c.growing.items ≡ grown (map row_of conductors) (keyed_from (λ c. c.global_names) 0 conductors) (keyed_from (λ c. c.drawn_names) 0 conductors) labels
     → IsGathered conductors labels c
 gathered conductors labels c pin_labels len below ordered told chains seen grows =
-    let pins = c.ordered.pins.items in
+    let pins = pins_by c.ordered in
     let places = c.ordered.places.items in
     let are : pin_labels ≡ map (label_of labels) (pins_in_order conductors) = told ∙ ap (map (label_of labels)) ordered.order in
     let count : length c.growing.items ≡ length conductors = ap length grows ∙ grown_length conductors labels len in
-    let inside : All (λ p. p.place < length labels) pins = subst (λ (n : ℕ). All (λ p. p.place < n) pins) (sym len) ordered.pins in
+    let inside : All (λ p. p.place < length labels) pins = pins_placed c.ordered (length labels) (subst (λ (n : ℕ). All (λ m. m.1 < n) c.ordered.members.now) (sym len) ordered.pins) in
     let all_below : All (λ l. l < length conductors) (met (λ l. l) pin_labels) = met_below (length conductors) pin_labels (subst (λ (ls : List ℕ). All (λ l. l < length conductors) ls) (sym told) (labels_below (length conductors) pins places labels inside below)) in
     record {
       labels_len = len;
       ordered = ordered;
       whole = record {
+        ranked = ordered.ranked;
         order = record {
           inside = ordered.places;
-          len = chains.all_places ∙ ap length told ∙ length-map (at_places pins places) (label_of labels) ∙ length_at pins places ordered.places;
+          len = chains.all_places ∙ ap length told ∙ length-map (at_places pins places) (label_of labels) ∙ length_at pins places (places_there c.ordered places ordered.places);
           rises = chains.rises;
         };
         heads = chains.all_ranks ∙ len ∙ sym count;

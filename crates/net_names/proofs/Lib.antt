@@ -1,9 +1,10 @@
-pub mod HeadLemmas
 pub mod RankedNets
 pub mod PinLemmas
 pub mod GatheringLemmas
 pub mod GatheredLemmas
+pub mod StemLemmas
 pub mod NumberingLemmas
+pub mod OrderedLemmas
 pub mod BodyLemmas
 pub mod PackageLemmas
 pub mod ListingLemmas

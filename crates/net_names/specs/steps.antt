@@ -1,5 +1,4 @@
 -- Steps of the code; no public clause cites them.
-pub mod Heads
 pub mod Orders
 pub mod PackageRows
 pub mod Pins

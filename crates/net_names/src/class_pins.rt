@@ -1,17 +1,15 @@
 // The pins of listed parts, lent, with their places, and their order.
 ghost use Rattle.std.specs.Prelude.{◌≡◌, ◌<◌, All, IfOk, length, map};
-ghost use Rattle.std.specs.Ordering.{eq_by_cmp};
-ghost use Rattle.net_names.specs.NetClasses.{by_member};
-ghost use Rattle.net_names.specs.steps.Pins.{labels_at, pin_in, ranks_of_pins};
+ghost use Rattle.net_names.specs.steps.Pins.{pin_under, ranks_of_pins};
 
-use crate::heads::short_text_head;
 use attr_rules::PinKind;
 use flat_rows::RowMember;
 use geda_model::{Line, Word};
-use net_list::{Member, Package};
+use net_list::Member;
 use std::alloc::{AllocError, Global};
 use std::cmp::Ordering;
 use std::marker::Model;
+use text_heads::short_text_head;
 
 /// A pin of a listed part, with its place. Pins are ordered by number alone.
 #[derive(Debug, Drop)]
@@ -30,7 +28,7 @@ pub struct ClassPin<'a> {
 
 impl<'a> Model for ClassPin<'a> {
     ghost use Rattle.net_names.specs.NetClasses.{ClassPinData};
-    ghost use Rattle.net_names.specs.steps.Heads.{IsTextHead};
+    ghost use Rattle.text_heads.specs.Heads.{IsTextHead};
 
     ghost Value = { ClassPinData };
 
@@ -113,44 +111,35 @@ impl<'a> ClassPin<'a> {
         let kind = self.kind;
         Ok(Member { refdes, pin, kind })
     }
-
-    /// Whether another one prints alike. Numbers are short, and mostly differ.
-    pub fn prints_as(&self, other: &ClassPin<'a>) -> bool
-        ensures { result ≡ eq_by_cmp by_member self.now other.now }
-    {
-        if self.cmp(other).is_ne() {
-            return false;
-        }
-        self.refdes.cmp(other.refdes).is_eq()
-    }
 }
 
-fn class_pin<'a>(parts: &'a [Package], member: &'a (RowMember, usize)) -> ClassPin<'a>
-    requires { member.now.0.part < length parts.now }
-    ensures { result ≡ pin_in parts.now member.now }
+/// The pin that a member of parts with these refdeses is. It takes no memory.
+pub fn class_pin<'a>(refdeses: &'a [Line], member: &'a (RowMember, usize)) -> ClassPin<'a>
+    requires { member.now.0.part < length refdeses.now }
+    ensures { result ≡ pin_under refdeses.now member.now }
 {
     let number = &member.0.pin;
     ClassPin {
         place: member.1,
-        refdes: &parts[member.0.part].refdes,
+        refdes: &refdeses[member.0.part],
         number,
         head: short_text_head(number.as_str()),
         kind: member.0.kind,
     }
 }
 
-/// The pins that members of these parts are.
+/// The pins that members of parts with these refdeses are.
 pub fn class_pins<'a>(
     alloc: Global,
-    parts: &'a [Package],
+    refdeses: &'a [Line],
     members: &'a [(RowMember, usize)],
 ) -> Result<Vec<ClassPin<'a>>, AllocError>
-    requires { All (λ m. m.0.part < length parts.now) members.now }
-    ensures { IfOk result (λ pins. pins.items ≡ map (pin_in parts.now) members.now) }
+    requires { All (λ m. m.0.part < length refdeses.now) members.now }
+    ensures { IfOk result (λ pins. pins.items ≡ map (pin_under refdeses.now) members.now) }
 {
     let mut pins = Vec::with_capacity(alloc, members.len())?;
     for at in 0..members.len() {
-        pins.push(class_pin(parts, &members[at]))?;
+        pins.push(class_pin(refdeses, &members[at]))?;
     }
     Ok(pins)
 }
@@ -167,25 +156,6 @@ pub fn ranks_of_pins(
     let mut found = Vec::with_capacity(alloc, members.len())?;
     for at in 0..members.len() {
         found.push(ranks[members[at].0.part])?;
-    }
-    Ok(found)
-}
-
-/// The label of each of some pins, at places of them.
-pub fn labels_of_pins(
-    alloc: Global,
-    pins: &[ClassPin<'_>],
-    places: &[usize],
-    labels: &[usize],
-) -> Result<Vec<usize>, AllocError>
-    requires places { All (λ place. place < length pins.now) places.now }
-    requires pins { All (λ pin. pin.place < length labels.now) pins.now }
-    ensures { IfOk result (λ found. found.items ≡ labels_at pins.now places.now labels.now) }
-{
-    let mut found = Vec::with_capacity(alloc, places.len())?;
-    for at in 0..places.len() {
-        let pin = &pins[places[at]];
-        found.push(labels[pin.place])?;
     }
     Ok(found)
 }

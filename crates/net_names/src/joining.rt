@@ -34,7 +34,7 @@ fn joined(alloc: Global, flat: FlatRows, groups: Vec<(Key, Key)>) -> Result<Nets
 {
     let labels = class_labels(alloc, &flat, &groups)?;
     drop(groups);
-    let ranks = part_ranks(alloc, flat.parts())?;
+    let ranks = part_ranks(alloc, flat.refdeses())?;
     let nets = nets_by(alloc, &flat, &ranks, labels)?;
     let packages = packages_of(alloc, flat.into_parts(), &ranks)?;
     Ok(Nets { packages, nets })

@@ -8,7 +8,6 @@
 
 mod class_pins;
 mod gathering;
-mod heads;
 mod joining;
 mod laws;
 mod listing;

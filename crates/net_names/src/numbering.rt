@@ -1,9 +1,14 @@
 // Nets without names, numbered from 1 in order; numbers that name conductors are skipped.
-ghost use Rattle.std.specs.Prelude.{◌≡◌, ◌++◌, ◌+◌, ◌<◌, ◌^◌, ℕ, List};
-ghost use Rattle.std.specs.Prelude.{IfOk, OnOk, decimal, length};
+ghost use Rattle.std.specs.Prelude.{◌≡◌, ◌++◌, ◌+◌, ◌<◌, ◌^◌, ℕ, List, IfOk, OnOk, decimal, length};
+ghost use Rattle.std.specs.BTreeMap.{is_at};
+ghost use Rattle.std.specs.Bool.{OnFalse};
+ghost use Rattle.std.specs.List.{list_any};
+ghost use Rattle.std.specs.Set.{remove_key};
+ghost use Rattle.std.specs.String.{string_bytes};
+ghost use Rattle.geda_defs.specs.Order.{by_bytes};
 ghost use Rattle.flat_rows.specs.Conductors.{FlatConductor};
 ghost use Rattle.net_names.specs.steps.Classes.{IsGathered, IsWhole, bodies_of};
-ghost use Rattle.net_names.specs.steps.Numbering.{AreNumbered, IsNextFree};
+ghost use Rattle.net_names.specs.steps.Numbering.{AreNumbered, IsNextFree, IsStemBefore, stem_of};
 
 use crate::named::net_with;
 use crate::names::NetName;
@@ -14,47 +19,76 @@ use net_list::{Net, NetSort};
 use std::alloc::{AllocError, Global};
 use std::collections::BTreeSet;
 
-/// A prefix and a number as a name, by way of a text that is used again for the next one.
+/// Makes a text the stem of a number, the prefix and all digits but the last. Numbers that differ
+/// in the last digit alone have one stem.
+#[inline(always)]
+fn put_stem(stem: &mut String, prefix: &str, number: usize) -> Result<(), AllocError>
+    requires { IsStemBefore prefix.now number (string_bytes stem.old) }
+    ensures { OnOk result (string_bytes stem.new ≡ stem_of prefix.now number) }
+{
+    if number % 10 != 0 {
+        return Ok(());
+    }
+    let mut digits = Buffer::new();
+    stem.clear();
+    stem.push_str(prefix)?;
+    stem.push_str(digits.format(number / 10))?;
+    Ok(())
+}
+
+/// A prefix and a number as a name, by way of the stem, to which the text is cut back again.
+#[inline(always)]
 fn numbered_name(
     alloc: Global,
-    text: &mut String,
+    stem: &mut String,
     prefix: &str,
     number: usize,
 ) -> Result<NetName, AllocError>
-    ensures { IfOk result (λ name. name ≡ prefix.now ++ decimal number) }
+    requires { IsStemBefore prefix.now number (string_bytes stem.old) }
+    ensures name { IfOk result (λ name. name ≡ prefix.now ++ decimal number) }
+    ensures stem { OnOk result (IsStemBefore prefix.now (number + 1) (string_bytes stem.new)) }
 {
-    let mut digits = Buffer::new();
-    text.clear();
-    text.push_str(prefix)?;
-    text.push_str(digits.format(number))?;
-    Ok(NetName {
-        text: Block::new(alloc, text)?,
-    })
+    put_stem(stem, prefix, number)?;
+    let len = stem.len();
+    stem.push((b'0' + (number % 10) as u8) as char)?;
+    let text = Block::new(alloc, stem)?;
+    stem.truncate(len);
+    Ok(NetName { text })
+}
+
+/// Takes a name out of those that are taken. The result tells whether it was there.
+fn take_out(taken: &mut BTreeSet<NetName>, name: &NetName) -> bool
+    ensures test { result ≡ list_any (is_at (by_bytes name.now)) taken.old.keys }
+    ensures keys { taken.new.keys ≡ remove_key (is_at (by_bytes name.now)) taken.old.keys }
+    ensures same { OnFalse result (taken.new.keys ≡ taken.old.keys) }
+{
+    if taken.is_empty() {
+        return false;
+    }
+    taken.remove(name)
 }
 
 /// The first number from one on whose text is not taken, and that text. Names that were met are
 /// taken out, since no later number has their texts.
 fn free_name(
     alloc: Global,
-    text: &mut String,
+    stem: &mut String,
     prefix: &str,
     from: usize,
     taken: &mut BTreeSet<NetName>,
 ) -> Result<(usize, NetName), AllocError>
-    requires { from + length taken.old.keys < 2 ^ 64 }
+    requires room { from + length taken.old.keys < 2 ^ 64 }
+    requires stem { IsStemBefore prefix.now from (string_bytes stem.old) }
     ensures number { IfOk result
         (λ r. IsNextFree prefix.now taken.old.keys taken.new.keys from r.0) }
     ensures name { IfOk result (λ r. r.1 ≡ prefix.now ++ decimal r.0) }
+    ensures stem { IfOk result (λ r. IsStemBefore prefix.now (r.0 + 1) (string_bytes stem.new)) }
 {
-    if taken.is_empty() {
-        let name = numbered_name(alloc, text, prefix, from)?;
-        return Ok((from, name));
-    }
     let mut number = from;
-    let mut name = numbered_name(alloc, text, prefix, number)?;
-    while taken.remove(&name) {
+    let mut name = numbered_name(alloc, stem, prefix, number)?;
+    while take_out(taken, &name) {
         number += 1;
-        name = numbered_name(alloc, text, prefix, number)?;
+        name = numbered_name(alloc, stem, prefix, number)?;
     }
     Ok((number, name))
 }
@@ -78,14 +112,14 @@ pub fn number_classes(
     let count = classes.met.len();
     let _ = taken.len();
     let mut taken = taken;
-    let mut text = String::new(alloc);
+    let mut stem = String::from_str(alloc, prefix)?;
     let mut next = 1;
     for at in 0..count {
         let label = classes.met[at];
         if !classes.growing[label].is_nameless(sort) {
             continue;
         }
-        let (number, name) = free_name(alloc, &mut text, prefix, next, &mut taken)?;
+        let (number, name) = free_name(alloc, &mut stem, prefix, next, &mut taken)?;
         let body = classes.body(alloc, label)?;
         nets.push(net_with(name.text, sort, body))?;
         next = number + 1;

@@ -1,105 +1,149 @@
 // The packages of a list of parts, and the rank of each part among them.
-ghost use Rattle.std.specs.Prelude.{◌≡◌, ◌<◌, None, Some, IfOk, length, map, replicate};
-ghost use Rattle.std.specs.List.{filter_map};
+ghost use Rattle.std.specs.Prelude.{◌≡◌, ◌<◌, [], All, Some, IfOk, length, map, slice_index_or};
 ghost use Rattle.std.specs.Option.{option_or};
-ghost use Rattle.geda_defs.specs.Order.{by_bytes};
+ghost use Rattle.geda_defs.specs.Order.{by_bytes, once_in_order};
 ghost use Rattle.rank_order.specs.Keys.{AreRanks};
 ghost use Rattle.net_names.specs.Packages.{packages_by};
-ghost use Rattle.net_names.specs.steps.PackageRows.{merged, with_part};
+ghost use Rattle.net_names.specs.steps.PackageRows.{bare_package, with_text, with_texts};
 
-use crate::heads::HeadedRefdes;
-use geda_model::{Block, Items};
+use flat_rows::{PartLists, PartRows};
+use geda_model::{Block, Items, Line};
 use net_list::{Package, Packages};
-use rank_order::{Ranks, ranks_of};
+use rank_order::{Ranks, chains_of, ranks_of};
 use std::alloc::{AllocError, Global};
+use text_heads::HeadedRefdes;
 
-fn refdeses<'a>(alloc: Global, parts: &'a [Package]) -> Result<Vec<HeadedRefdes<'a>>, AllocError>
-    ensures { IfOk result (λ refdeses. refdeses.items ≡ map (λ p. p.refdes) parts.now) }
-{
-    let mut refdeses = Vec::with_capacity(alloc, parts.len())?;
-    for at in 0..parts.len() {
-        refdeses.push(HeadedRefdes::new(&parts[at].refdes))?;
-    }
-    Ok(refdeses)
+/// What a part may say of its package.
+#[derive(Clone, Copy, Debug)]
+enum Attribute {
+    Device,
+    Value,
+    Footprint,
 }
 
-/// The rank of each part: the place of its package among the packages.
-pub fn part_ranks(alloc: Global, parts: &[Package]) -> Result<Ranks, AllocError>
-    ensures { IfOk result (λ r.
-        AreRanks by_bytes (map (λ p. p.refdes) parts.now) r.ranks.items r.count) }
+fn headed<'a>(alloc: Global, refdeses: &'a [Line]) -> Result<Vec<HeadedRefdes<'a>>, AllocError>
+    ensures { IfOk result (λ headed. headed.items ≡ refdeses.now) }
 {
-    let refdeses = refdeses(alloc, parts)?;
-    let ranks = ranks_of(alloc, &refdeses)?;
+    let mut headed = Vec::with_capacity(alloc, refdeses.len())?;
+    for at in 0..refdeses.len() {
+        headed.push(HeadedRefdes::new(&refdeses[at]))?;
+    }
+    Ok(headed)
+}
+
+/// The rank of each part by its refdes: the place of its package among the packages.
+pub fn part_ranks(alloc: Global, refdeses: &[Line]) -> Result<Ranks, AllocError>
+    ensures { IfOk result (λ r. AreRanks by_bytes refdeses.now r.ranks.items r.count) }
+{
+    let headed = headed(alloc, refdeses)?;
+    let ranks = ranks_of(alloc, &headed)?;
     Ok(ranks)
 }
 
-fn put_if_none(slot: &mut Option<Block>, value: Option<Block>)
-    ensures { slot.new ≡ option_or slot.old value }
+/// A package of which the refdes alone is known.
+fn bare_package(refdes: Line) -> Package
+    ensures { result ≡ bare_package refdes }
+{
+    Package {
+        refdes,
+        device: None,
+        value: None,
+        footprint: None,
+    }
+}
+
+/// Packages with the refdeses at these places.
+fn bare_packages(
+    alloc: Global,
+    refdeses: &[Line],
+    places: &[usize],
+) -> Result<Vec<Package>, AllocError>
+    requires { All (λ place. place < length refdeses.now) places.now }
+    ensures { IfOk result (λ packages. packages.items
+        ≡ map (λ place. bare_package (slice_index_or refdeses.now place [])) places.now) }
+{
+    let mut packages = Vec::with_capacity(alloc, places.len())?;
+    for at in 0..places.len() {
+        let refdes = refdeses[places[at]].clone()?;
+        packages.push(bare_package(refdes))?;
+    }
+    Ok(packages)
+}
+
+/// The packages of parts that have these refdeses and ranks, in order, with nothing else of them.
+fn packages_with(
+    alloc: Global,
+    refdeses: &[Line],
+    ranks: &Ranks,
+) -> Result<Vec<Package>, AllocError>
+    requires { AreRanks by_bytes refdeses.now ranks.now.ranks.items ranks.now.count }
+    ensures { IfOk result (λ packages. packages.items
+        ≡ map bare_package (once_in_order by_bytes refdeses.now)) }
+{
+    let chains = chains_of(alloc, ranks.count, &ranks.ranks)?;
+    let packages = bare_packages(alloc, refdeses, &chains.heads)?;
+    Ok(packages)
+}
+
+fn put_if_none(slot: &mut Option<Block>, text: Block)
+    ensures { slot.new ≡ option_or slot.old (Some text) }
 {
     if slot.is_none() {
-        *slot = value;
+        *slot = Some(text);
     }
 }
 
-/// Puts what a part says behind what is known of its package.
-fn merge(known: &mut Package, part: Package)
-    ensures { known.new ≡ merged (Some known.old) part }
+/// Puts a text of a part behind what is known of its package.
+fn put_text(known: &mut Package, attribute: Attribute, text: Block)
+    ensures { known.new ≡ with_text attribute known.old (Some text) }
 {
-    put_if_none(&mut known.device, part.device);
-    put_if_none(&mut known.value, part.value);
-    put_if_none(&mut known.footprint, part.footprint);
-}
-
-fn no_packages(alloc: Global, count: usize) -> Result<Vec<Option<Package>>, AllocError>
-    ensures { IfOk result (λ rows. rows.items ≡ replicate count None) }
-{
-    let mut rows = Vec::with_capacity(alloc, count)?;
-    for _place in 0..count {
-        rows.push(None)?;
-    }
-    Ok(rows)
-}
-
-/// Takes in a part at its rank. An attribute that its package has already stays.
-fn take_part(rows: &mut Vec<Option<Package>>, rank: usize, part: Package)
-    requires { rank < length rows.old.items }
-    ensures { rows.new.items ≡ with_part rows.old.items rank part }
-{
-    match &mut rows[rank] {
-        Some(known) => merge(known, part),
-        free => *free = Some(part),
+    match attribute {
+        Attribute::Device => put_if_none(&mut known.device, text),
+        Attribute::Value => put_if_none(&mut known.value, text),
+        Attribute::Footprint => put_if_none(&mut known.footprint, text),
     }
 }
 
-fn listed(alloc: Global, rows: Vec<Option<Package>>) -> Result<Packages, AllocError>
-    ensures { IfOk result (λ packages. packages ≡ filter_map (λ row. row) rows.items) }
+/// Puts texts, each with the place of its part, behind what is known of their packages.
+fn put_texts(
+    packages: &mut Vec<Package>,
+    attribute: Attribute,
+    ranks: &[usize],
+    texts: Vec<(Block, usize)>,
+)
+    requires ranks { All (λ rank. rank < length packages.old.items) ranks.now }
+    requires places { All (λ t. t.1 < length ranks.now) texts.items }
+    ensures len { length packages.new.items ≡ length packages.old.items }
+    ensures texts { packages.new.items
+        ≡ with_texts attribute ranks.now packages.old.items texts.items }
 {
-    let mut packages = Vec::with_capacity(alloc, rows.len())?;
-    for row in rows {
-        if let Some(package) = row {
-            packages.push(package)?;
-        }
+    for (text, place) in texts {
+        put_text(&mut packages[ranks[place]], attribute, text);
     }
-    Ok(Items::from_vec(packages))
 }
 
 /// The packages of parts that have these ranks, in order of the bytes of the refdes. The first part
 /// of a package that has an attribute gives it.
-pub fn packages_of(
-    alloc: Global,
-    parts: Vec<Package>,
-    ranks: &Ranks,
-) -> Result<Packages, AllocError>
-    requires { AreRanks by_bytes (map (λ p. p.refdes) parts.items)
+pub fn packages_of(alloc: Global, parts: PartRows, ranks: &Ranks) -> Result<Packages, AllocError>
+    requires { AreRanks by_bytes (map (λ p. p.refdes) parts)
         ranks.now.ranks.items ranks.now.count }
-    ensures { IfOk result (λ packages. packages ≡ packages_by parts.items) }
+    ensures { IfOk result (λ packages. packages ≡ packages_by parts) }
 {
-    let mut rows = no_packages(alloc, ranks.count)?;
-    let mut place = 0;
-    for part in parts {
-        take_part(&mut rows, ranks.ranks[place], part);
-        place += 1;
-    }
-    let packages = listed(alloc, rows)?;
-    Ok(packages)
+    let PartLists {
+        refdeses,
+        devices,
+        values,
+        footprints,
+    } = parts.into_lists();
+    let mut packages = packages_with(alloc, &refdeses, ranks)?;
+    drop(refdeses);
+    put_texts(&mut packages, Attribute::Device, &ranks.ranks, devices);
+    put_texts(&mut packages, Attribute::Value, &ranks.ranks, values);
+    put_texts(
+        &mut packages,
+        Attribute::Footprint,
+        &ranks.ranks,
+        footprints,
+    );
+    Ok(Items::from_vec(packages))
 }

@@ -2,8 +2,10 @@
 -- Classes by one order of all pins, and by what is told of each.
 use Rattle.std.specs.Prelude.{◌≡◌, ℕ, ◌<◌, ◌++◌, ◌&&◌, All, not, cond, if◌then◌else◌, Bool, true, List, [], ◌∷◌, Option, Some, None, length, map, filter, slice_get, slice_index, slice_index_or}
 use Rattle.std.specs.List.{filter_map, fold}
+use Rattle.geda_defs.specs.Order.{by_bytes}
 use Rattle.rank_order.specs.Chains.{AreChains, Rises}
 use Rattle.rank_order.specs.Classes.{met}
+use Rattle.rank_order.specs.Keys.{AreRanks}
 use Rattle.flat_rows.specs.Conductors.{FlatConductor}
 use Rattle.net_list.specs.declared.nets.Net.{Net}
 use Rattle.net_list.specs.declared.nets.NetSort.{NetSort}
@@ -14,7 +16,7 @@ use Rattle.net_names.specs.declared.net_classes.ClassBody.{ClassBody}
 use Rattle.net_names.specs.declared.net_classes.NetClasses.{NetClasses}
 use Rattle.net_names.specs.declared.net_classes.OrderedPins.{OrderedPins}
 use Rattle.net_names.specs.steps.Gathering.{IsGrown, empty_class}
-use Rattle.net_names.specs.steps.Pins.{at_places, label_of, pins_in_order}
+use Rattle.net_names.specs.steps.Pins.{at_places, label_of, pin_under, pins_in_order}
 
 -- the places are of so many pins, and each is followed by a later one
 pub record AreWhole (count : ℕ) (places nexts : List ℕ) : Type 0 where
@@ -22,18 +24,30 @@ pub record AreWhole (count : ℕ) (places nexts : List ℕ) : Type 0 where
   pub len : length nexts ≡ length places
   pub rises : Rises nexts
 
+-- the parts of pins are there, and have these ranks
+pub record AreRanked (o : OrderedPins) : Type 0 where
+  pub parts : All (λ m. m.0.part < length o.refdeses.now) o.members.now
+  pub ranks : AreRanks by_bytes o.refdeses.now
+      o.ranks.now.ranks.items o.ranks.now.count
+
 -- so are those of classes, and each label that is met has a class
 pub record IsWhole (c : NetClasses) : Type 0 where
-  pub order : AreWhole (length c.ordered.pins.items) c.ordered.places.items
+  pub ranked : AreRanked c.ordered
+  pub order : AreWhole (length c.ordered.members.now) c.ordered.places.items
       c.chains.nexts.items
   pub heads : length c.chains.heads.items ≡ length c.growing.items
   pub met : All (λ label. label < length c.growing.items) c.met.items
 
+-- the pins as they come
+abbrev pub pins_by : OrderedPins → List ClassPinData
+pins_by o = map (pin_under o.refdeses.now) o.members.now
+
 -- the pins of conductors, in order
-pub record AreOrdered (conductors : List FlatConductor) (ordered : OrderedPins) : Type 0 where
-  pub order : at_places ordered.pins.items ordered.places.items ≡ pins_in_order conductors
-  pub places : All (λ p. p < length ordered.pins.items) ordered.places.items
-  pub pins : All (λ p. p.place < length conductors) ordered.pins.items
+pub record AreOrdered (conductors : List FlatConductor) (o : OrderedPins) : Type 0 where
+  pub ranked : AreRanked o
+  pub order : at_places (pins_by o) o.places.items ≡ pins_in_order conductors
+  pub places : All (λ p. p < length o.members.now) o.places.items
+  pub pins : All (λ m. m.1 < length conductors) o.members.now
 
 -- the classes of conductors with labels
 pub record IsGathered (conductors : List FlatConductor) (labels : List ℕ) (c : NetClasses)

@@ -1,6 +1,6 @@
 -- Steps of the code; no public clause cites them.
 -- The names that look like those of nets without names, and numbers that skip them.
-use Rattle.std.specs.Prelude.{◌≡◌, ℕ, ◌+◌, ◌-◌, ◌^◌, ◌<◌, ◌≤◌, ◌==◌, not, if◌then◌else◌, Bool, true, false, List, [], ◌∷◌, ◌++◌, length, filter}
+use Rattle.std.specs.Prelude.{◌≡◌, ℕ, ◌+◌, ◌-◌, ◌/◌, ◌%◌, ◌^◌, ◌<◌, ◌≤◌, ◌==◌, not, if◌then◌else◌, Bool, true, false, List, [], ◌∷◌, ◌++◌, length, filter}
 use Rattle.std.specs.List.{fold, list_any, range_with_len, starts_with}
 use Rattle.std.specs.Fmt.{decimal}
 use Rattle.std.specs.BTreeSet.{insert_key}
@@ -47,6 +47,15 @@ pub record IsNextFree (prefix : List ℕ) (old new : List (List ℕ)) (from give
   pub free : is_taken prefix old given ≡ false
   pub same : TakeSame prefix old new given
   pub fewer : given + length new ≤ from + length old
+
+-- a prefix and all digits of a number but the last
+abbrev pub stem_of : List ℕ → ℕ → List ℕ
+stem_of prefix n = if n / 10 == 0 then prefix else prefix ++ decimal (n / 10)
+
+-- the number is not 0, and the text is its stem, unless it ends in 0
+pub record IsStemBefore (prefix : List ℕ) (n : ℕ) (text : List ℕ) : Type 0 where
+  pub from_one : 0 < n
+  pub same : 0 < n % 10 → text ≡ stem_of prefix n
 
 -- the nets of bodies under their numbers
 abbrev pub numbered_bodies : List ℕ → NetSort → List ℕ → List ClassBody → List Net

@@ -1,6 +1,6 @@
 -- Steps of the code; no public clause cites them.
 -- Pins of listed parts in one order of all, and those of each class.
-use Rattle.std.specs.Prelude.{ℕ, List, map, slice_get, slice_index}
+use Rattle.std.specs.Prelude.{ℕ, List, [], map, slice_get, slice_index, slice_index_or}
 use Rattle.std.specs.declared.cmp.Ordering.{Ordering}
 use Rattle.std.specs.List.{filter_map}
 use Rattle.std.specs.Option.{option_to_list}
@@ -10,7 +10,6 @@ use Rattle.net_list.specs.declared.member.Member.{Member}
 use Rattle.net_list.specs.declared.package.Package.{Package}
 use Rattle.flat_rows.specs.Conductors.{FlatConductor}
 use Rattle.flat_rows.specs.Keyed.{Keyed, keyed_from}
-use Rattle.flat_rows.specs.Rows.{member_of}
 use Rattle.flat_rows.specs.declared.rows.RowMember.{RowMember}
 use Rattle.net_names.specs.NetClasses.{ClassPinData, by_pin}
 
@@ -22,9 +21,20 @@ by_number = on (λ p. p.member.pin) by_bytes
 abbrev pub placed_pin : Keyed Member → ClassPinData
 placed_pin m = record { place = m.1; member = m.0 }
 
+-- the pin of a member of parts that have these refdeses
+abbrev pub pin_under : List (List ℕ) → Keyed RowMember → ClassPinData
+pin_under refdeses m = record {
+  place = m.1;
+  member = record {
+    refdes = slice_index_or refdeses m.0.part [];
+    pin = m.0.pin;
+    kind = m.0.kind;
+  };
+}
+
 -- the pin of a member of some parts
 abbrev pub pin_in : List Package → Keyed RowMember → ClassPinData
-pin_in parts m = record { place = m.1; member = member_of parts m.0 }
+pin_in parts m = pin_under (map (λ p. p.refdes) parts) m
 
 -- the ranks of the parts of members
 abbrev pub ranks_of_pins : List ℕ → List (Keyed RowMember) → List ℕ

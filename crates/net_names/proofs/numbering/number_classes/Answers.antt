@@ -32,6 +32,7 @@ loop-at-preserved c =
     let nameless : c.is_nameless.result ≡ true = search rules in
     let test : is_nameless sort (get_or growing label empty_class) ≡ true = ap (is_nameless sort) (sym read) ∙ sym c.is_nameless.ensures ∙ nameless in
     record {
+      stem = c.in_ok-number.ensures.stem;
       small = kept.small;
       count = omega (arith, kept.count, next.fewer);
       same = take_later prefix first taken later c.loop-at.next number kept.same next;
@@ -59,6 +60,7 @@ loop-at-preserved-then-not-is_nameless c =
     let other : c.is_nameless.result ≡ false = search rules in
     let test : is_nameless sort (get_or growing label empty_class) ≡ false = ap (is_nameless sort) (sym read) ∙ sym c.is_nameless.ensures ∙ other in
     record {
+      stem = kept.stem;
       small = kept.small;
       count = omega (arith, kept.count);
       same = kept.same;

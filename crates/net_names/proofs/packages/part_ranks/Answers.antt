@@ -6,5 +6,5 @@ use Rattle.net_names.proofs.packages.part_ranks.Goals as goal
 pub returns : goal.returns
 returns c =
     let ranks = c.in_ok-ranks.ranks in
-    subst (λ (keys : List (List ℕ)). AreRanks by_bytes keys ranks.ranks.items ranks.count) c.in_ok-refdeses.ensures
+    subst (λ (keys : List (List ℕ)). AreRanks by_bytes keys ranks.ranks.items ranks.count) c.in_ok-headed.ensures
     (rw c.deref.ensures.value at c.in_ok-ranks.ensures)

@@ -1,5 +1,5 @@
 use Rattle.std.proofs.Common.{arith, ◌∙◌}
-use Rattle.net_names.proofs.HeadLemmas.{heads_compare}
+use Rattle.text_heads.proofs.HeadLemmas.{heads_compare}
 use Rattle.net_names.specs.steps.Pins.{by_number}
 use Rattle.net_names.proofs.class_pins.ClassPinOrd.cmp.Goals as goal
 

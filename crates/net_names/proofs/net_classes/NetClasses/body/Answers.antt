@@ -11,6 +11,6 @@ returns c = λ conductors labels are.
     let heads = classes.chains.heads.items in
     let inside : label < length heads = omega (arith, c.requires.label, c.requires.whole.heads) in
     let head : c.index-head.result.now ≡ get_or heads label 0 = get_or_read heads label c.index-head.result.now inside c.index-head.ensures 0 in
-    let told = rw (c.deref.ensures.value, c.deref-2.ensures.value, c.deref-3.ensures.value, head) at c.in_ok-members.ensures in
+    let told = rw (c.deref.ensures.value, head) at c.in_ok-members.ensures in
     body_is conductors labels are.labels_len classes are label c.in_ok-members.members _ (omega (arith, c.requires.label, are.len)) told _
     (c.growing.view_is ∙ get_or_read classes.growing.items label c.index-growing.result.now c.requires.label c.index-growing.ensures empty_class) refl

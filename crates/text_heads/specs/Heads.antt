@@ -1,4 +1,3 @@
--- Steps of the code; no public clause cites them.
 -- The first bytes of texts as numbers, by which most texts are told apart.
 use Rattle.std.specs.Prelude.{◌≡◌, ℕ, zero, suc, ◌+◌, ◌*◌, ◌<◌, List, [], ◌∷◌, slice_index_or}
 

@@ -1,7 +1,7 @@
 use Rattle.std.proofs.Common.{arith, ◌∙◌}
 use Rattle.geda_defs.specs.Order.{by_bytes}
-use Rattle.net_names.proofs.HeadLemmas.{heads_compare}
-use Rattle.net_names.proofs.heads.HeadedRefdesOrd.cmp.Goals as goal
+use Rattle.text_heads.proofs.HeadLemmas.{heads_compare}
+use Rattle.text_heads.proofs.heads.HeadedRefdesOrd.cmp.Goals as goal
 
 pub returns-then-self-other : goal.returns-then-self-other
 returns-then-self-other c =

@@ -1,6 +1,6 @@
 use Rattle.std.proofs.Common.{◌≡◌, rules, arith, sym, ap, ◌∙◌}
-use Rattle.net_names.specs.steps.Heads.{head_from}
-use Rattle.net_names.proofs.heads.short_text_head.Goals as goal
+use Rattle.text_heads.specs.Heads.{head_from}
+use Rattle.text_heads.proofs.heads.short_text_head.Goals as goal
 
 pub returns : goal.returns
 returns c =

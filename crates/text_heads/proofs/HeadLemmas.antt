@@ -6,7 +6,7 @@ use Rattle.std.specs.Cmp.{nat_cmp_total, tied_itself}
 use Rattle.std.proofs.lemmas.Map.Lookups.{exact_unsigned}
 use Rattle.std.proofs.lemmas.Bool.{cases_eq, cases_lt, lt-ltb}
 use Rattle.geda_defs.specs.Order.{by_bytes}
-use Rattle.net_names.specs.steps.Heads.{IsTextHead, head_from}
+use Rattle.text_heads.specs.Heads.{IsTextHead, head_from}
 
 abbrev Bytes : List ℕ → Type 0
 Bytes xs = (k : ℕ) → get_or xs k 0 < 256

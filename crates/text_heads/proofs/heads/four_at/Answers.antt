@@ -1,5 +1,5 @@
-use Rattle.net_names.proofs.HeadLemmas.{four_bytes}
-use Rattle.net_names.proofs.heads.four_at.Goals as goal
+use Rattle.text_heads.proofs.HeadLemmas.{four_bytes}
+use Rattle.text_heads.proofs.heads.four_at.Goals as goal
 
 pub returns-clause-head : goal.returns-clause-head
 returns-clause-head c = λ head.

@@ -1,6 +1,6 @@
 // The first bytes of texts as numbers, by which most texts are told apart.
 ghost use Rattle.std.specs.Prelude.{◌≡◌, ◌<◌, ◌≤◌, ◌+◌, ◌*◌, ℕ, drop, slice_index_or};
-ghost use Rattle.net_names.specs.steps.Heads.{IsTextHead, head_from};
+ghost use Rattle.text_heads.specs.Heads.{IsTextHead, head_from};
 
 use geda_model::Line;
 use std::cmp::Ordering;
@@ -52,7 +52,7 @@ pub struct HeadedRefdes<'a> {
 
 impl<'a> Model for HeadedRefdes<'a> {
     ghost use Rattle.std.specs.Prelude.{List, ℕ};
-    ghost use Rattle.net_names.specs.steps.Heads.{IsTextHead};
+    ghost use Rattle.text_heads.specs.Heads.{IsTextHead};
 
     ghost Value = { List ℕ };
 

@@ -1,7 +1,7 @@
 use Rattle.std.proofs.Common.{◌≡◌, ℕ, List, drop, rules, arith, sym, ap, ◌∙◌}
-use Rattle.net_names.specs.steps.Heads.{head_from}
-use Rattle.net_names.proofs.HeadLemmas.{eight_bytes}
-use Rattle.net_names.proofs.heads.text_head.Goals as goal
+use Rattle.text_heads.specs.Heads.{head_from}
+use Rattle.text_heads.proofs.HeadLemmas.{eight_bytes}
+use Rattle.text_heads.proofs.heads.text_head.Goals as goal
 
 pub returns : goal.returns
 returns c =
