@@ -1,5 +1,5 @@
 -- Names that print as they are do not print alike where they differ.
-use Rattle.std.proofs.Common.{◌≡◌, ◌∙◌, ℕ, List, [], ◌∷◌, Bool, true, false, ◌&&◌, not, refl, sym, arith}
+use Rattle.std.proofs.Common.{◌≡◌, ◌∙◌, ℕ, ◌<◌, List, [], ◌∷◌, Bool, true, false, ◌&&◌, not, refl, sym, arith}
 use Rattle.std.specs.List.{list_all, list_any}
 use Rattle.std.specs.Str.{bytes_eq}
 use Rattle.std.proofs.lemmas.Bool.Decides.{nat_tests}
@@ -10,6 +10,10 @@ use Rattle.printed_texts.specs.PrintedTexts.{word, word_byte}
 use Rattle.text_tallies.specs.LookAlike.{look_alike, print_alike}
 use Rattle.text_tallies.specs.steps.PlainNames.{is_plain, is_plain_byte}
 use Rattle.text_tallies.proofs.PairLemmas.{and_false, any_pairs}
+
+-- a byte above a space is plain
+pub plain_above : (b : ℕ) → 32 < b → true ≡ is_plain_byte b
+plain_above b above = grind (arith, nat_tests)
 
 plain_byte : (b : ℕ) → is_plain_byte b ≡ true → word_byte b ≡ b
 plain_byte b plain = grind (arith, nat_tests)

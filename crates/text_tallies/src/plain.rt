@@ -3,9 +3,14 @@ ghost use Rattle.std.specs.Prelude.{◌≡◌, map};
 ghost use Rattle.std.specs.List.{list_all};
 ghost use Rattle.text_tallies.specs.steps.PlainNames.{is_plain, is_plain_byte};
 
+#[tactic(auto, using(crate::proofs::PlainLemmas::plain_above))]
 fn is_plain_byte(byte: u8) -> bool
     ensures { result ≡ is_plain_byte byte }
 {
+    // Most bytes are above all that are not plain.
+    if byte > b' ' {
+        return true;
+    }
     !(byte == b' ' || byte == b'\t' || byte == b'\n' || byte == b'\r')
 }
 
