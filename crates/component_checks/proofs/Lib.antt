@@ -8,3 +8,4 @@ pub mod ValueLemmas
 pub mod PlanLemmas
 pub mod UnknownLemmas
 pub mod Cases
+pub mod SoundLemmas

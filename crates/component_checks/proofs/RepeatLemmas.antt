@@ -4,7 +4,6 @@ use Rattle.std.specs.Prelude.{is_some}
 use Rattle.std.specs.List.{filter_map, flat_map, list_any}
 use Rattle.std.specs.Str.{bytes_eq}
 use Rattle.printed_texts.specs.PrintedTexts.{two_words, word}
-use Rattle.text_tallies.specs.NameSets.{set_has_name}
 use Rattle.text_tallies.specs.PairSets.{PairData, has_pair, same_pair}
 use Rattle.text_tallies.specs.TwoOfAList.{two_pass}
 use Rattle.text_tallies.proofs.ListLemmas.{flat_map_same}

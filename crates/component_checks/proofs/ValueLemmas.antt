@@ -16,7 +16,9 @@ use Rattle.pin_place.specs.declared.pins.PlacedPin.{PlacedPin}
 use Rattle.pin_place.specs.Plans.{SayPlain}
 use Rattle.instance_objects.specs.Occurrences.{FlatObject}
 use Rattle.component_checks.specs.CheckedComponents.{checked_with, is_bad_net}
+use Rattle.component_checks.specs.declared.value_faults.ValueFaults.{ValueFaults}
 use Rattle.component_checks.specs.steps.CheckedValues.{checked_by}
+use Rattle.component_checks.specs.steps.SoundSymbols.{faults_of}
 use Rattle.component_checks.specs.steps.ToldPins.{drawn_of}
 
 -- no first value, attached or inherited, so none at all
@@ -49,7 +51,9 @@ module _ (o : ObjectData) (library : Option SymbolData) (v : ValuesData) (is : v
 
 -- a component, as the check sees it
 pub checked_by-is : (p : ProjectData) (f : FlatObject) (library : Option SymbolData) (c : ComponentData) → f.object.body ≡ bodies.Component c
-    → (v : ValuesData) → v ≡ values_of f.object library → (pins : List PlacedPin) → pins ≡ drawn_of f.object library
-    → checked_by p f c library v pins ≡ checked_with p f.instance f.id f.object c library
+    → (v : ValuesData) → v ≡ values_of f.object library → (faults : ValueFaults) → faults ≡ faults_of f.object library v.slot
+    → (pins : List PlacedPin) → pins ≡ drawn_of f.object library
+    → checked_by p f c library v faults pins ≡ checked_with p f.instance f.id f.object c library
 unfolding values_of
-checked_by-is p f library c body v is pins pins_are = rw (is, sources_is f.object library c body, refdes_is f.object library, pins_are) refl
+checked_by-is p f library c body v is faults faults_are pins pins_are =
+    rw (faults_are, is, sources_is f.object library c body, refdes_is f.object library, pins_are) refl

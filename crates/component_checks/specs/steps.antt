@@ -4,4 +4,5 @@ pub mod FoundBy
 pub mod SlotRows
 pub mod CheckedObjects
 pub mod ToldPins
+pub mod SoundSymbols
 pub mod CheckedValues

@@ -18,6 +18,8 @@ mod parts;
 mod project;
 mod repeats;
 mod slot_rows;
+mod sound_symbols;
+mod value_faults;
 
 pub use checked::CheckedComponent;
 pub use on_components::add_on_components;

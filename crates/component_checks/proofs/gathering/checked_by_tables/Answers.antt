@@ -16,4 +16,5 @@ returns-in-Some c =
     let basename : name ≡ component.basename = c.as_str.ensures.text ∙ ap (λ (d : ComponentData). d.basename) c.component.view_is in
     let library : c.in-Some.table.now ≡ library_of p f.object = c.in-Some.ensures ∙ ap (λ (q : ProjectData). symbol_named q name) c.requires.same ∙ ap (symbol_named p) basename
     ∙ sym (library_is p f.object component c.requires.body) in
-    subst (λ (l : Option SymbolData). IfOk c.checked_by_table.result (λ known. IfSome known (λ made. checked_component p f component l ≡ Some made))) library c.checked_by_table.ensures
+    subst (λ (l : Option SymbolData). IfOk c.checked_by_table.result (λ known. IfSome known (λ made. checked_component p f component l ≡ Some made))) library
+    (c.checked_by_table.ensures c.requires.sound (library ∙ library_is p f.object component c.requires.body))
