@@ -1,3 +1,4 @@
 -- Steps of the code; no public clause cites them.
 pub mod Counts
 pub mod Pins
+pub mod Meetings

@@ -1,13 +1,15 @@
 // Kinds of pins that should not meet in a net.
-ghost use Rattle.std.specs.Prelude.{◌≡◌, ◌++◌, OnOk};
+ghost use Rattle.std.specs.Prelude.{◌≡◌, ◌++◌, IsTrue, OnOk, true};
+ghost use Rattle.std.specs.List.{list_all};
 ghost use Rattle.drc_rules.specs.OnNets.{conflicts};
 ghost use Rattle.drc_rules.specs.steps.Counts.{conflict_by, conflicts_by, conflicts_with_by};
 ghost use Rattle.drc_rules.specs.steps.Counts.{is_conflict_by, meet_by};
+ghost use Rattle.drc_rules.specs.steps.Meetings.{all_may_meet, may_meet};
 
 use crate::kind_counts::{KindCount, kind_counts};
 use crate::kind_words::conflict_words;
 use drc_findings::{Finding, Rule, add_finding};
-use net_list::Net;
+use net_list::{Member, Net};
 use pin_matrix::{Matrix, are_in_order, is_correct, same_kind};
 use std::alloc::{AllocError, Global};
 
@@ -104,6 +106,44 @@ fn add_conflicts_of(
     add_conflicts_among(alloc, found, matrix, net.name.as_str(), &counts)
 }
 
+/// So many members are compared with each other.
+const FEW: usize = 8;
+
+fn may_meet(matrix: &Matrix, first: &Member, second: &Member) -> bool
+    ensures { result ≡ may_meet matrix.now first.now second.now }
+{
+    is_correct(matrix.entry(first.kind, second.kind))
+}
+
+fn may_meet_others(matrix: &Matrix, first: &Member, others: &[Member]) -> bool
+    ensures { result ≡ list_all (may_meet matrix.now first.now) others.now }
+{
+    others.iter().all(|other| may_meet(matrix, first, other))
+}
+
+fn all_may_meet(matrix: &Matrix, members: &[Member]) -> bool
+    ensures { result ≡ all_may_meet matrix.now members.now }
+{
+    let mut rest = members;
+    while let [first, others @ ..] = rest {
+        if !may_meet_others(matrix, first, others) {
+            return false;
+        }
+        rest = others;
+    }
+    true
+}
+
+/// Whether there are few members, each two of which may meet.
+fn few_may_meet(matrix: &Matrix, members: &[Member]) -> bool
+    ensures { IsTrue result → all_may_meet matrix.now members.now ≡ true }
+{
+    if members.len() > FEW {
+        return false;
+    }
+    all_may_meet(matrix, members)
+}
+
 /// Adds what is found on kinds that meet in a net; nothing does where it has one member alone.
 pub fn add_conflicts(
     alloc: Global,
@@ -114,6 +154,9 @@ pub fn add_conflicts(
     ensures { OnOk result (found.new.items ≡ found.old.items ++ conflicts matrix.now net.now) }
 {
     if net.members.as_slice().len() < 2 {
+        return Ok(());
+    }
+    if few_may_meet(matrix, net.members.as_slice()) {
         return Ok(());
     }
     add_conflicts_of(alloc, found, matrix, net)

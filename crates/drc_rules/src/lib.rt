@@ -16,6 +16,7 @@ mod not_driven;
 mod on_nets;
 mod one_pin;
 mod pairs_on_two;
+mod pin_spelling;
 mod pins_on_two;
 mod unconnected;
 

@@ -47,6 +47,7 @@ fn add_by_count(alloc: Global, found: &mut Vec<Finding>, net: &Net) -> Result<()
 
 fn add_on_net<'a>(
     alloc: Global,
+    spelling: &mut String,
     found: &mut Vec<Finding>,
     matrix: &Matrix,
     on_two: &BTreeSet<PairKey<'a>>,
@@ -58,7 +59,7 @@ fn add_on_net<'a>(
 {
     add_conflicts(alloc, found, matrix, net)?;
     add_by_count(alloc, found, net)?;
-    add_unconnected_pin(alloc, found, matrix, net)?;
+    add_unconnected_pin(alloc, spelling, found, matrix, net)?;
     add_not_driven(alloc, found, net)?;
     add_pins_on_two(alloc, found, on_two, net.members.as_slice())?;
     add_same_text(alloc, found, alike, net.name.as_str())
@@ -66,6 +67,7 @@ fn add_on_net<'a>(
 
 fn add_on_each<'a>(
     alloc: Global,
+    spelling: &mut String,
     found: &mut Vec<Finding>,
     matrix: &Matrix,
     on_two: &BTreeSet<PairKey<'a>>,
@@ -77,7 +79,7 @@ fn add_on_each<'a>(
     ensures { OnOk result (found.new.items ≡ found.old.items ++ found_on_nets matrix.now nets.now) }
 {
     for net in nets {
-        add_on_net(alloc, found, matrix, on_two, alike, net)?;
+        add_on_net(alloc, spelling, found, matrix, on_two, alike, net)?;
     }
     Ok(())
 }
@@ -94,5 +96,6 @@ pub fn add_on_nets(
 {
     let on_two = pairs_on_two(alloc, nets)?;
     let alike = alike_names(alloc, nets)?;
-    add_on_each(alloc, found, matrix, &on_two, &alike, nets)
+    let mut spelling = String::new(alloc);
+    add_on_each(alloc, &mut spelling, found, matrix, &on_two, &alike, nets)
 }

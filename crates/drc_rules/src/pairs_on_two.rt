@@ -1,8 +1,10 @@
 // The pins that are members of two nets.
-ghost use Rattle.std.specs.Prelude.{◌≡◌, IfOk, OnOk};
-ghost use Rattle.drc_rules.specs.OnNets.{pair_of};
+ghost use Rattle.std.specs.Prelude.{◌≡◌, IfOk, IsTrue, OnOk, false};
+ghost use Rattle.text_tallies.specs.PairSets.{PairData};
+ghost use Rattle.text_tallies.specs.TwoOfAList.{two_pass};
+ghost use Rattle.drc_rules.specs.OnNets.{has_pair_in, pair_of};
 ghost use Rattle.drc_rules.specs.steps.Pins.{AddsPair, AddsPairIfSeen, AddsPairs};
-ghost use Rattle.drc_rules.specs.steps.Pins.{AddsPairsIfSeen, HasPinsOnTwo};
+ghost use Rattle.drc_rules.specs.steps.Pins.{AddsPairsIfSeen, AreUnseen, HasPinsOnTwo, is_seen};
 
 use net_list::{Member, Net};
 use std::alloc::{AllocError, Global};
@@ -84,8 +86,48 @@ fn member_count(nets: &[Net]) -> usize {
     count
 }
 
-/// The pins that are members of two nets.
-pub fn pairs_on_two<'a>(alloc: Global, nets: &'a [Net]) -> Result<BTreeSet<PairKey<'a>>, AllocError>
+/// Adds a pair, and answers whether it is new.
+fn add_new<'a>(seen: &mut HashSet<PairKey<'a>>, pair: PairKey<'a>) -> Result<bool, AllocError>
+    ensures adds { OnOk result (AddsPair pair.entry seen.old seen.new) }
+    ensures fresh { IfOk result (λ added. IsTrue added → is_seen seen.old pair.entry ≡ false) }
+{
+    let added = seen.insert(pair)?;
+    Ok(added)
+}
+
+/// Adds the pairs of members up to the first that is not new, and answers whether there is none.
+fn add_all_new<'a>(
+    seen: &mut HashSet<PairKey<'a>>,
+    members: &'a [Member],
+) -> Result<bool, AllocError>
+    ensures adds { IfOk result (λ fresh. IsTrue fresh → AddsPairs members.now seen.old seen.new) }
+    ensures unseen { IfOk result (λ fresh. IsTrue fresh → AreUnseen members.now seen.old) }
+{
+    for member in members {
+        let added = add_new(seen, pair_of(member))?;
+        if !added {
+            return Ok(false);
+        }
+    }
+    Ok(true)
+}
+
+/// Whether it is clear, by asking once for each member, that no pin is a member of two nets.
+fn are_all_new(alloc: Global, nets: &[Net]) -> Result<bool, AllocError>
+    ensures { IfOk result (λ fresh. IsTrue fresh
+        → (q : PairData) → two_pass (has_pair_in q) nets.now ≡ false) }
+{
+    let mut seen = HashSet::with_capacity(alloc, member_count(nets))?;
+    for net in nets {
+        let added = add_all_new(&mut seen, net.members.as_slice())?;
+        if !added {
+            return Ok(false);
+        }
+    }
+    Ok(true)
+}
+
+fn pairs_among<'a>(alloc: Global, nets: &'a [Net]) -> Result<BTreeSet<PairKey<'a>>, AllocError>
     ensures { IfOk result (HasPinsOnTwo nets.now) }
 {
     let mut seen = HashSet::with_capacity(alloc, member_count(nets))?;
@@ -94,4 +136,15 @@ pub fn pairs_on_two<'a>(alloc: Global, nets: &'a [Net]) -> Result<BTreeSet<PairK
         take_net(&mut seen, &mut twice, net.members.as_slice())?;
     }
     Ok(twice)
+}
+
+/// The pins that are members of two nets.
+pub fn pairs_on_two<'a>(alloc: Global, nets: &'a [Net]) -> Result<BTreeSet<PairKey<'a>>, AllocError>
+    ensures { IfOk result (HasPinsOnTwo nets.now) }
+{
+    let all_new = are_all_new(alloc, nets)?;
+    if all_new {
+        return Ok(BTreeSet::new(alloc));
+    }
+    pairs_among(alloc, nets)
 }

@@ -36,6 +36,9 @@ pub fn add_pins_on_two<'a>(
     ensures { OnOk result
         (found.new.items ≡ found.old.items ++ pins_on_two_by on_two.now members.now) }
 {
+    if on_two.is_empty() {
+        return Ok(());
+    }
     for member in members {
         add_member_on_two(alloc, found, on_two, member)?;
     }

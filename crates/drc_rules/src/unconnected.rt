@@ -4,11 +4,11 @@ ghost use Rattle.std.specs.List.{flat_map};
 ghost use Rattle.drc_rules.specs.OnNets.{is_unconnected_net, may_be_open, unconnected_member};
 ghost use Rattle.drc_rules.specs.OnNets.{unconnected_pin};
 
+use crate::pin_spelling::spelled_pin;
 use attr_rules::PinKind;
 use drc_findings::{Finding, Rule, add_finding};
 use net_list::{Member, Net, NetSort};
 use pin_matrix::{Matrix, is_correct};
-use printed_texts::pin_words;
 use std::alloc::{AllocError, Global};
 
 /// Whether a net is an unconnected pin. It takes no memory.
@@ -30,6 +30,7 @@ pub fn may_be_open(net: &Net) -> bool
 
 fn add_member(
     alloc: Global,
+    spelling: &mut String,
     found: &mut Vec<Finding>,
     matrix: &Matrix,
     net: &Net,
@@ -40,7 +41,7 @@ fn add_member(
 {
     let level = matrix.entry(PinKind::Unconnected, member.kind);
     if is_unconnected(net) && !is_correct(level) {
-        let words = pin_words(alloc, member.refdes.as_str(), member.pin.as_str())?;
+        let words = spelled_pin(alloc, spelling, member.refdes.as_str(), member.pin.as_str())?;
         add_finding(found, level, Rule::UnconnectedPin, words)?;
     }
     Ok(())
@@ -48,6 +49,7 @@ fn add_member(
 
 fn add_members(
     alloc: Global,
+    spelling: &mut String,
     found: &mut Vec<Finding>,
     matrix: &Matrix,
     net: &Net,
@@ -57,7 +59,7 @@ fn add_members(
         ≡ found.old.items ++ flat_map (unconnected_member matrix.now net.now) members.now) }
 {
     for member in members {
-        add_member(alloc, found, matrix, net, member)?;
+        add_member(alloc, spelling, found, matrix, net, member)?;
     }
     Ok(())
 }
@@ -65,6 +67,7 @@ fn add_members(
 /// Adds what is found on the member of an unconnected pin.
 pub fn add_unconnected_pin(
     alloc: Global,
+    spelling: &mut String,
     found: &mut Vec<Finding>,
     matrix: &Matrix,
     net: &Net,
@@ -72,5 +75,5 @@ pub fn add_unconnected_pin(
     ensures { OnOk result
         (found.new.items ≡ found.old.items ++ unconnected_pin matrix.now net.now) }
 {
-    add_members(alloc, found, matrix, net, net.members.as_slice())
+    add_members(alloc, spelling, found, matrix, net, net.members.as_slice())
 }

@@ -1,6 +1,6 @@
 -- Steps of the code; no public clause cites them.
 -- Sets of the pins of nets and of their names, and what is found by them.
-use Rattle.std.specs.Prelude.{◌≡◌, ℕ, Bool, ◌&&◌, ◌||◌, List}
+use Rattle.std.specs.Prelude.{◌≡◌, ℕ, Bool, false, ◌&&◌, ◌||◌, List}
 use Rattle.std.specs.BTreeSet.{BTreeSet}
 use Rattle.std.specs.HashSet.{HashSet, contains}
 use Rattle.std.specs.List.{flat_map, list_any}
@@ -47,6 +47,11 @@ module _ {S : Type 0} where
       List Member → HashSet PairData S → BTreeSet PairData → BTreeSet PairData → Type 0
   AddsPairsIfSeen members seen old new = (q : PairData)
       → has_pair new q ≡ (has_pair old q || (is_seen seen q && list_any (is_pair q) members))
+
+  -- no member was seen
+  abbrev pub AreUnseen : List Member → HashSet PairData S → Type 0
+  AreUnseen members seen = (q : PairData)
+      → (is_seen seen q && list_any (is_pair q) members) ≡ false
 
 -- the set has the pins that are members of two of these nets
 abbrev pub HasPinsOnTwo : List Net → BTreeSet PairData → Type 0

@@ -1,7 +1,5 @@
-use Rattle.text_tallies.proofs.PairLemmas.{twice_from_none}
-use Rattle.drc_rules.specs.OnNets.{has_pair_in}
+use Rattle.std.proofs.Common.{sym}
 use Rattle.drc_rules.proofs.pairs_on_two.pairs_on_two.Goals as goal
 
-pub loop-net-init : goal.loop-net-init
-loop-net-init c = λ q.
-    rw (c.in_ok-seen.ensures.empty, c.new-twice.ensures.empty) (twice_from_none (has_pair_in q) c.args.nets.now)
+pub returns-then-all_new : goal.returns-then-all_new
+returns-then-all_new c = λ q. rw c.new.ensures.empty (sym (c.in_ok-all_new.ensures (let h = c.if-all_new.true in cc) q))
