@@ -5,10 +5,10 @@ Usage: all_figures.py [--list] [--only WORD] [PROGRAM]
 
 It runs each command behind a figure, one after the other; told/README.md says how long each takes.
 --list prints the commands alone, and --only takes the headings and commands with WORD in them. A
-command whose program is not there is left out, with a line that says so: those of edit_cases and
-hall_cases come by `rt run` in their crates. PROGRAM is what the commands try, else what GAFD names,
-else what is built. Under "./gafd" the program is called as ./gafd calls it, with large pages. The
-last command of all, memory.py, has `rt try` build the programs of two crates.
+command whose program is not there is left out, with a line that says so: that of cases comes by `rt
+run` in its crate. PROGRAM is what the commands try, else what GAFD names, else what is built. Under
+"./gafd" the program is called as ./gafd calls it, with large pages. The last command of all,
+memory.py, has `rt try` build the program of cases.
 
 No command gives the processor's time beside lepton-netlist, the speed of reading alone, `netlist`
 of four sheets of 100,000 wires, the instructions of one request, and the edits on a slower disk.
@@ -41,9 +41,9 @@ FIGURES = (
     ("By itself", "bench/instructions.py GAFD GAFD", "valgrind", "each shape"),
     ("Numbering", "bench/numbering_times.py GAFD", "", "`renumber`"),
     ("Databases", "bench/store_copies.py GAFD", "", "`store`"),
-    ("Entries as JSON", "bench/entry_bodies.py", "edit_cases", "bodies of 4 MiB"),
-    ("Edits", "bench/desk_times.py", "edit_cases", "histories of small edits"),
-    ("HTTP, edits at a hall", "bench/hall_times.py", "hall_cases", "connections in memory"),
+    ("Entries as JSON", "bench/entry_bodies.py", "cases", "bodies of 4 MiB"),
+    ("Edits", "bench/desk_times.py", "cases", "histories of small edits"),
+    ("HTTP, edits at a hall", "bench/hall_times.py", "cases", "connections in memory"),
     ("A server", "bench/serving.py edits", "", "edits a second"),
     ("A server", "bench/serving.py replies", "wrk", "replies a second, beside nginx"),
     ("A server", "bench/serving.py starts", "", "starts over 10,000 and 200,000 rows"),
@@ -58,7 +58,7 @@ FIGURES = (
 
 
 def is_there(name):
-    """Whether what a command has to find is there: a program, or that of a crate of cases."""
+    """Whether what a command has to find is there: a program, also that of the crate cases."""
     crate = TOP / "crates" / name / "out" / name
     return not name or bool(shutil.which(name)) or crate.exists()
 

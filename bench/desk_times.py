@@ -1,8 +1,8 @@
 #!/usr/bin/env python3
 """Times histories of small entries on a project of 10,000 objects, and tells the peak of memory.
 
-Usage: desk_times.py [PROGRAM]. The program is that of the crate edit_cases, as `rt run` builds it;
-it reads each history as a case of a table, and what comes is compared. Each row is the best of five
+Usage: desk_times.py [PROGRAM]. The program is that of the crate cases, as `rt run` builds it; it
+reads each history as a case of a table, and what comes is compared. Each row is the best of five
 runs, the start of the program and the reading of the table and of the entries as JSON included, for
 10,000 entries and for 100,000: ten times the entries may take ten times as long. The last shape has
 entries that are refused before anything is made, so it tells what the reading takes.
@@ -73,10 +73,10 @@ def table(shape, count):
 
 
 def main():
-    program = case_program("edit_cases", *sys.argv[1:])
+    program = case_program(*sys.argv[1:])
     for shape in (moves, additions, attributes, undos, gaps):
         for count in (10_000, 100_000):
-            seconds, peak = best_of_table(program, table(shape, count))
+            seconds, peak = best_of_table(program, "edits", table(shape, count))
             print(f"{shape.__name__:12} {count:7}: {seconds:6.2f} s, {peak / 2**20:6.1f} MiB")
 
 

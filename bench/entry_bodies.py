@@ -2,9 +2,9 @@
 """Times the reading of bodies of 1, 2 and 4 MiB that are large in one way each, and tells the peak
 of memory.
 
-Usage: entry_bodies.py [PROGRAM]. The program is that of the crate edit_cases, as `rt run` builds
-it; it reads each body as a case of a table, and what the body comes to is compared. Each row is the
-best of five runs, the start of the program and the reading of the table included. Nothing may grow
+Usage: entry_bodies.py [PROGRAM]. The program is that of the crate cases, as `rt run` builds it; it
+reads each body as a case of a table, and what the body comes to is compared. Each row is the best
+of five runs, the start of the program and the reading of the table included. Nothing may grow
 faster than its body, but for keys, which are sorted.
 """
 import pathlib
@@ -19,6 +19,7 @@ from built import case_program
 from measure import best
 
 MIB = 1_048_576
+LARGE = "edits/large.txt"
 ENTRY = '"session":"ann","number":1,"base":0,"edit":'
 RENUMBER = ENTRY + '{"kind":"renumber"}'
 
@@ -98,17 +99,19 @@ def row(program, shape, size):
     body, pointer = shape(size)
     assert len(body) <= size
     with tempfile.TemporaryDirectory() as folder:
-        pathlib.Path(folder, "large.txt").write_text(table(body, pointer))
-        run = subprocess.run([program, "large.txt"], cwd=folder, capture_output=True, text=True)
-        if run.stdout != "large.txt: 1 cases, 0 wrong\n":
+        path = pathlib.Path(folder, LARGE)
+        path.parent.mkdir()
+        path.write_text(table(body, pointer))
+        run = subprocess.run([program, LARGE], cwd=folder, capture_output=True, text=True)
+        if run.stdout != f"{LARGE}: 1 cases, 0 wrong\n":
             sys.exit(f"{shape.__name__}: {run.stdout[:200]} {run.stderr[:200]}")
-        seconds, peak = best(program, folder, ["large.txt"])
+        seconds, peak = best(program, folder, [LARGE])
     said = f"{1000 * seconds:8.1f} ms {peak / MIB:7.1f} MiB"
     print(f"{shape.__name__:12} {size // MIB} MiB {said}", flush=True)
 
 
 def main():
-    program = case_program("edit_cases", *sys.argv[1:])
+    program = case_program(*sys.argv[1:])
     for shape in SHAPES:
         for size in (MIB, 2 * MIB, 4 * MIB):
             row(program, shape, size)

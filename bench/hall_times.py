@@ -1,8 +1,8 @@
 #!/usr/bin/env python3
 """Times edits and reports on connections of a hall over a keeper in memory.
 
-Usage: hall_times.py [PROGRAM]. The program is that of the crate hall_cases, as `rt run` builds it;
-it reads each connection as a case of a table, and what comes is compared. Each row is the best of
+Usage: hall_times.py [PROGRAM]. The program is that of the crate cases, as `rt run` builds it; it
+reads each connection as a case of a table, and what comes is compared. Each row is the best of
 five runs, the start of the program and the reading of the table included: moves on a sheet of
 10,000 wires that touch nothing, as `POST /edits`, 10,000 on each connection; and `GET /sheets` of
 an empty project, 10,000 times on one connection. Ten times the edits may take ten times as long.
@@ -66,9 +66,9 @@ def looks(count):
 
 
 def main():
-    program = case_program("hall_cases", *sys.argv[1:])
+    program = case_program(*sys.argv[1:])
     for shape, count in ((edits, 10_000), (edits, 100_000), (looks, OF_ONE)):
-        seconds, peak = best_of_table(program, shape(count))
+        seconds, peak = best_of_table(program, "halls", shape(count))
         print(f"{shape.__name__} {count:7}: {seconds:6.2f} s, {peak / 2**20:6.1f} MiB")
 
 

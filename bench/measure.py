@@ -36,9 +36,11 @@ def best(program, folder, words, runs=RUNS):
     return min(run[1] for run in found), max(run[2] for run in found)
 
 
-def best_of_table(program, lines):
-    """The same for a program of cases that reads a table of these lines."""
-    with tempfile.TemporaryDirectory() as folder:
-        path = pathlib.Path(folder) / "times.txt"
+def best_of_table(program, name, lines):
+    """The same for the program `cases`, which reads a table of these lines in the folder of this
+    name."""
+    with tempfile.TemporaryDirectory() as room:
+        path = pathlib.Path(room, name, "times.txt")
+        path.parent.mkdir()
         path.write_text("\n".join(lines) + "\n", encoding="utf-8")
-        return best(program, folder, [path.name])
+        return best(program, room, [f"{name}/times.txt"])

@@ -19,10 +19,10 @@ def built(named=None):
     return path
 
 
-def case_program(crate, named=None):
-    """The path of the program of a crate of cases, as `rt run` builds it there, or of the one that
-    is named. Where it is not there, all ends."""
-    path = pathlib.Path(named or TOP / "crates" / crate / "out" / crate).resolve()
+def case_program(named=None):
+    """The path of the program `cases`, as `rt run` builds it in its crate, or of the one that is
+    named. Where it is not there, all ends."""
+    path = pathlib.Path(named or TOP / "crates" / "cases" / "out" / "cases").resolve()
     if not path.exists():
-        sys.exit(f"{path} is not built: use `rt run` in crates/{crate}")
+        sys.exit(f"{path} is not built: use `rt run` in crates/cases")
     return str(path)

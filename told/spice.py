@@ -6,12 +6,13 @@ Usage:
   spice.py [--seed S] [--count N] [PROGRAM]    N random runs (1, 2000), ten in a folder
   spice.py --folder FOLDER [PROGRAM]           each .sch of a folder
   spice.py --cases [PROGRAM]                   folders with known answers alone
-  spice.py --table [--seed S] [--count N]      random sheets as a table of cases, for project_cases
+  spice.py --table [--seed S] [--count N]      random sheets as a table of cases
 
 Status, what goes out and the error line must be those told here; how many runs had which answer is
 told at the end. README.md has what PROGRAM is where none is named, and what becomes of a
-difference. In a table each sheet stands for itself, with its text or its fault: project_cases,
-which reads sheets and knows no command, works it out again.
+difference. In a table each sheet stands for itself, with its text or its fault: in a folder
+projects/ beside a file parts.txt, the program `cases` works it out again, by project_cases, which
+reads sheets and knows no command.
 """
 import random
 import sys

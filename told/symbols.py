@@ -4,7 +4,7 @@
 Usage:
   symbols.py [--seed S] [--count N] [PROGRAM]    N random symbols (1, 3000), ten in a folder
   symbols.py --folder FOLDER [PROGRAM]           all .sym of a folder and below it, in one call
-  symbols.py --cases                             the table symbols.txt of crates/file_cases alone
+  symbols.py --cases                             the table files/symbols.txt of crates/cases alone
 
 Most random symbols are damaged: pins and attributes that are missing, bad or there twice, and lines
 that are refused. Status, what goes out and the error line must be those told here; how often which
@@ -29,7 +29,7 @@ from drawing import pin, symbol
 from geda_files import Fault, read_symbol
 from random_files import damaged
 
-TABLE = TOP / "crates" / "file_cases" / "data" / "symbols.txt"
+TABLE = TOP / "crates" / "cases" / "data" / "files" / "symbols.txt"
 TEXT = "T 0 0 5 10 0 1 0 0 1"
 NAMES = (
     "NoDevice NoRefdes NoPins MissingNumber MissingSeq DuplicateNumber DuplicateSeq MissingLabel"

@@ -2,9 +2,9 @@
 """Compares the verdicts on random histories, and the sheets after them, with those of docs/RULES.md
 told again ("Changes of edits", "Verdicts").
 
-Usage: verdicts.py [--histories N] [--seed N] [PROGRAM]. The program is that of the crate
-edit_cases, as `rt run` builds it; it reads the histories as cases of a table, some hundred at a
-time. How often each verdict came is told at the end.
+Usage: verdicts.py [--histories N] [--seed N] [PROGRAM]. The program is that of the crate cases, as
+`rt run` builds it; it reads the histories as cases of a table, some hundred at a time. How often
+each verdict came is told at the end.
 """
 import argparse
 import collections
@@ -43,10 +43,11 @@ def case(rng, counts):
 
 def run(program, tables):
     with tempfile.TemporaryDirectory() as folder:
-        table = pathlib.Path(folder) / "random.txt"
+        table = pathlib.Path(folder, "edits", "random.txt")
+        table.parent.mkdir()
         table.write_text("\n".join(tables) + "\n", encoding="utf-8")
         ran = subprocess.run(
-            [program, table.name], cwd=folder, capture_output=True, text=True, check=True
+            [program, "edits/random.txt"], cwd=folder, capture_output=True, text=True, check=True
         )
         if not ran.stdout.endswith(" cases, 0 wrong\n"):
             pathlib.Path("random.txt").write_text("\n".join(tables) + "\n", encoding="utf-8")
@@ -60,7 +61,7 @@ def main():
     parser.add_argument("--seed", type=int, default=1)
     parser.add_argument("program", nargs="?")
     asked = parser.parse_args()
-    program = case_program("edit_cases", asked.program)
+    program = case_program(asked.program)
     rng = random.Random(asked.seed)
     counts, cases, left = collections.Counter(), 0, asked.histories
     while left:

@@ -1,5 +1,5 @@
-//! Tables of cases, as the folders data/ of the programs above have them: `report` goes through
-//! one, and asks what each case comes to.
+//! Tables of cases, as the folders below crates/cases/data have them: `report` goes through one,
+//! and asks what each case comes to.
 //!
 //! How a table is written stands in crates/cases/data/README.txt. A case that came out otherwise
 //! than its table says is printed with its line.

@@ -49,8 +49,9 @@ fn answer<W: Threads + Wait + Clock + Sync>(
     }
 }
 
-/// What there is to tell of a table. `rt` is what servings make threads of, and wait by.
-pub fn program_report<W: Threads + Wait + Clock + Sync>(
+/// What there is to tell of a table of programs/. `rt` is what servings make threads of, and wait
+/// by.
+pub fn table_report<W: Threads + Wait + Clock + Sync>(
     rt: &W,
     alloc: Global,
     shared: &str,

@@ -2,9 +2,8 @@
 // database, the calls that fail, and the call of the keeper that waits:
 // `serve here store with ann bob over rows failing keeper:4 holding 8 until bob 1`,
 // `store here there over rows into others failing database:2`.
-use crate::held_keeper::HeldCall;
-use crate::scripts::milestone_of;
 use case_tables::{CaseFault, number_of};
+use scripted_edges::{HeldCall, milestone_of};
 
 /// What a case asks. What it does not say is empty.
 #[derive(Clone, Copy)]

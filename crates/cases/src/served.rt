@@ -1,11 +1,10 @@
 // What is asked of servings.
 use crate::case_words::serving_case;
 use crate::programs::{put_lines, put_marked};
-use crate::progress::{Progress, Traces};
-use crate::scripts::counted_name;
 use crate::servings::{Ran, run_case};
 use case_tables::{CaseFault, TableFiles, text_in};
 use http_lines::lines_of;
+use scripted_edges::{Progress, Traces, counted_name};
 use std::alloc::{AllocError, Global};
 use std::sync::{Mutex, Wait};
 use std::thread::Threads;

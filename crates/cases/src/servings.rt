@@ -1,10 +1,5 @@
 // The whole program over what is in memory.
 use crate::case_words::{ServingCase, held_call_of};
-use crate::held_keeper::{HeldCall, HeldKeeper};
-use crate::noted_gate::NotedGate;
-use crate::progress::{Progress, Traces};
-use crate::scripts::{counted_name, name_count, script_of};
-use crate::shared_link::SharedLink;
 use case_tables::{CaseFault, TableFiles, arguments_of, failing_calls};
 use edit_entries::Entry;
 use gafd_run::{MemorySink, run};
@@ -13,6 +8,10 @@ use hall_core::Places;
 use http_lines::entries_of;
 use keeper_core::MemoryKeeper;
 use project_files::MemoryFolder;
+use scripted_edges::{
+    HeldCall, HeldKeeper, NotedGate, Progress, SharedLink, Traces, counted_name, name_count,
+    script_of,
+};
 use std::alloc::Global;
 use std::collections::BTreeMap;
 use std::sync::{Mutex, Wait};

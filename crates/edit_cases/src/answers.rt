@@ -1,7 +1,7 @@
 // The kinds of cases.
 use crate::{attributes, entries, histories, motions, numbers, project_reports};
-use case_tables::{Asked, Case, CaseFault, TableFiles};
-use std::alloc::Global;
+use case_tables::{Asked, Case, CaseFault, TableFiles, report};
+use std::alloc::{AllocError, Global};
 
 fn row(alloc: Global, kind: &str, cells: &[&str], files: &TableFiles) -> Result<String, CaseFault> {
     match kind {
@@ -34,10 +34,14 @@ fn question(
     }
 }
 
-/// What a case comes to.
-pub fn answer(alloc: Global, case: &Case<'_>) -> Result<String, CaseFault> {
+fn answer(alloc: Global, case: &Case<'_>) -> Result<String, CaseFault> {
     match case.asked {
         Asked::Row(cells) => row(alloc, case.kind, cells, case.files),
         Asked::Question(words) => question(alloc, case.kind, words, case.files),
     }
+}
+
+/// What there is to tell of a table.
+pub fn table_report(alloc: Global, name: &str, text: &str) -> Result<String, AllocError> {
+    report(alloc, answer, "", name, text)
 }

@@ -1,7 +1,7 @@
 // The kinds of cases.
 use crate::{attributes, drawings, geometry, grouping, pins, readers, symbols, texts};
-use case_tables::{Asked, Case, CaseFault};
-use std::alloc::Global;
+use case_tables::{Asked, Case, CaseFault, report};
+use std::alloc::{AllocError, Global};
 
 fn text_answer(alloc: Global, kind: &str, cells: &[&str]) -> Result<String, CaseFault> {
     match kind {
@@ -33,8 +33,8 @@ fn read_answer(alloc: Global, kind: &str, cells: &[&str]) -> Result<String, Case
     }
 }
 
-/// What a case comes to: a row, since no kind of this program has questions.
-pub fn answer(alloc: Global, case: &Case<'_>) -> Result<String, CaseFault> {
+/// What a case comes to: a row, since no kind of this crate has questions.
+fn answer(alloc: Global, case: &Case<'_>) -> Result<String, CaseFault> {
     let Asked::Row(cells) = case.asked else {
         return Err(CaseFault::BadCase);
     };
@@ -53,4 +53,9 @@ pub fn answer(alloc: Global, case: &Case<'_>) -> Result<String, CaseFault> {
         "conductors" => pins::conductors(alloc, cells, case.files),
         _ => read_answer(alloc, case.kind, cells),
     }
+}
+
+/// What there is to tell of a table.
+pub fn table_report(alloc: Global, name: &str, text: &str) -> Result<String, AllocError> {
+    report(alloc, answer, "", name, text)
 }

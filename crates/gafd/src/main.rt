@@ -9,9 +9,6 @@
 //! `gafd_run::run` is all of the program, over anything outside; `main` makes the real ones.
 #![tactic(auto)]
 
-#[cfg(test)]
-mod edges;
-
 use gafd_run::{report_want_of_memory, run};
 use gates::TcpGate;
 use hall_core::Places;

@@ -1,7 +1,7 @@
 // The kinds of cases.
 use crate::{boards, changes, hierarchies, spice_texts};
-use case_tables::{Asked, Case, CaseFault, TableFiles};
-use std::alloc::Global;
+use case_tables::{Asked, Case, CaseFault, TableFiles, report};
+use std::alloc::{AllocError, Global};
 
 fn question(
     alloc: Global,
@@ -20,11 +20,20 @@ fn question(
     }
 }
 
-/// What a case comes to.
-pub fn answer(alloc: Global, case: &Case<'_>) -> Result<String, CaseFault> {
+fn answer(alloc: Global, case: &Case<'_>) -> Result<String, CaseFault> {
     match (case.asked, case.kind) {
         (Asked::Row(cells), "spice fault") => spice_texts::fault(alloc, cells, case.files),
         (Asked::Row(_), _) => Err(CaseFault::BadCase),
         (Asked::Question(words), kind) => question(alloc, kind, words, case.files),
     }
+}
+
+/// What there is to tell of a table. `shared` has the files that it shares with others.
+pub fn table_report(
+    alloc: Global,
+    shared: &str,
+    name: &str,
+    text: &str,
+) -> Result<String, AllocError> {
+    report(alloc, answer, shared, name, text)
 }
