@@ -1,5 +1,5 @@
 // The files of a project: the sheets that are named, those below them, and their symbols.
-ghost use Rattle.std.specs.Prelude.{◌≡◌, ◌≢◌, ◌≤◌, ◌++◌, ◌∷◌, [], IfOk, OnOk};
+ghost use Rattle.std.specs.Prelude.{◌≡◌, ◌≢◌, ◌≤◌, ◌++◌, ◌∷◌, [], IfOk, OnOk, length};
 ghost use Rattle.std.specs.List.{AllPairs};
 ghost use Rattle.geda_defs.specs.Contents.{KeepsFiles};
 ghost use Rattle.outside.specs.Counts.{counts};
@@ -33,16 +33,16 @@ fn finish(alloc: Global, asked: Asked, sheets: Vec<Sheet>) -> Result<GatheredFil
     })
 }
 
-/// The words as the queue, before anything is read.
-fn words_to_read(alloc: Global, names: &[Name]) -> Result<Asked, AllocError>
-    requires { AllPairs ◌≢◌ names.now }
-    ensures { IfOk result (IsStart names.now) }
+/// Puts the words into an empty queue, before anything is read.
+fn queue_words(names: &[Name], asked: &mut Asked) -> Result<(), AllocError>
+    requires words { AllPairs ◌≢◌ names.now }
+    requires nothing { IsStart [] asked.old }
+    ensures { OnOk result (IsStart names.now asked.new) }
 {
-    let mut asked = Asked::new(alloc);
     for name in names {
         asked.queue.insert(name.clone()?)?;
     }
-    Ok(asked)
+    Ok(())
 }
 
 /// Puts a sheet behind those that are read, after asking for what its objects need.
@@ -65,25 +65,55 @@ fn add_sheet<F: Folder>(
     Ok(())
 }
 
-/// The sheets of the words, and what they ask for.
+/// Reads the sheets of the words, and what they ask for.
 fn read_words<F: Folder>(
     alloc: Global,
     names: &[Name],
+    asked: &mut Asked,
+    sheets: &mut Vec<Sheet>,
     folder: &mut F,
-) -> Result<(Asked, Vec<Sheet>), FileFault>
-    requires { AllPairs ◌≢◌ names.now }
+) -> Result<(), FileFault>
+    requires words { AllPairs ◌≢◌ names.now }
+    requires start { IsStart names.now asked.old }
+    requires none { sheets.old.items ≡ [] }
     ensures read { IsFolderAnswer (counts (F.faults folder.old) (F.faults folder.new))
-        (ReadsWords (F.files folder.old) names.now) (with_view (λ r. (r.0, r.1.items)) result) }
+        (ReadsWords (F.files folder.old) names.now)
+        (with_view (λ _. (asked.new, sheets.new.items)) result) }
     ensures later { F.faults folder.old ≤ F.faults folder.new }
     ensures files { KeepsFiles (F.files folder.old) (F.files folder.new) }
 {
-    let mut asked = words_to_read(alloc, names)?;
-    let mut sheets = Vec::new(alloc);
     for name in names {
         let sheet = read_sheet_file(alloc, name, folder)?;
-        add_sheet(alloc, sheet, &mut asked, &mut sheets, folder)?;
+        add_sheet(alloc, sheet, asked, sheets, folder)?;
     }
-    Ok((asked, sheets))
+    Ok(())
+}
+
+/// Reads the sheets of the words and all below them, and what they ask for.
+fn read_all<F: Folder>(
+    alloc: Global,
+    names: &[Name],
+    asked: &mut Asked,
+    sheets: &mut Vec<Sheet>,
+    folder: &mut F,
+) -> Result<(), FileFault>
+    requires words { AllPairs ◌≢◌ names.now }
+    requires nothing { IsStart [] asked.old }
+    requires none { sheets.old.items ≡ [] }
+    ensures read { IsFolderAnswer (counts (F.faults folder.old) (F.faults folder.new))
+        (ReadsFrom (F.files folder.old) names.now)
+        (with_view (λ _. gathered sheets.new.items asked.new) result) }
+    ensures whole { OnOk result (length sheets.new.items ≡ length asked.new.queue) }
+    ensures later { F.faults folder.old ≤ F.faults folder.new }
+    ensures files { KeepsFiles (F.files folder.old) (F.files folder.new) }
+{
+    queue_words(names, asked)?;
+    read_words(alloc, names, asked, sheets, folder)?;
+    while let Some(file) = asked.next_waiting() {
+        let sheet = sheet_in(alloc, &file.name, &file.bytes)?;
+        add_sheet(alloc, sheet, asked, sheets, folder)?;
+    }
+    Ok(())
 }
 
 /// The sheets of these names, those below them, and the symbols that they ask for (docs/RULES.md,
@@ -100,10 +130,14 @@ pub fn gather<F: Folder>(
     ensures later { F.faults folder.old ≤ F.faults folder.new }
     ensures files { KeepsFiles (F.files folder.old) (F.files folder.new) }
 {
-    let (mut asked, mut sheets) = read_words(alloc, names, folder)?;
-    while let Some(file) = asked.next_waiting() {
-        let sheet = sheet_in(alloc, &file.name, &file.bytes)?;
-        add_sheet(alloc, sheet, &mut asked, &mut sheets, folder)?;
+    let mut asked = Asked::new(alloc);
+    let mut sheets = Vec::new(alloc);
+    match read_all(alloc, names, &mut asked, &mut sheets, folder) {
+        Ok(()) => Ok(finish(alloc, asked, sheets)?),
+        Err(fault) => {
+            drop(sheets);
+            drop(asked);
+            Err(fault)
+        }
     }
-    Ok(finish(alloc, asked, sheets)?)
 }

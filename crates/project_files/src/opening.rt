@@ -41,7 +41,7 @@ fn put_objects(
             sheet: sheet.clone()?,
             object,
         };
-        project.put_one(&Thing::Object(next), Some(Value::Object(placed)));
+        drop(project.put_one(&Thing::Object(next), Some(Value::Object(placed))));
         next += 1;
     }
     Ok(next)
@@ -59,9 +59,10 @@ fn put_sheet(project: &mut Project, name: Name, id: u32, sheet: Sheet) -> Result
         (project.old.spare.things ≤ project.new.spare.things + (length sheet.objects + 1)) }
     ensures names { OnOk result (project.old.spare.names ≤ project.new.spare.names + 1) }
 {
+    let thing = Thing::SheetName(name.clone()?);
     let Sheet { head, objects } = sheet;
-    project.put_one(&Thing::SheetName(name.clone()?), Some(Value::Head(head)));
-    Ok(put_objects(project, &name, id, objects)?)
+    drop(project.put_one(&thing, Some(Value::Head(head))));
+    put_objects(project, &name, id, objects)
 }
 
 fn put_sheets(project: &mut Project, names: Vec<Name>, sheets: Vec<Sheet>) -> Result<(), AllocError>
@@ -96,7 +97,7 @@ fn put_symbols(project: &mut Project, symbols: Vec<(Name, Option<Symbol>)>)
 {
     for (name, symbol) in symbols {
         if let Some(symbol) = symbol {
-            project.put_one(&Thing::SymbolName(name), Some(Value::Symbol(symbol)));
+            drop(project.put_one(&Thing::SymbolName(name), Some(Value::Symbol(symbol))));
         }
     }
 }

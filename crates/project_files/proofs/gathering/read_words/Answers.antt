@@ -12,21 +12,21 @@ use Rattle.project_files.proofs.gathering.read_words.Goals as goal
 
 pub loop-name-init : goal.loop-name-init
 loop-name-init g c = record {
-  stands = starts (g.F.Folder.files c.args.folder.now) c.args.names.now c.in_ok-asked.asked c.new-sheets.result.items
-      c.in_ok-asked.ensures c.new-sheets.ensures.items;
+  stands = starts (g.F.Folder.files c.args.folder.now) c.args.names.now c.args.asked.now c.args.sheets.now.items
+      c.requires.start c.requires.none;
   kept = stays (g.F.Folder.files c.args.folder.now);
   later = omega arith;
 }
 
 pub returns-in_err-sheet-clause-read : goal.returns-in_err-sheet-clause-read
 returns-in_err-sheet-clause-read g c =
-    let p = err_from_is_err_and c.from_residual-in_err-sheet.result c.from_residual-in_err-sheet.ensures.1 in
+    let p = err_from_is_err_and c.from_residual.result c.from_residual.ensures.1 in
     let fault = c.in_err-sheet.field-0.0 in
     rw (p.1, p.2) (fault_later (g.F.Folder.faults c.args.folder.now) (g.F.Folder.faults c.loop-name.folder) _
     (SheetFrom (g.F.Folder.files c.loop-name.folder) c.name-item.result)
     (ReadsWords (g.F.Folder.files c.args.folder.now) c.args.names.now) fault c.loop-name.invariant.later
     (λ from. turn_fault
-    (word_turn _ (Err fault) c.requires (omega arith) c.name-item.is c.loop-name.invariant.stands c.loop-name.invariant.kept from))
+    (word_turn _ (Err fault) c.requires.words (omega arith) c.name-item.is c.loop-name.invariant.stands c.loop-name.invariant.kept from))
     c.in_err-sheet.ensures.read)
 
 pub returns-in_err-sheet-clause-files : goal.returns-in_err-sheet-clause-files
@@ -44,7 +44,7 @@ returns-in_err-add_sheet-clause-read g c =
     (Asks (g.F.Folder.files c.read_sheet_file.new.folder) asked (AsksObjects asked sheet.objects))
     (ReadsWords (g.F.Folder.files c.args.folder.now) c.args.names.now) fault later
     (turn_ends
-    (word_turn _ (Ok sheet) c.requires (omega arith) c.name-item.is c.loop-name.invariant.stands c.loop-name.invariant.kept c.in_ok-sheet.ensures.read)
+    (word_turn _ (Ok sheet) c.requires.words (omega arith) c.name-item.is c.loop-name.invariant.stands c.loop-name.invariant.kept c.in_ok-sheet.ensures.read)
     (kept_on _ _ _ c.loop-name.invariant.kept c.in_ok-sheet.ensures.files) fault)
     c.in_err-add_sheet.ensures.read)
 
@@ -57,7 +57,7 @@ loop-name-preserved g c =
     let kept = kept_on _ _ _ c.loop-name.invariant.kept c.in_ok-sheet.ensures.files in
     record {
       stands = turn_passes
-          (word_turn _ (Ok c.in_ok-sheet.sheet) c.requires (omega arith) c.name-item.is
+          (word_turn _ (Ok c.in_ok-sheet.sheet) c.requires.words (omega arith) c.name-item.is
           c.loop-name.invariant.stands c.loop-name.invariant.kept c.in_ok-sheet.ensures.read)
           kept c.add_sheet.new.asked c.add_sheet.new.sheets.items c.in_ok-add_sheet.ensures.read c.in_ok-add_sheet.ensures.sheets;
       kept = kept_on _ _ _ kept c.in_ok-add_sheet.ensures.files;

@@ -1,4 +1,4 @@
-use Rattle.std.proofs.Common.{[], ◌∷◌, ◌++◌, Ok, Err, arith}
+use Rattle.std.proofs.Common.{[], ◌∷◌, ◌++◌, Ok, Err, refl, arith}
 use Rattle.std.proofs.lemmas.Result.{err_from_is_err_and}
 use Rattle.geda_model.specs.Sheets.{SheetData}
 use Rattle.geda_grammar.specs.Faults.{sheet_file}
@@ -10,7 +10,7 @@ use Rattle.project_files.specs.steps.Asking.{AsksObjects}
 use Rattle.project_files.proofs.Passing.{fault_from, fault_later}
 use Rattle.project_files.proofs.AskingLemmas.{kept_on}
 use Rattle.project_files.proofs.SheetLemmas.{all_read, done, found_turn, turn_ends, turn_fault, turn_passes}
-use Rattle.project_files.proofs.gathering.gather.Goals as goal
+use Rattle.project_files.proofs.gathering.read_all.Goals as goal
 
 pub returns-in_err-sheet-clause-read : goal.returns-in_err-sheet-clause-read
 returns-in_err-sheet-clause-read g c =
@@ -51,10 +51,7 @@ loop-file-preserved g c = record {
 }
 
 pub returns-clause-read : goal.returns-clause-read
-returns-clause-read g c = done c.next_waiting.new.self c.loop-file.invariant.stands c.in_default.ensures c.in_ok-finish.ensures.all
+returns-clause-read g c = done c.next_waiting.new.self c.loop-file.invariant.stands c.in_default.ensures refl
 
 pub returns-clause-whole : goal.returns-clause-whole
-returns-clause-whole g c = record {
-  sheets = all_read c.next_waiting.new.self c.loop-file.invariant.stands c.in_default.ensures c.in_ok-finish.ensures.all;
-  symbols_apart = c.in_ok-finish.ensures.symbols_apart;
-}
+returns-clause-whole g c = all_read c.next_waiting.new.self c.loop-file.invariant.stands c.in_default.ensures refl

@@ -1,5 +1,5 @@
 use Rattle.std.proofs.Common.{◌≡◌, [], take}
-use Rattle.project_files.proofs.gathering.words_to_read.Given as goal
+use Rattle.project_files.proofs.gathering.queue_words.Given as goal
 
 abbrev pub invariant-loop-name : goal.invariant-loop-name
 invariant-loop-name l = record {

@@ -1,7 +1,7 @@
 use Rattle.std.proofs.Common.{ℕ, List, [], ◌≤◌, ◌-◌, ◌^◌, length}
 use Rattle.geda_defs.specs.Contents.{KeepsFiles}
 use Rattle.project_files.specs.steps.Standing.{StandsAt}
-use Rattle.project_files.proofs.gathering.gather.Given as goal
+use Rattle.project_files.proofs.gathering.read_all.Given as goal
 
 abbrev pub invariant-loop-file : goal.invariant-loop-file
 invariant-loop-file g l = record {
