@@ -21,7 +21,7 @@ use edit_desk::Desk;
 use edit_entries::Entry;
 use hall_log::{HallName, LogLength, NamedLog, Prefix};
 use keeper_core::{Keeper, Reply};
-use std::alloc::Global;
+use std::alloc::{AllocError, Global};
 use std::sync::ledger::Share;
 use std::sync::{Mutex, Wait, ledger};
 
@@ -121,12 +121,11 @@ fn first_board<B: HallName>(
     alloc: Global,
     desk: &Desk,
     prefix: &Prefix<B>,
-) -> Result<PrefixBoard<B>, OpenFault>
+) -> Result<PrefixBoard<B>, AllocError>
     requires { prefix.now ≡ desk.now.history }
-    ensures shown { IfOk result (λ board. board ≡ desk.now.history) }
-    ensures other { IfErr result (λ e. e ≡ OpenFault.NoMemory) }
+    ensures { IfOk result (λ board. board ≡ desk.now.history) }
 {
-    let board = Board::of(alloc, desk.project()).map_err(|_| OpenFault::NoMemory)?;
+    let board = Board::of(alloc, desk.project())?;
     Ok(PrefixBoard::new(alloc, board, prefix.again()))
 }
 
@@ -134,20 +133,17 @@ fn first_boards<B: HallName>(
     alloc: Global,
     desk: &Desk,
     prefix: &Prefix<B>,
-) -> Result<(PrefixBoard<B>, PrefixBoard<B>), OpenFault>
+) -> Result<(PrefixBoard<B>, PrefixBoard<B>), AllocError>
     requires { prefix.now ≡ desk.now.history }
-    ensures shown { IfOk result
+    ensures { IfOk result
         (λ boards. (boards.0 ≡ desk.now.history) × (boards.1 ≡ desk.now.history)) }
-    ensures other { IfErr result (λ e. e ≡ OpenFault.NoMemory) }
 {
     let first = first_board(alloc, desk, prefix)?;
-    match first_board(alloc, desk, prefix) {
-        Ok(second) => Ok((first, second)),
-        Err(fault) => {
-            drop(first);
-            Err(fault)
-        }
-    }
+    let Ok(second) = first_board(alloc, desk, prefix) else {
+        drop(first);
+        return Err(AllocError);
+    };
+    Ok((first, second))
 }
 
 // The history, published whole. Each exit gives what goes away to `drop`, by its type.
@@ -164,12 +160,9 @@ fn published_at_first<B: HallName, R: Wait + Drop>(
         × (d.waiting ≡ []) × (d.change ≡ None)) }
     ensures other { IfErr result (λ e. e ≡ OpenFault.NoMemory) }
 {
-    let (first, second) = match first_boards(alloc, &desk, &log.1) {
-        Ok(boards) => boards,
-        Err(fault) => {
-            drop(desk);
-            return Err(fault);
-        }
+    let Ok((first, second)) = first_boards(alloc, &desk, &log.1) else {
+        drop(desk);
+        return Err(OpenFault::NoMemory);
     };
     match PublishedDesk::new(alloc, rt, desk, log, first, second, seats as usize) {
         Ok(published) => Ok(published),
@@ -224,10 +217,8 @@ pub fn open_hall<K: Keeper, B: HallName, R: Wait + Drop>(
         edit_log: EditLog::new(keeper, &mut rest),
         losses: LossTotal::new(owed),
     };
-    let hall = Hall {
-        pen: Mutex::new(pen),
-    };
-    Ok((hall, taken, keys))
+    let pen = Mutex::new(pen);
+    Ok((Hall { pen }, taken, keys))
 }
 
 /// Takes the lock, hands the keeper back, and says whether its rows hold all that these seats have

@@ -136,11 +136,13 @@ impl<K: Keeper, B: HallName, S: ShowsBoard<B>, R: Wait + Drop> Pen<K, B, S, R> {
         let front = self.desk.front();
         match self.edit_log.put(front, &entry) {
             Ok(()) => {}
-            Err(KeepFault::Failed) => {
+            Err(fault) => {
                 drop((entry, change, kept));
-                return Reply::KeeperFault { front };
+                match fault {
+                    KeepFault::Failed => return Reply::KeeperFault { front },
+                    KeepFault::NoMemory => return Reply::NoMemory,
+                }
             }
-            Err(KeepFault::NoMemory) => return Reply::NoMemory,
         }
         let first_id = self.desk.next_id();
         let serial = self.desk.commit(entry, change, kept);
@@ -208,19 +210,11 @@ impl<K: Keeper, B: HallName, S: ShowsBoard<B>, R: Wait + Drop> Pen<K, B, S, R> {
             return Reply::NoEntry;
         }
         match self.step(entry) {
-            Reply::Done {
-                serial,
-                first_id,
-                front,
-            } => {
+            done @ Reply::Done { .. } => {
                 if !seat.learn(self.desk.told()) {
                     return Reply::NoEntry;
                 }
-                Reply::Done {
-                    serial,
-                    first_id,
-                    front,
-                }
+                done
             }
             repeat @ Reply::Repeat { .. } => repeat,
             Reply::Refused { fault, front } => Reply::Refused { fault, front },

@@ -72,7 +72,10 @@ impl<B: HallName, S: ShowsBoard<B>, R: Wait + Drop> PublishedDesk<B, S, R> {
     {
         let (log_length, listed) = log;
         let _history = listed.len();
-        let writer = WriteHandle::new(alloc, rt, first, second, readers)?;
+        let Ok(writer) = WriteHandle::new(alloc, rt, first, second, readers) else {
+            drop(desk);
+            return Err(AllocError);
+        };
         Ok(PublishedDesk {
             alloc,
             desk,

@@ -1,6 +1,6 @@
 // The history of a keeper's rows.
 ghost use Rattle.std.specs.Prelude.{◌≡◌, ◌≤◌, [], IsErrOf};
-ghost use Rattle.geda_defs.specs.Causes.{HasRisen};
+ghost use Rattle.geda_defs.specs.Causes.{HasCause, HasRisen};
 ghost use Rattle.hall_core.specs.Rows.{NeverFaults, ReadsRows};
 ghost use Rattle.hall_core.specs.steps.NextRows.{FindsRow, TakesRow};
 
@@ -35,9 +35,8 @@ fn next_row<K: Keeper>(
     desk: &Desk,
 ) -> Result<Option<(Entry, Change)>, OpenFault>
     ensures rows { K.rows keeper.new ≡ K.rows keeper.old }
-    ensures later { K.faults keeper.old ≤ K.faults keeper.new }
-    ensures cause { IsErrOf result OpenFault.KeeperFault →
-        HasRisen (K.faults keeper.old) (K.faults keeper.new) }
+    ensures cause { HasCause (K.faults keeper.old) (K.faults keeper.new) result
+        OpenFault.KeeperFault }
     ensures never { K.never_fails keeper.old → NeverFaults (K.never_fails keeper.new) result }
     ensures other { ¬ (IsErrOf result OpenFault.NoPlace) }
     ensures finds { FindsRow (K.rows keeper.old) desk.now.history result }
@@ -55,7 +54,10 @@ fn next_row<K: Keeper>(
             drop(entry);
             Err(OpenFault::RowRefused { serial })
         }
-        Ok(Verdict::Refused { fault: _ }) => Err(OpenFault::RowRefused { serial }),
+        Ok(Verdict::Refused { fault: _ }) => {
+            drop(entry);
+            Err(OpenFault::RowRefused { serial })
+        }
         Err(_) => {
             drop(entry);
             Err(OpenFault::NoMemory)
@@ -66,9 +68,8 @@ fn next_row<K: Keeper>(
 // Takes the next row into the history, and says whether there was one.
 fn take_row<K: Keeper>(alloc: Global, keeper: &mut K, desk: &mut Desk) -> Result<bool, OpenFault>
     ensures rows { K.rows keeper.new ≡ K.rows keeper.old }
-    ensures later { K.faults keeper.old ≤ K.faults keeper.new }
-    ensures cause { IsErrOf result OpenFault.KeeperFault →
-        HasRisen (K.faults keeper.old) (K.faults keeper.new) }
+    ensures cause { HasCause (K.faults keeper.old) (K.faults keeper.new) result
+        OpenFault.KeeperFault }
     ensures never { K.never_fails keeper.old → NeverFaults (K.never_fails keeper.new) result }
     ensures other { ¬ (IsErrOf result OpenFault.NoPlace) }
     ensures takes { TakesRow (K.rows keeper.old) desk.old.history result desk.new.history }
@@ -103,7 +104,16 @@ pub fn read_rows<K: Keeper>(alloc: Global, keeper: &mut K) -> Result<Desk, OpenF
     ensures reads { ReadsRows (K.rows keeper.old) result }
 {
     let mut desk = Desk::new(alloc);
-    while take_row(alloc, keeper, &mut desk)? {}
+    'rows: loop {
+        match take_row(alloc, keeper, &mut desk) {
+            Ok(true) => {}
+            Ok(false) => break,
+            Err(fault) => {
+                drop(desk);
+                return Err(fault);
+            }
+        }
+    }
     // The length is asked so that the proof sees that the history is legal.
     let _history = desk.front();
     Ok(desk)

@@ -3,10 +3,10 @@ use mathlib.Core.List.{IsPrefix}
 use Rattle.hall_core.proofs.rows.read_rows.Given as goal
 
 -- the rows so far are the history
-abbrev pub invariant-loop-desk : goal.invariant-loop-desk
-invariant-loop-desk g l =
+abbrev pub invariant-rows : goal.invariant-rows
+invariant-rows g l =
     IfSome (g.K.Keeper.rows l.fn.keeper) (λ all. IsPrefix l.desk.history all) × (g.K.Keeper.rows l.keeper ≡ g.K.Keeper.rows l.fn.keeper)
     × (g.K.Keeper.faults l.fn.keeper ≤ g.K.Keeper.faults l.keeper) × (g.K.Keeper.never_fails l.fn.keeper → g.K.Keeper.never_fails l.keeper)
 
-abbrev pub decreases-loop-desk : goal.decreases-loop-desk
-decreases-loop-desk g l = 200001 - length l.desk.history
+abbrev pub decreases-rows : goal.decreases-rows
+decreases-rows g l = 200001 - length l.desk.history

@@ -15,8 +15,10 @@ returns-else-not-learn-2-clause-edits g c =
     let again = c.if-not-learn-2.ensures.learned in
     let st : Steps c.catch_up.new.self c.args.entry (replies.Done c.in-Done.serial c.in-Done.first_id c.in-Done.front) c.step.new.self = c.in-Done.ensures in
     let shown : c.told-in-Done.result.now ≡ c.step.new.self.shown = c.told-in-Done.ensures ∙ ap (λ (d : PenData). d.shown) c.self-in-Done.view_is in
-    edits_done c.args.seat.now c.learn.new.self c.catch_up.new.self c.step.new.self c.args.entry seen begins c.learn-in-Done.new.self c.in-Done.serial c.in-Done.first_id c.in-Done.front
-    (again.0 ∙ (shown ∙ st.4.0)) (again.2 ∙ learned.2) st
+    let is : c.step.result ≡ replies.Done c.in-Done.serial c.in-Done.first_id c.in-Done.front = search rules in
+    rw is
+    (edits_done c.args.seat.now c.learn.new.self c.catch_up.new.self c.step.new.self c.args.entry seen begins c.learn-in-Done.new.self c.in-Done.serial c.in-Done.first_id c.in-Done.front
+    (again.0 ∙ (shown ∙ st.4.0)) (again.2 ∙ learned.2) st)
 
 pub returns-in-Repeat-clause-edits : goal.returns-in-Repeat-clause-edits
 returns-in-Repeat-clause-edits g c =

@@ -6,8 +6,8 @@ use Rattle.hall_core.specs.Histories.{IsJudged}
 use Rattle.hall_core.proofs.HistoryLemmas.{first_id_last, may_follow}
 use Rattle.hall_core.proofs.pen.Pen.put.Goals as goal
 
-pub returns-in-Err-Failed : goal.returns-in-Err-Failed
-returns-in-Err-Failed g c = (
+pub returns-in-Failed : goal.returns-in-Failed
+returns-in-Failed g c = (
   may_follow c.args.self.now.history c.args.entry c.args.change c.requires.accepted,
   search rules,
   (search rules, search rules, search rules, search rules),
