@@ -33,8 +33,10 @@ fn is_next_same<D: Keeper>(desk: &Desk, to: &mut D, serial: u32) -> Result<bool,
     match to.load(serial) {
         Ok(Some(row)) => {
             if is_row_of(desk, serial, &row) {
+                drop(row);
                 return Ok(true);
             }
+            drop(row);
             Err(StoreFault::Differs { serial })
         }
         Ok(None) => Ok(false),

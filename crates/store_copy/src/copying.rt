@@ -55,7 +55,11 @@ pub fn store_rows<K: Keeper, D: Keeper>(
     ensures stores { Stores (K.rows from.old) (D.rows to.old) result (D.rows to.new) }
 {
     match read_rows(alloc, from) {
-        Ok(desk) => copy_rows(&desk, to),
+        Ok(desk) => {
+            let stored = copy_rows(&desk, to);
+            drop(desk);
+            stored
+        }
         Err(OpenFault::KeeperFault) => Err(StoreFault::FromFault),
         Err(OpenFault::RowRefused { serial }) => Err(StoreFault::RowRefused { serial }),
         Err(OpenFault::NoPlace) | Err(OpenFault::NoMemory) => Err(StoreFault::NoMemory),

@@ -64,7 +64,11 @@ fn settle_rows<D: Keeper>(desk: &Desk, to: &mut D) -> Result<(), StoreFault>
     ensures rows { D.rows to.new ≡ D.rows to.old }
 {
     match to.load(desk.front()) {
-        Ok(_) => Ok(()),
+        Ok(None) => Ok(()),
+        Ok(Some(row)) => {
+            drop(row);
+            Ok(())
+        }
         Err(KeepFault::Failed) => Err(StoreFault::ToFault),
         Err(KeepFault::NoMemory) => Err(StoreFault::NoMemory),
     }
