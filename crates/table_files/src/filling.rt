@@ -109,30 +109,29 @@ fn components_in(
 }
 
 /// The entries of components.
-fn entries_of(alloc: Global, components: Vec<(u32, Object)>) -> Result<Vec<Entry>, AllocError>
-    requires { length components.items ≤ 4194304 }
+fn entries_of(alloc: Global, components: &[(u32, Object)]) -> Result<Vec<Entry>, AllocError>
+    requires { length components.now ≤ 4194304 }
     ensures { IfOk result (λ entries.
-        entries.items ≡ entries_from (codes "fill") 2 1 components.items) }
+        entries.items ≡ entries_from (codes "fill") 2 1 components.now) }
 {
     let session = session(alloc)?;
-    entries_from(alloc, &session, 2, 1, components.as_slice())
+    entries_from(alloc, &session, 2, 1, components)
 }
 
 /// What it comes to that these entries are put into a history, one after the other.
 fn filled_in_order(
     alloc: Global,
-    desk: Desk,
+    desk: &mut Desk,
     sheet: &Name,
     entries: Vec<Entry>,
 ) -> Result<FilledFile, TableFileFault>
     ensures { GivesTableFile (λ filled. filled) result
-        (filled_in_history desk.history sheet.now entries.items) }
+        (filled_in_history desk.old.history sheet.now entries.items) }
 {
-    let mut desk = desk;
     let count = entries.len();
-    match put_all(alloc, &mut desk, entries)? {
+    match put_all(alloc, desk, entries)? {
         None => {
-            let filled = filled_with(alloc, &desk, sheet, count)?;
+            let filled = filled_with(alloc, desk, sheet, count)?;
             Ok(filled)
         }
         Some(fault) => {
@@ -142,24 +141,66 @@ fn filled_in_order(
     }
 }
 
-/// What it comes to that the entries of the components of a table are put into a history.
-fn filled_by(
+/// What it comes to that the entries of these components are put into a history, one after the
+/// other.
+fn filled_one_by_one(
     alloc: Global,
-    desk: Desk,
+    desk: &mut Desk,
     sheet: &Name,
     components: Vec<(u32, Object)>,
 ) -> Result<FilledFile, TableFileFault>
-    requires table { AreOfTable (project desk.history) sheet.now components.items }
-    requires few { length components.items ≤ 4194304 }
-    ensures { GivesTableFile (λ filled. filled) result (filled_in_history desk.history sheet.now
+    requires { length components.items ≤ 4194304 }
+    ensures { GivesTableFile (λ filled. filled) result (filled_in_history desk.old.history sheet.now
         (entries_from (codes "fill") 2 1 components.items)) }
 {
-    match filled_at_once(alloc, &desk, sheet, components.as_slice())? {
-        Some(filled) => Ok(filled),
-        None => {
-            let entries = entries_of(alloc, components)?;
-            filled_in_order(alloc, desk, sheet, entries)
+    let entries = entries_of(alloc, components.as_slice());
+    drop(components);
+    filled_in_order(alloc, desk, sheet, entries?)
+}
+
+/// What it comes to that the entries of the components of a table are put into a history.
+fn filled_by(
+    alloc: Global,
+    desk: &mut Desk,
+    sheet: &Name,
+    components: Vec<(u32, Object)>,
+) -> Result<FilledFile, TableFileFault>
+    requires table { AreOfTable (project desk.old.history) sheet.now components.items }
+    requires few { length components.items ≤ 4194304 }
+    ensures { GivesTableFile (λ filled. filled) result (filled_in_history desk.old.history sheet.now
+        (entries_from (codes "fill") 2 1 components.items)) }
+{
+    match filled_at_once(alloc, desk, sheet, components.as_slice()) {
+        Ok(Some(filled)) => {
+            drop(components);
+            Ok(filled)
         }
+        Ok(None) => filled_one_by_one(alloc, desk, sheet, components),
+        Err(_) => {
+            drop(components);
+            Err(TableFileFault::NoMemory)
+        }
+    }
+}
+
+/// What it comes to that the table in the file of this name is filled into the sheet of a history.
+fn filled_into(
+    alloc: Global,
+    desk: &mut Desk,
+    sheet: &Name,
+    table: &Name,
+    bytes: &[u8],
+) -> Result<FilledFile, TableFileFault>
+    ensures { GivesTableFile (λ filled. filled) result
+        (filled_file desk.old.history sheet.now table.now bytes.now) }
+{
+    if bytes.len() > MOST_FILE_BYTES {
+        let file = table.clone()?;
+        return Err(refused(file, 1, TableKind::TooLarge));
+    }
+    match components_in(alloc, desk, sheet, table, bytes) {
+        Ok(components) => filled_by(alloc, desk, sheet, components),
+        Err(fault) => Err(fault),
     }
 }
 
@@ -180,12 +221,8 @@ pub fn filled_file(
     ensures { GivesTableFile (λ filled. filled) result
         (filled_file desk.history sheet.now table.now bytes.now) }
 {
-    if bytes.len() > MOST_FILE_BYTES {
-        let file = table.clone()?;
-        return Err(refused(file, 1, TableKind::TooLarge));
-    }
-    match components_in(alloc, &desk, sheet, table, bytes) {
-        Ok(components) => filled_by(alloc, desk, sheet, components),
-        Err(fault) => Err(fault),
-    }
+    let mut desk = desk;
+    let filled = filled_into(alloc, &mut desk, sheet, table, bytes);
+    drop(desk);
+    filled
 }

@@ -3,6 +3,7 @@ ghost use Rattle.std.specs.Prelude.{◌≡◌, IfOk, codes};
 ghost use Rattle.edit_rules.specs.Values.{sheet_value};
 ghost use Rattle.table_files.specs.Faults.{IsFaultOf};
 ghost use Rattle.table_files.specs.OpenedFiles.{GivesTableFile, add_sheet, opened_file, put_sheet};
+ghost use Rattle.table_files.specs.declared.fault.TableFileFault.TheVariants.{EditRefused};
 
 use crate::fault::{TableFileFault, unread};
 use desk_entries::put_all;
@@ -63,9 +64,26 @@ fn fault_of(alloc: Global, sheet: &Name, bytes: &[u8], other: TableFileFault) ->
         return TableFileFault::NoMemory;
     };
     match sheet_of(alloc, bytes) {
-        Ok(_) => other,
-        Err(fault) => unread(file, fault),
+        Ok(sheet) => {
+            drop(sheet);
+            other
+        }
+        Err(fault) => {
+            drop(other);
+            unread(file, fault)
+        }
     }
+}
+
+/// The fault of a text, where the entry that adds its sheet is refused so.
+fn refused_text(alloc: Global, sheet: &Name, text: &str, fault: EditFault) -> TableFileFault
+    ensures { IsFaultOf sheet.now (EditRefused sheet.now fault) (sheet_value text.now) result }
+{
+    let Ok(file) = sheet.clone() else {
+        return TableFileFault::NoMemory;
+    };
+    let refused = TableFileFault::EditRefused { file, fault };
+    fault_of(alloc, sheet, text.as_bytes(), refused)
 }
 
 /// The history of the sheet that a text spells. The sheet is read once where its entry is accepted.
@@ -73,12 +91,15 @@ fn opened_text(alloc: Global, sheet: &Name, text: &str) -> Result<Desk, TableFil
     ensures { GivesTableFile (λ desk. desk.history) result (opened_file sheet.now text.now) }
 {
     let mut desk = Desk::new(alloc);
-    match put_sheet(alloc, &mut desk, sheet, text)? {
-        None => Ok(desk),
-        Some(fault) => {
-            let file = sheet.clone()?;
-            let refused = TableFileFault::EditRefused { file, fault };
-            Err(fault_of(alloc, sheet, text.as_bytes(), refused))
+    match put_sheet(alloc, &mut desk, sheet, text) {
+        Ok(None) => Ok(desk),
+        Ok(Some(fault)) => {
+            drop(desk);
+            Err(refused_text(alloc, sheet, text, fault))
+        }
+        Err(_) => {
+            drop(desk);
+            Err(TableFileFault::NoMemory)
         }
     }
 }

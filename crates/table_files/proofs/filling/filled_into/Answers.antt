@@ -9,11 +9,11 @@ use Rattle.table_files.specs.FilledFiles.{FilledData, entries_in, filled_or_faul
 use Rattle.table_files.specs.OpenedFiles.{GivesTableFile}
 use Rattle.table_files.specs.declared.fault.TableFileFault.{TableFileFault}
 use Rattle.table_files.proofs.FillingLemmas.{fault_kept}
-use Rattle.table_files.proofs.filling.filled_file.Goals as goal
+use Rattle.table_files.proofs.filling.filled_into.Goals as goal
 
 pub returns-in-Ok : goal.returns-in-Ok
 returns-in-Ok c =
-    let h = c.args.desk.history in
+    let h = c.args.desk.now.history in
     let sheet = c.args.sheet.now in
     let bytes = c.args.bytes.now in
     rw (le-ltb 4194304 (length bytes) (omega (arith, c.if-bytes-gt-MOST_FILE_BYTES.false)))
@@ -21,7 +21,7 @@ returns-in-Ok c =
 
 pub returns-in-Err : goal.returns-in-Err
 returns-in-Err c =
-    let h = c.args.desk.history in
+    let h = c.args.desk.now.history in
     let sheet = c.args.sheet.now in
     let bytes = c.args.bytes.now in
     rw (le-ltb 4194304 (length bytes) (omega (arith, c.if-bytes-gt-MOST_FILE_BYTES.false)))
