@@ -48,27 +48,65 @@ fn edit_of(alloc: Global, edit: Edit, files: &TableFiles) -> Result<Edit, CaseFa
     }
 }
 
+/// The entry, with the texts of its edit from the files that they name.
+fn with_texts(alloc: Global, entry: Entry, files: &TableFiles) -> Result<Entry, CaseFault> {
+    let Entry {
+        session,
+        number,
+        base,
+        edit,
+    } = entry;
+    match edit_of(alloc, edit, files) {
+        Ok(edit) => Ok(Entry {
+            session,
+            number,
+            base,
+            edit,
+        }),
+        Err(fault) => {
+            drop(session);
+            Err(fault)
+        }
+    }
+}
+
+fn case_fault(fault: EntryFault) -> CaseFault {
+    match fault {
+        EntryFault::BadEdit { .. } => CaseFault::BadCase,
+        EntryFault::NoMemory => CaseFault::NoMemory,
+    }
+}
+
 /// The entry of a line.
 pub fn entry_of(alloc: Global, line: &str, files: &TableFiles) -> Result<Entry, CaseFault> {
     let line = with_ids(alloc, line)?;
     match read_entry(alloc, line.as_str().as_bytes()) {
-        Ok(entry) => Ok(Entry {
-            session: entry.session,
-            number: entry.number,
-            base: entry.base,
-            edit: edit_of(alloc, entry.edit, files)?,
-        }),
-        Err(EntryFault::BadEdit { .. }) => Err(CaseFault::BadCase),
-        Err(EntryFault::NoMemory) => Err(CaseFault::NoMemory),
+        Ok(entry) => with_texts(alloc, entry, files),
+        Err(fault) => Err(case_fault(fault)),
     }
+}
+
+fn put_entries(
+    alloc: Global,
+    entries: &mut Vec<Entry>,
+    lines: &str,
+    files: &TableFiles,
+) -> Result<(), CaseFault> {
+    for line in lines.lines() {
+        entries.push(entry_of(alloc, line, files)?)?;
+    }
+    Ok(())
 }
 
 /// The entries of a file.
 pub fn entries_of(alloc: Global, file: &str, files: &TableFiles) -> Result<Vec<Entry>, CaseFault> {
     let text = text_in(alloc, files.find(file)?)?;
     let mut entries = Vec::new(alloc);
-    for line in text.as_str().lines() {
-        entries.push(entry_of(alloc, line, files)?)?;
+    match put_entries(alloc, &mut entries, text.as_str(), files) {
+        Ok(()) => Ok(entries),
+        Err(fault) => {
+            drop(entries);
+            Err(fault)
+        }
     }
-    Ok(entries)
 }
