@@ -15,7 +15,11 @@ fn refused(alloc: Global, pointer: &str) -> Result<String, CaseFault> {
 /// Whether a text is read as this entry.
 fn is_read_back(alloc: Global, text: &[u8], entry: &Entry) -> Result<bool, CaseFault> {
     match read_entry(alloc, text) {
-        Ok(again) => Ok(again == *entry),
+        Ok(again) => {
+            let is_same = again == *entry;
+            drop(again);
+            Ok(is_same)
+        }
         Err(EntryFault::BadEdit { .. }) => Ok(false),
         Err(EntryFault::NoMemory) => Err(CaseFault::NoMemory),
     }
@@ -33,7 +37,11 @@ fn written(alloc: Global, entry: &Entry) -> Result<String, CaseFault> {
 /// What a body is read as.
 fn told(alloc: Global, body: &[u8]) -> Result<String, CaseFault> {
     match read_entry(alloc, body) {
-        Ok(entry) => written(alloc, &entry),
+        Ok(entry) => {
+            let text = written(alloc, &entry);
+            drop(entry);
+            text
+        }
         Err(EntryFault::BadEdit { pointer }) => refused(alloc, pointer.as_str()),
         Err(EntryFault::NoMemory) => Err(CaseFault::NoMemory),
     }
@@ -59,7 +67,11 @@ pub fn edit(alloc: Global, cells: &[&str]) -> Result<String, CaseFault> {
 /// Whether a text is read as the row of version 2 of this entry.
 fn is_row_read_back(alloc: Global, text: &[u8], entry: &Entry) -> Result<bool, CaseFault> {
     match read_row(alloc, text) {
-        Ok(row) => Ok(row.version == 2 && row.entry == *entry),
+        Ok(row) => {
+            let is_same = row.version == 2 && row.entry == *entry;
+            drop(row);
+            Ok(is_same)
+        }
         Err(RowFault::BadRow) => Ok(false),
         Err(RowFault::NoMemory) => Err(CaseFault::NoMemory),
     }
@@ -78,7 +90,11 @@ fn written_row(alloc: Global, row: &Row) -> Result<String, CaseFault> {
 /// A stored row of these bytes: its version, and its entry as a row of version 2.
 pub fn row(alloc: Global, cells: &[&str]) -> Result<String, CaseFault> {
     match read_row(alloc, bytes_of(alloc, cell(cells, 0))?.as_slice()) {
-        Ok(row) => written_row(alloc, &row),
+        Ok(row) => {
+            let text = written_row(alloc, &row);
+            drop(row);
+            text
+        }
         Err(RowFault::BadRow) => Ok(String::from_str(alloc, "BadRow")?),
         Err(RowFault::NoMemory) => Err(CaseFault::NoMemory),
     }

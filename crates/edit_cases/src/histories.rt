@@ -37,8 +37,14 @@ fn put_serial(out: &mut String, desk: &Desk, word: &str, serial: u32) -> Result<
 fn take(alloc: Global, out: &mut String, desk: &mut Desk, entry: Entry) -> Result<(), AllocError> {
     match desk.judge(alloc, &entry)? {
         Verdict::Accept { change } => accept(alloc, out, desk, entry, change),
-        Verdict::Repeat { serial } => put_serial(out, desk, "Repeat", serial),
-        Verdict::Refused { fault } => writeln!(out, "> {fault:?}"),
+        Verdict::Repeat { serial } => {
+            drop(entry);
+            put_serial(out, desk, "Repeat", serial)
+        }
+        Verdict::Refused { fault } => {
+            drop(entry);
+            writeln!(out, "> {fault:?}")
+        }
     }
 }
 

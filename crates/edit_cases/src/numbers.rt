@@ -99,6 +99,18 @@ fn put_line(out: &mut String, id: u32, placed: &Placed) -> Result<(), AllocError
     out.push_str("\n")
 }
 
+/// Puts what an object gets, and gives it to that object.
+fn take_object(
+    alloc: Global,
+    out: &mut String,
+    project: &mut Project,
+    id: u32,
+    placed: Placed,
+) -> Result<(), CaseFault> {
+    put_line(out, id, &placed)?;
+    put_object(alloc, project, id, placed)
+}
+
 /// Puts what an item of a change gives an object, and gives it to that object.
 fn take(
     alloc: Global,
@@ -107,14 +119,16 @@ fn take(
     thing: Thing,
     value: Option<Value>,
 ) -> Result<(), CaseFault> {
-    let Thing::Object(id) = thing else {
-        return Err(CaseFault::BadCase);
-    };
-    let Some(Value::Object(placed)) = value else {
-        return Err(CaseFault::BadCase);
-    };
-    put_line(out, id, &placed)?;
-    put_object(alloc, project, id, placed)
+    match (thing, value) {
+        (Thing::Object(id), Some(Value::Object(placed))) => {
+            take_object(alloc, out, project, id, placed)
+        }
+        (thing, value) => {
+            drop(thing);
+            drop(value);
+            Err(CaseFault::BadCase)
+        }
+    }
 }
 
 /// Gives the components of a project their numbers.
