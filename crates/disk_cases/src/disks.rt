@@ -46,7 +46,10 @@ fn disk_of(alloc: Global, bytes: &[u8]) -> Option<StoppingDisk> {
     let mut disk = Memory::new(alloc);
     match disk.write_at(0, bytes) {
         Ok(()) => Some(Fuse::new(disk, u64::MAX)),
-        Err(_) => None,
+        Err(_) => {
+            drop(disk);
+            None
+        }
     }
 }
 
@@ -67,7 +70,9 @@ pub fn found_again(
 ) -> Option<Files<StoppingDisk>> {
     let mut disks = disks;
     if !is_lossy {
-        return written_disks(alloc, &disks);
+        let written = written_disks(alloc, &disks);
+        drop(disks);
+        return written;
     }
     disks.log.crash();
     disks.db.crash();

@@ -4,7 +4,7 @@ ghost use Rattle.std.specs.Prelude.{◌≡◌, None, false};
 use crate::disks::{Stop, found_again, has_stopped, new_disks};
 use case_tables::CaseFault;
 use edit_entries::Entry;
-use keeper_core::Keeper;
+use keeper_core::{KeepFault, Keeper};
 use sqlite::{Connection, FileStore, Files, Options};
 use sqlite_disk::Disk;
 use sqlite_keeper::{SqlKeeper, TellsRows};
@@ -59,23 +59,48 @@ fn put_rows<K: Keeper>(keeper: &mut K, rows: &[Entry]) -> u32
     serial
 }
 
+/// Whether this row was loaded, rather than nothing; none for another row and for a fault.
+fn is_row(loaded: Result<Option<Entry>, KeepFault>, row: &Entry) -> Option<bool> {
+    match loaded {
+        Ok(Some(found)) => {
+            let is_same = found == *row;
+            drop(found);
+            if is_same { Some(true) } else { None }
+        }
+        Ok(None) => Some(false),
+        Err(_) => None,
+    }
+}
+
+/// Whether no row was loaded, without a fault.
+fn is_nothing(loaded: Result<Option<Entry>, KeepFault>) -> bool {
+    match loaded {
+        Ok(Some(found)) => {
+            drop(found);
+            false
+        }
+        Ok(None) => true,
+        Err(_) => false,
+    }
+}
+
 /// How many of the rows there are, from the first on; none where another one is there, too.
 fn rows_in<K: Keeper>(keeper: &mut K, rows: &[Entry]) -> Option<u32> {
     let mut count = 0u32;
     let mut serial = 0u32;
     for row in rows {
-        match keeper.load(serial) {
-            Ok(Some(found)) if serial == count && found == *row => {
-                count = count.saturating_add(1);
+        if is_row(keeper.load(serial), row)? {
+            if serial != count {
+                return None;
             }
-            Ok(None) => {}
-            _ => return None,
+            count = count.saturating_add(1);
         }
         serial = serial.saturating_add(1);
     }
-    match keeper.load(serial) {
-        Ok(None) => Some(count),
-        _ => None,
+    if is_nothing(keeper.load(serial)) {
+        Some(count)
+    } else {
+        None
     }
 }
 
@@ -147,7 +172,10 @@ fn found_on<D: Disk + Drop>(
             drop(close(database));
             found
         }
-        Err(_) => None,
+        Err(disks) => {
+            drop(disks);
+            None
+        }
     }
 }
 

@@ -106,5 +106,7 @@ pub fn answer(alloc: Global, words: &str, files: &TableFiles) -> Result<String, 
     options.cache_pages = CACHE_PAGES;
     options.checkpoint_frames = number_of(pages)? as usize;
     let rows = entries_of(alloc, file, files)?;
-    each_stop(alloc, rows.as_slice(), options)
+    let told = each_stop(alloc, rows.as_slice(), options);
+    drop(rows);
+    told
 }
