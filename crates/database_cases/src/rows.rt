@@ -2,7 +2,7 @@
 use case_tables::{CaseFault, TableFiles};
 use edit_entries::Entry;
 use http_lines::entries_of;
-use keeper_core::{Keeper, MemoryKeeper};
+use keeper_core::{KeepFault, Keeper, MemoryKeeper};
 use std::alloc::Global;
 
 /// A keeper of the rows of a file, whose call of this number fails, where it is not 0.
@@ -16,17 +16,54 @@ pub fn rows_of(
     Ok(MemoryKeeper::new(entries_of(alloc, file, files)?, failing))
 }
 
+/// Whether this row was loaded.
+fn is_row(loaded: Result<Option<Entry>, KeepFault>, row: &Entry) -> bool {
+    match loaded {
+        Ok(Some(found)) => {
+            let is_same = found == *row;
+            drop(found);
+            is_same
+        }
+        Ok(None) => false,
+        Err(_) => false,
+    }
+}
+
+/// Whether no row was loaded, without a fault.
+fn is_nothing(loaded: Result<Option<Entry>, KeepFault>) -> bool {
+    match loaded {
+        Ok(Some(found)) => {
+            drop(found);
+            false
+        }
+        Ok(None) => true,
+        Err(_) => false,
+    }
+}
+
 /// Whether these are all rows that a keeper has.
 fn has_rows<K: Keeper>(keeper: &mut K, rows: &[Entry]) -> bool {
     let mut serial = 0u32;
     for row in rows {
-        match keeper.load(serial) {
-            Ok(Some(found)) if found == *row => {}
-            _ => return false,
+        if !is_row(keeper.load(serial), row) {
+            return false;
         }
         serial = serial.saturating_add(1);
     }
-    matches!(keeper.load(serial), Ok(None))
+    is_nothing(keeper.load(serial))
+}
+
+/// Whether the rows of a file are all that a keeper has.
+fn has_rows_of<K: Keeper>(
+    alloc: Global,
+    keeper: &mut K,
+    file: &str,
+    files: &TableFiles,
+) -> Result<bool, CaseFault> {
+    let rows = entries_of(alloc, file, files)?;
+    let has_rows = has_rows(keeper, rows.as_slice());
+    drop(rows);
+    Ok(has_rows)
 }
 
 /// Puts the name of the first of some files whose rows are all that a keeper has.
@@ -38,8 +75,7 @@ pub fn put_holder<K: Keeper>(
     files: &TableFiles,
 ) -> Result<(), CaseFault> {
     for name in names {
-        let rows = entries_of(alloc, name, files)?;
-        if has_rows(keeper, rows.as_slice()) {
+        if has_rows_of(alloc, keeper, name, files)? {
             return Ok(writeln!(out, "> holds {name}")?);
         }
     }
