@@ -53,8 +53,8 @@ pub record IsKey (name : List ℕ) (slot : Option (List ℕ)) (key : PairData) :
   pub names : key.first ≡ name
   pub slots : slot_in key.second ≡ slot
 
--- the object is this component, whose symbol has its basename as name; it has these first values and
--- these faults
+-- the object is this component, whose symbol has its basename as name; it has these first values
+-- and these faults
 pub record HasFaults (p : ProjectData) (o : ObjectData) (c : ComponentData) (v : ValuesData)
     (faults : ValueFaults) : Type 0 where
   pub body : o.body ≡ bodies.Component c
