@@ -23,7 +23,7 @@ const WORKERS: u64 = 8;
 
 /// What is under way.
 #[derive(Clone, Copy, Debug, PartialEq, Eq)]
-pub enum Part {
+pub enum Transfer {
     /// A head.
     Head,
     /// A body, or a reply.
@@ -67,11 +67,11 @@ impl Patience {
     }
 
     /// Whether the client has taken too long, where so many others wait for a worker.
-    pub fn is_over(&self, part: Part, others: usize, now: Duration) -> bool {
-        let longest = match part {
+    pub fn is_over(&self, transfer: Transfer, others: usize, now: Duration) -> bool {
+        let longest = match transfer {
             _ if others > 0 => Duration::from_secs(LONGEST_SHARED_SECONDS),
-            Part::Head => Duration::from_secs(LONGEST_HEAD_SECONDS),
-            Part::Body => Duration::from_secs(LONGEST_BODY_SECONDS),
+            Transfer::Head => Duration::from_secs(LONGEST_HEAD_SECONDS),
+            Transfer::Body => Duration::from_secs(LONGEST_BODY_SECONDS),
         };
         let whole = now.saturating_sub(self.since);
         if whole > longest.saturating_add(time_of(self.moved)) {

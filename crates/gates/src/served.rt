@@ -1,14 +1,17 @@
 // A TCP connection while a worker serves it.
+ghost use Rattle.std.specs.Prelude.{◌≡◌};
 ghost use Rattle.std.specs.Io.{ReadsAtMost};
+ghost use Rattle.gates.specs.Fates.{GoesBackBetween};
 
 use crate::accepting::now;
-use crate::patience::{Part, Patience};
+use crate::patience::{Patience, Transfer};
 use crate::shared::Shared;
 use std::io;
 use std::io::{Read, Write};
 use std::net::TcpStream;
 use std::sync::{Arc, Wait};
 use std::time::Clock;
+use web_heads::Part;
 
 /// How often one call waits for the client.
 const MOST_WAITS: u32 = 1_000_000;
@@ -41,8 +44,7 @@ pub struct Served<'a, R: Clock + Wait> {
     stream: TcpStream,
     fate: Fate,
     patience: Option<Patience>,
-    whole_room: usize,
-    is_between: bool,
+    part: Part,
     left_of_turn: usize,
 }
 
@@ -54,8 +56,7 @@ impl<R: Clock + Wait> Drop for Served<'_, R> {
             stream,
             fate,
             patience: _,
-            whole_room: _,
-            is_between: _,
+            part: _,
             left_of_turn: _,
         } = self;
         match fate {
@@ -83,8 +84,7 @@ impl<'a, R: Clock + Wait> Served<'a, R> {
             stream,
             fate: Fate::Close,
             patience: None,
-            whole_room: 0,
-            is_between: true,
+            part: Part::Head,
             left_of_turn: if others > 0 { SHORT_TURN } else { LONG_TURN },
         }
     }
@@ -99,19 +99,23 @@ impl<'a, R: Clock + Wait> Served<'a, R> {
     }
 
     // Whether the client has taken too long.
-    fn is_over(&mut self, part: Part) -> bool {
+    fn is_over(&mut self, transfer: Transfer) -> bool
+        ensures fate { self.new.fate ≡ self.old.fate }
+    {
         let now = now(self.rt);
         match self.patience {
             None => {
                 self.patience = Some(Patience::new(now));
                 false
             }
-            Some(patience) => patience.is_over(part, self.shared.others(self.rt), now),
+            Some(patience) => patience.is_over(transfer, self.shared.others(self.rt), now),
         }
     }
 
     // So many bytes moved of what is waited for.
-    fn has_moved(&mut self, count: usize) {
+    fn has_moved(&mut self, count: usize)
+        ensures fate { self.new.fate ≡ self.old.fate }
+    {
         if let Some(patience) = &mut self.patience {
             patience.moved(count, now(self.rt));
         }
@@ -127,7 +131,7 @@ impl<'a, R: Clock + Wait> Served<'a, R> {
         }
         match self.stream.read(room) {
             Ok(count) => {
-                self.is_between = false;
+                self.part = Part::Head;
                 self.patience = None;
                 Ok(count)
             }
@@ -140,12 +144,13 @@ impl<'a, R: Clock + Wait> Served<'a, R> {
     }
 
     // Reads on within a request.
-    fn read_on(&mut self, room: &mut [u8], part: Part) -> io::Result<usize>
-        ensures { ReadsAtMost result room.new }
+    fn read_on(&mut self, room: &mut [u8], transfer: Transfer) -> io::Result<usize>
+        ensures count { ReadsAtMost result room.new }
+        ensures fate { self.new.fate ≡ self.old.fate }
     {
         for _ in 0..MOST_WAITS {
             match self.stream.read(room) {
-                Err(fault) if is_to_wait(&fault) && !self.is_over(part) => {}
+                Err(fault) if is_to_wait(&fault) && !self.is_over(transfer) => {}
                 Err(fault) => return Err(fault),
                 Ok(count) => {
                     self.has_moved(count);
@@ -156,20 +161,24 @@ impl<'a, R: Clock + Wait> Served<'a, R> {
         Err(io::Error::from(io::ErrorKind::TimedOut))
     }
 
-    // Reads as it is fit. A reader that holds no bytes gives as much room as at the first time.
-    fn read_room(&mut self, room: &mut [u8]) -> io::Result<usize>
-        ensures { ReadsAtMost result room.new }
+    /// The next reads are for this part of a message.
+    pub fn begin(&mut self, part: Part)
+        ensures part { self.new.part ≡ part }
+        ensures fate { self.new.fate ≡ self.old.fate }
     {
-        if self.whole_room == 0 {
-            self.whole_room = room.len();
+        self.part = part;
+    }
+
+    // Reads as it is fit for the part that was told last.
+    fn read_part(&mut self, room: &mut [u8]) -> io::Result<usize>
+        ensures count { ReadsAtMost result room.new }
+        ensures goes_back { GoesBackBetween self.old.part self.old.fate self.new.fate }
+    {
+        match self.part {
+            Part::Message => self.read_first(room),
+            Part::Head => self.read_on(room, Transfer::Head),
+            Part::Body => self.read_on(room, Transfer::Body),
         }
-        let holds_none = room.len() == self.whole_room;
-        if holds_none && self.is_between {
-            return self.read_first(room);
-        }
-        self.is_between = false;
-        let part = if holds_none { Part::Body } else { Part::Head };
-        self.read_on(room, part)
     }
 
     // Writes all bytes of a piece.
@@ -187,7 +196,7 @@ impl<'a, R: Clock + Wait> Served<'a, R> {
                 Err(fault) if is_to_wait(&fault) => {}
                 Err(fault) => return Err(fault),
             }
-            if !rest.is_empty() && self.is_over(Part::Body) {
+            if !rest.is_empty() && self.is_over(Transfer::Body) {
                 break;
             }
         }
@@ -197,9 +206,10 @@ impl<'a, R: Clock + Wait> Served<'a, R> {
     /// Takes bytes that have come, or waits for some. 0 comes at the end of the input, and also
     /// where the connection goes back to those that wait, which is so between two requests alone.
     pub fn read(&mut self, room: &mut [u8]) -> io::Result<usize>
-        ensures { ReadsAtMost result room.new }
+        ensures count { ReadsAtMost result room.new }
+        ensures goes_back { GoesBackBetween self.old.part self.old.fate self.new.fate }
     {
-        let read = self.read_room(room);
+        let read = self.read_part(room);
         let goes_on = match &read {
             Ok(count) => *count > 0 || self.fate == Fate::Wait,
             Err(_) => false,
@@ -218,7 +228,6 @@ impl<'a, R: Clock + Wait> Served<'a, R> {
         self.fate = Fate::Close;
         self.write_whole(piece)?;
         self.patience = None;
-        self.is_between = true;
         self.fate = Fate::End;
         Ok(())
     }

@@ -6,7 +6,7 @@ use crate::shared::Shared;
 use std::net::TcpStream;
 use std::sync::{Arc, Wait};
 use std::time::Clock;
-use web_heads::{Link, LinkFault};
+use web_heads::{Link, LinkFault, Part};
 
 /// A TCP connection for as long as a worker serves it. What is written goes out at once. It ends
 /// where the client is silent between two requests, so that no worker waits for it. Within a
@@ -48,6 +48,10 @@ impl<R: Clock + Wait> Link for TcpLink<'_, R> {
     ghost read_faults = { λ l. l.read_faults };
 
     ghost write_faults = { λ l. l.write_faults };
+
+    fn begin(&mut self, part: Part) {
+        self.served.begin(part);
+    }
 
     /// 0 comes also where the connection is taken back, which is so between two requests alone.
     fn read(&mut self, room: &mut [u8]) -> Result<usize, LinkFault> {

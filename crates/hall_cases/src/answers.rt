@@ -9,6 +9,7 @@ fn row(alloc: Global, kind: &str, cells: &[&str]) -> Result<String, CaseFault> {
         "connection" => inputs::whole(alloc, cells),
         "refused" => inputs::refused(alloc, cells),
         "cuts" => inputs::cuts(alloc, cells),
+        "partings" => inputs::partings(alloc, cells),
         "failing" => inputs::failing(alloc, cells),
         "head of bytes" => made_inputs::head_of_bytes(alloc, cells),
         "headers" => made_inputs::headers(alloc, cells),

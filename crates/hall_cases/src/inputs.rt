@@ -72,6 +72,32 @@ fn put_cut(out: &mut String, count: usize, now: &Connection) -> Result<(), CaseF
     Ok(())
 }
 
+/// Whether two connections one after the other wrote what one alone did.
+fn is_together(first: &Connection, rest: &Connection, whole: &Connection) -> bool {
+    let Some(left) = whole.written().strip_prefix(first.written()) else {
+        return false;
+    };
+    first.end == LinkEnd::Closed && rest.end == whole.end && rest.written() == left
+}
+
+/// The places where an input may go on with another connection: what goes out on both is what goes
+/// out on one.
+pub fn partings(alloc: Global, cells: &[&str]) -> Result<String, CaseFault> {
+    let input = bytes_of(alloc, cell(cells, 0))?;
+    let whole = answered(alloc, input.clone()?)?;
+    let mut out = String::new(alloc);
+    for place in 0..=input.len() {
+        let (front, back) = input.as_slice().split_at(place);
+        let first = answered(alloc, front.to_vec(alloc)?)?;
+        let rest = answered(alloc, back.to_vec(alloc)?)?;
+        if is_together(&first, &rest, &whole) {
+            let between = if out.is_empty() { "" } else { " " };
+            write!(out, "{between}{place}")?;
+        }
+    }
+    Ok(out)
+}
+
 /// How an input ends where the first call fails, and how many bytes go out; the same of the second
 /// call, and so on, as far as one fails.
 pub fn failing(alloc: Global, cells: &[&str]) -> Result<String, CaseFault> {

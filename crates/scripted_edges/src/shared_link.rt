@@ -5,7 +5,7 @@ use crate::progress::Progress;
 use crate::scripts::Script;
 use std::sync::Wait;
 use std::time::Clock;
-use web_heads::{Link, LinkFault};
+use web_heads::{Link, LinkFault, Part};
 
 /// A connection that sends what a script says, and tells all what is written to it.
 #[derive(Drop)]
@@ -48,6 +48,8 @@ impl<W: Wait + Clock> Link for SharedLink<'_, W> {
     ghost read_faults = { λ l. l.read_faults };
 
     ghost write_faults = { λ l. l.write_faults };
+
+    fn begin(&mut self, _part: Part) {}
 
     fn read(&mut self, room: &mut [u8]) -> Result<usize, LinkFault> {
         if !self.is_ready() {

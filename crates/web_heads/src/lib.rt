@@ -22,7 +22,7 @@ pub use buffer::Buffer;
 pub use cut_end::CutEnd;
 pub use digits::short_number;
 pub use laws::{first_law, one_list_law};
-pub use link::{Link, LinkFault};
+pub use link::{Link, LinkFault, Part};
 pub use memory_link::MemoryLink;
 pub use message::Message;
 pub use next::{Next, next_message};

@@ -10,6 +10,17 @@ pub enum LinkFault {
     Failed,
 }
 
+/// Which bytes the next reads are for.
+#[derive(Clone, Copy, Debug, PartialEq, Eq)]
+pub enum Part {
+    /// A message of which no byte was read.
+    Message,
+    /// The rest of a head of which bytes were read.
+    Head,
+    /// A body, or the rest of it.
+    Body,
+}
+
 /// A connection.
 pub trait Link {
     /// The input that is left, where the link tells it.
@@ -23,6 +34,16 @@ pub trait Link {
 
     /// How often a write failed, likewise.
     ghost write_faults: { Self → ℕ };
+
+    /// Tells which bytes the next reads are for. It takes none.
+    ///
+    /// Where that is a message of which no byte was read, and only there, the input may end since
+    /// the connection goes back to those that wait.
+    fn begin(&mut self, part: Part)
+        ensures input { input self.new ≡ input self.old }
+        ensures output { output self.new ≡ output self.old }
+        ensures read_faults { read_faults self.new ≡ read_faults self.old }
+        ensures write_faults { write_faults self.new ≡ write_faults self.old };
 
     /// Takes bytes of the input into the room, and answers how many. It takes none into room that
     /// is not empty only where the input is at its end.

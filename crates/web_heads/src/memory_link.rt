@@ -5,7 +5,7 @@ ghost use Rattle.web_heads.specs.Links.{Reads, Writes};
 ghost use Rattle.web_heads.specs.MemoryLinks.{after_read, after_write, called, fails, read_failed};
 ghost use Rattle.web_heads.specs.MemoryLinks.{read_result, room_after, write_failed, write_result};
 
-use crate::link::{Link, LinkFault};
+use crate::link::{Link, LinkFault, Part};
 use std::alloc::{AllocError, Global};
 use std::marker::Model;
 
@@ -150,6 +150,14 @@ impl Link for MemoryLink {
     ghost read_faults = { λ l. l.read_faults };
 
     ghost write_faults = { λ l. l.write_faults };
+
+    fn begin(&mut self, _part: Part)
+        ensures link { self.new ≡ self.old }
+        ensures input { Some self.new.input ≡ Some self.old.input }
+        ensures output { Some self.new.output ≡ Some self.old.output }
+        ensures read_faults { self.new.read_faults ≡ self.old.read_faults }
+        ensures write_faults { self.new.write_faults ≡ self.old.write_faults }
+    {}
 
     fn read(&mut self, room: &mut [u8]) -> Result<usize, LinkFault>
         ensures result { result ≡ read_result self.old room.old }

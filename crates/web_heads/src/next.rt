@@ -9,7 +9,7 @@ ghost use Rattle.web_heads.specs.steps.Reading.{MovesSome, NextHead, SameHead};
 use crate::buffer::{Buffer, Filled};
 use crate::cut_end::CutEnd;
 use crate::heads::{Head, Judged, judge};
-use crate::link::Link;
+use crate::link::{Link, Part};
 use crate::message::Message;
 
 /// What comes next of a connection.
@@ -84,7 +84,7 @@ fn next_head<L: Link>(link: &mut L, buffer: &mut Buffer) -> HeadNext
 }
 
 /// Begins the message of a head, and drops the bytes of the head.
-fn begin(buffer: &mut Buffer, message: &mut Message, head: &Head)
+fn begin_message(buffer: &mut Buffer, message: &mut Message, head: &Head)
     requires { IsWhole buffer.old head.now }
     ensures rest { buffer.new ≡ drop head.now.len buffer.old }
     ensures message { message.new ≡ record {
@@ -132,8 +132,8 @@ fn fill_empty<L: Link>(link: &mut L, buffer: &mut Buffer) -> Filled
     Filled::More
 }
 
-/// Reads on until the body is whole.
-fn read_body<L: Link>(
+/// Reads on until the body is whole, of which the link was told.
+fn fill_body<L: Link>(
     link: &mut L,
     buffer: &mut Buffer,
     message: &mut Message,
@@ -161,13 +161,31 @@ fn read_body<L: Link>(
     BodyNext::Whole
 }
 
-/// Reads on until the next message is whole (docs/RULES.md, "Messages"). It takes no memory, and
-/// waits for the link.
-///
-/// The bytes behind the message stay in the buffer. `End` tells why no message follows; what
-/// follows such an end is not looked at. `Fault` only where the link's count of failed reads rose;
-/// no whole message has come then.
-pub fn next_message<L: Link>(link: &mut L, buffer: &mut Buffer, message: &mut Message) -> Next
+/// Reads on until the body is whole.
+fn read_body<L: Link>(
+    link: &mut L,
+    buffer: &mut Buffer,
+    message: &mut Message,
+    size: usize,
+) -> BodyNext
+    requires empty { message.old.body ≡ [] }
+    requires few { size ≤ 4194304 }
+    ensures moves { MovesSome (L.input link.old) (L.input link.new)
+        buffer.old message.new.body buffer.new }
+    ensures next { IsBodyNext (L.input link.new) message.new.body buffer.new size result }
+    ensures head { SameHead message.old message.new }
+    ensures output { L.output link.new ≡ L.output link.old }
+    ensures later { L.read_faults link.old ≤ L.read_faults link.new }
+    ensures write_later { L.write_faults link.old ≤ L.write_faults link.new }
+    ensures cause { result ≡ BodyNext.Fault →
+        HasRisen (L.read_faults link.old) (L.read_faults link.new) }
+{
+    link.begin(Part::Body);
+    fill_body(link, buffer, message, size)
+}
+
+/// Reads on until the next message is whole, from the part of it that is there.
+fn read_message<L: Link>(link: &mut L, buffer: &mut Buffer, message: &mut Message) -> Next
     ensures next { Nexts (L.input link.old) (L.input link.new)
         buffer.old message.new buffer.new result }
     ensures output { L.output link.new ≡ L.output link.old }
@@ -181,10 +199,37 @@ pub fn next_message<L: Link>(link: &mut L, buffer: &mut Buffer, message: &mut Me
         HeadNext::End(end) => return Next::End(end),
         HeadNext::Fault => return Next::Fault,
     };
-    begin(buffer, message, &head);
+    begin_message(buffer, message, &head);
     match read_body(link, buffer, message, head.body) {
         BodyNext::Whole => Next::Message,
         BodyNext::End => Next::End(CutEnd::CutShort),
         BodyNext::Fault => Next::Fault,
     }
+}
+
+/// What is read first of a message, of which these bytes are there.
+fn first_part(buffer: &Buffer) -> Part {
+    if buffer.bytes().is_empty() {
+        return Part::Message;
+    }
+    Part::Head
+}
+
+/// Reads on until the next message is whole (docs/RULES.md, "Messages"). It takes no memory, and
+/// waits for the link.
+///
+/// The link is told which part each read is for. The bytes behind the message stay in the buffer.
+/// `End` tells why no message follows; what follows such an end is not looked at. `Fault` only where
+/// the link's count of failed reads rose; no whole message has come then.
+pub fn next_message<L: Link>(link: &mut L, buffer: &mut Buffer, message: &mut Message) -> Next
+    ensures next { Nexts (L.input link.old) (L.input link.new)
+        buffer.old message.new buffer.new result }
+    ensures output { L.output link.new ≡ L.output link.old }
+    ensures later { L.read_faults link.old ≤ L.read_faults link.new }
+    ensures write_later { L.write_faults link.old ≤ L.write_faults link.new }
+    ensures cause { result ≡ Next.Fault →
+        HasRisen (L.read_faults link.old) (L.read_faults link.new) }
+{
+    link.begin(first_part(buffer));
+    read_message(link, buffer, message)
 }

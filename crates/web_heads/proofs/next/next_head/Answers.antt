@@ -1,4 +1,4 @@
-use Rattle.std.proofs.Common.{◌≡◌, ◌≢◌, ℕ, ◌<◌, ◌≤◌, [], length, subst, sym, ◌∙◌, inr, arith, rules}
+use Rattle.std.proofs.Common.{◌≢◌, ℕ, ◌<◌, ◌≤◌, [], length, subst, sym, ◌∙◌, inr, arith, rules}
 use Rattle.httparse.specs.Grammar.{HasNoRequest, MayBecomeRequest}
 use Rattle.web_heads.specs.declared.cut_end.CutEnd.TheVariants.{CutShort}
 use Rattle.web_heads.specs.Cuts.{Ends}

@@ -2,7 +2,7 @@ use Rattle.std.proofs.Common.{ℕ, ◌≤◌, List, [], ◌∷◌, ◌∙◌, Op
 use Rattle.web_heads.specs.declared.buffer.Filled.TheVariants.{More}
 use Rattle.web_heads.specs.steps.Reading.{FillsEmpty, MovesSome}
 use Rattle.web_heads.proofs.Nexts.{moves_over, moves_read, moves_same}
-use Rattle.web_heads.proofs.next.read_body.Goals as goal
+use Rattle.web_heads.proofs.next.fill_body.Goals as goal
 
 moves_filled : (before now after : Option (List ℕ)) (old body mid new : List ℕ) → MovesSome before now old body mid → FillsEmpty now after mid new More → MovesSome before after old body new
 moves_filled before now after old body [] new m f = moves_read before now after old body [] new m f.0 f.1

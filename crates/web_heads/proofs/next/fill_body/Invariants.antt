@@ -1,6 +1,6 @@
 use Rattle.std.proofs.Common.{◌≡◌, ◌≤◌, ◌-◌, length}
 use Rattle.web_heads.specs.steps.Reading.{MovesSome, SameHead}
-use Rattle.web_heads.proofs.next.read_body.Given as goal
+use Rattle.web_heads.proofs.next.fill_body.Given as goal
 
 abbrev pub invariant-loop-link : goal.invariant-loop-link
 invariant-loop-link g l =
