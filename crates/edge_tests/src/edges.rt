@@ -1,14 +1,17 @@
-// The real edges: a folder of files, and a stream over a slice.
+// The real edges: a folder of files with libraries of symbols, and a stream over a slice.
 use geda_model::Name;
 use project_files::{DirFolder, Folder, FolderFault};
 use sinks::{Sink, SinkFault, StdSink};
 use std::alloc::{AllocError, Global};
-use std::fs;
 use std::fs::Permissions;
 use std::os::unix::fs::PermissionsExt;
+use std::rt::Files;
 use std::test::Fail;
+use std::{fs, io};
 
 const NAME: &str = "of-the-greatest-size.sch";
+
+const LIBRARIES: [&str; 2] = ["library-a", "library-b"];
 
 fn blank(alloc: Global, size: usize) -> Result<Vec<u8>, AllocError> {
     let mut bytes = Vec::new(alloc);
@@ -21,7 +24,7 @@ fn blank(alloc: Global, size: usize) -> Result<Vec<u8>, AllocError> {
 #[test]
 fn a_file_is_read_up_to_its_greatest_size(rt: HostRuntime) -> Result<(), Fail> {
     let alloc = rt.alloc();
-    let mut folder = DirFolder::new(&rt);
+    let mut folder = DirFolder::new(&rt, String::new(alloc));
     for (size, wanted) in [(4_194_304, 4_194_304), (4_194_306, 4_194_305)] {
         let bytes = blank(alloc, size)?;
         fs::write(&rt, NAME, bytes.as_slice())?;
@@ -37,7 +40,7 @@ fn a_file_is_read_up_to_its_greatest_size(rt: HostRuntime) -> Result<(), Fail> {
 fn what_is_no_file_is_told_from_none(rt: HostRuntime) -> Result<(), Fail> {
     let alloc = rt.alloc();
     let name = "no-file.sch";
-    let mut folder = DirFolder::new(&rt);
+    let mut folder = DirFolder::new(&rt, String::new(alloc));
     assert_eq!(rt; folder.read(alloc, name), Ok(None));
     fs::create_dir(&rt, name)?;
     let read = folder.read(alloc, name);
@@ -46,10 +49,51 @@ fn what_is_no_file_is_told_from_none(rt: HostRuntime) -> Result<(), Fail> {
     Ok(())
 }
 
+/// Two libraries, and a symbol beside them that one of them has too.
+fn put_libraries<R: Files>(rt: &R) -> io::Result<()> {
+    for library in LIBRARIES {
+        fs::create_dir(rt, library)?;
+    }
+    let files = [
+        ("beside.sym", "beside"),
+        ("library-a/beside.sym", "a"),
+        ("library-a/both.sym", "a"),
+        ("library-b/both.sym", "bb"),
+        ("library-b/one.sym", "bb"),
+        ("library-b/one.sch", "bb"),
+    ];
+    for (path, text) in files {
+        fs::write(rt, path, text.as_bytes())?;
+    }
+    Ok(())
+}
+
+#[test]
+fn a_symbol_comes_from_the_first_library_that_has_it(rt: HostRuntime) -> Result<(), Fail> {
+    let alloc = rt.alloc();
+    put_libraries(&rt)?;
+    let libraries = String::from_str(alloc, "library-none::library-a:library-b")?;
+    let mut folder = DirFolder::new(&rt, libraries);
+    let mut lengths = Vec::new(alloc);
+    for name in ["beside.sym", "both.sym", "one.sym", "one.sch", "none.sym"] {
+        let read = folder.read(alloc, name);
+        lengths.push(read.map(|file| file.map(|bytes| bytes.len())))?;
+    }
+    let alone = DirFolder::new(&rt, String::new(alloc)).read(alloc, "both.sym");
+    fs::remove_file(&rt, "beside.sym")?;
+    for library in LIBRARIES {
+        fs::remove_dir_all(&rt, library)?;
+    }
+    let wanted = [Ok(Some(6)), Ok(Some(1)), Ok(Some(2)), Ok(None), Ok(None)];
+    assert_eq!(rt; lengths.as_slice(), wanted.as_slice());
+    assert_eq!(rt; alone, Ok(None));
+    Ok(())
+}
+
 #[test]
 fn a_file_is_replaced_whole(rt: HostRuntime) -> Result<(), Fail> {
     let alloc = rt.alloc();
-    let mut folder = DirFolder::new(&rt);
+    let mut folder = DirFolder::new(&rt, String::new(alloc));
     let Ok(name) = Name::new(alloc, "written.sch") else {
         assert!(rt; false, "a name");
         return Ok(());
@@ -70,7 +114,7 @@ fn a_file_is_replaced_whole(rt: HostRuntime) -> Result<(), Fail> {
 #[test]
 fn what_is_no_file_is_not_replaced(rt: HostRuntime) -> Result<(), Fail> {
     let alloc = rt.alloc();
-    let mut folder = DirFolder::new(&rt);
+    let mut folder = DirFolder::new(&rt, String::new(alloc));
     let Ok(name) = Name::new(alloc, "folder.sch") else {
         assert!(rt; false, "a name");
         return Ok(());

@@ -36,7 +36,7 @@ fn arguments<R: Env + AllocGlobal>(rt: &R) -> io::Result<Vec<String>> {
 }
 
 fn main(rt: HostRuntime) -> ExitCode {
-    let mut folder = DirFolder::new(&rt);
+    let mut folder = DirFolder::new(&rt, String::new(rt.alloc()));
     let mut out = StdSink::new(rt.stdout());
     let mut err = StdSink::new(rt.stderr());
     let mut gate = TcpGate::new(&rt);
