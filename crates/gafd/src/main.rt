@@ -4,7 +4,8 @@
 //! schematic as a table. `gafd renumber FILE...` gives numbers to components without one, in the
 //! files, and `gafd fill SHEET TABLE` puts a table back. `gafd serve ADDRESS STORE` serves a
 //! history of edits over HTTP, whose rows are in a folder or in a database, and `gafd store STORE
-//! DB` copies one into a database.
+//! DB` copies one into a database. A symbol that is not in the folder comes from the folders that
+//! the variable GAFD_SYMBOLS names.
 //!
 //! `gafd_run::run` is all of the program, over anything outside; `main` makes the real ones.
 #![tactic(auto)]
@@ -15,6 +16,8 @@ use hall_core::Places;
 use project_files::DirFolder;
 use sinks::StdSink;
 use sql_file_keeper::SqlBatchKeeper;
+use std::alloc::AllocError;
+use std::env::VarError;
 use std::process::ExitCode;
 use std::rt::Env;
 use std::{env, io};
@@ -35,10 +38,22 @@ fn arguments<R: Env + AllocGlobal>(rt: &R) -> io::Result<Vec<String>> {
     Ok(list)
 }
 
+/// The folders of symbols, parted by `:`, that a variable names. One that is not UTF-8 names none.
+fn libraries<R: Env + AllocGlobal>(rt: &R) -> Result<String, AllocError> {
+    match env::var(rt, "GAFD_SYMBOLS") {
+        Ok(libraries) => Ok(libraries),
+        Err(VarError::OutOfMemory) => Err(AllocError),
+        Err(_) => Ok(String::new(rt.alloc())),
+    }
+}
+
 fn main(rt: HostRuntime) -> ExitCode {
-    let mut folder = DirFolder::new(&rt, String::new(rt.alloc()));
     let mut out = StdSink::new(rt.stdout());
     let mut err = StdSink::new(rt.stderr());
+    let Ok(libraries) = libraries(&rt) else {
+        return ExitCode::from(report_want_of_memory(&mut err));
+    };
+    let mut folder = DirFolder::new(&rt, libraries);
     let mut gate = TcpGate::new(&rt);
     let keeper = StoreKeeper::new(&rt);
     let database = SqlBatchKeeper::new(&rt);
