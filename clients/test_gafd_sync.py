@@ -480,7 +480,7 @@ if __name__ == "__main__":
         print("no program is built, so clients/ is not tried")
         sys.exit(0)
     bounded(LONGEST)
-    os.environ.pop("GAFD_SERVER", None)
-    os.environ.pop("GAFD_SESSION", None)
+    for name in ("GAFD_SERVER", "GAFD_SESSION", "GAFD_SYMBOLS"):
+        os.environ.pop(name, None)
     words = ["discover", "-s", str(TOP / "clients"), *sys.argv[1:]]
     unittest.main(module=None, argv=[sys.argv[0], *words])

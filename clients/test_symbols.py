@@ -192,3 +192,56 @@ class SymbolTest(Laboratory):
         status, said = self.ann("push", "preamp.sch", "b.sch")
         lines = [line for line in said.splitlines() if "gafd-bring preamp.sch" in line]
         self.assertEqual((status, len(lines), lines[0].count("res.sym")), (1, 1, 1), said)
+
+    def test_the_sheets_that_lack_symbols_are_named(self):
+        self.both_start()
+        for name, symbol in (("good.sch", "res.sym"), ("c.sch", "no.sym"), ("b.sch", "none.sym")):
+            self.ann.path(name).write_text(f"v 20130925 2\nC 0 0 1 0 0 {symbol}\n")
+        status, said = self.ann("push", "good.sch", "c.sch", "b.sch")
+        self.assertEqual(status, 1)
+        self.assertIn("no.sym, none.sym: neither the server nor this folder has them;", said)
+        self.assertIn("`gafd-bring b.sch c.sch` brings", said)
+
+    def library(self, *names):
+        """A folder of symbols, each of which has the folder for its device."""
+        folder = self.room / f"library {len(list(self.room.glob('library *')))}"
+        folder.mkdir()
+        for name in names:
+            (folder / name).write_text(f"v 20130925 2\nT 0 0 8 10 0 0 0 0 1\ndevice={folder}\n")
+        return folder
+
+    def on_server(self, name):
+        return self.asked_server(lambda server: server.symbol(name))
+
+    def test_a_symbol_of_a_library_goes_out_once(self):
+        first, second = self.library("own.sym"), self.library("own.sym", "two.sym")
+        lines = [f"C {at} 0 1 0 0 {name}.sym\n" for at, name in enumerate(("own", "two", "res"))]
+        self.ann.path("b.sch").write_text("v 20130925 2\n" + "".join(lines))
+        folders = f"{self.room / 'none'}::{first}:{second}"
+        with mock.patch.dict(os.environ, {"GAFD_SYMBOLS": folders}):
+            status, kinds, said = self.kinds_of(self.ann, "b.sch")
+            self.assertEqual((status, kinds), (0, ["add_symbol"] * 3 + ["add_sheet"]), said)
+            self.assertIn(f"own.sym from {first / 'own.sym'}\n", said)
+            self.assertEqual(self.ann("push", "b.sch"), (0, "b.sch: nothing to send\n"))
+        for name, folder in (("own.sym", first), ("two.sym", second)):
+            self.assertIn(f"device={folder}\n", self.answer("/symbols/" + name))
+            self.assertFalse(self.ann.path(name).exists())
+        self.assertIn("device=RESISTOR\n", self.answer("/symbols/res.sym"))
+        for engineer in (self.ann, self.bob):
+            self.assertEqual(engineer("pull")[0], 0)
+            self.assertIn(f"device={first}\n", engineer.path("own.sym").read_text())
+
+    def test_without_a_library_a_symbol_is_missing(self):
+        self.ann.path("b.sch").write_text("v 20130925 2\nC 0 0 1 0 0 own.sym\n")
+        for folders in ("", str(self.library("other.sym"))):
+            with mock.patch.dict(os.environ, {"GAFD_SYMBOLS": folders}):
+                self.assertEqual(self.ann("push", "b.sch")[0], 1)
+        self.assertIsNone(self.on_server("own.sym"))
+
+    def test_what_a_push_took_from_a_library_is_taken_back(self):
+        self.ann.path("b.sch").write_text("v 20130925 2\nC 0 0 1 0 0 own.sym\n")
+        with mock.patch.dict(os.environ, {"GAFD_SYMBOLS": str(self.library("own.sym"))}):
+            self.assertEqual(self.ann("push", "b.sch")[0], 0)
+        self.assertIsNotNone(self.on_server("own.sym"))
+        self.assertEqual(self.ann("undo")[0], 0)
+        self.assertIsNone(self.on_server("own.sym"))

@@ -34,10 +34,10 @@ symbol's name ends in .sym.
                         that lepton finds the symbols; --lepton writes a lepton.conf likewise
   push FILE...          sends what you changed, as the fewest edits, one after the other, and prints
                         each. What moved or turned as one goes as one. A sheet that the server does
-                        not have is added. The symbols of a sheet go with it. Where others changed
-                        what you changed, nothing is sent, and both changes are shown. --over makes
-                        the server's file as yours is, whatever others changed; --copy adds a sheet
-                        that has what another one has
+                        not have is added. The symbols of a sheet go with it, also from the folders
+                        of GAFD_SYMBOLS. Where others changed what you changed, nothing is sent,
+                        and both changes are shown. --over makes the server's file as yours is,
+                        whatever others changed; --copy adds a sheet that has what another one has
   diff [FILE...]        prints what `push` would send, and what `pull` would bring
   undo [N]              takes back the last push from this folder that stands, or the last N. A file
                         that nobody drew on since comes along

@@ -63,6 +63,12 @@ class Folder:
     def has(self, name):
         return os.path.lexists(name)
 
+    def library(self, name):
+        """The path of a symbol in the first folder of GAFD_SYMBOLS that has it, or None."""
+        folders = filter(None, os.environ.get("GAFD_SYMBOLS", "").split(":"))
+        paths = (os.path.join(folder, name) for folder in folders)
+        return next((path for path in paths if os.path.isfile(path)), None)
+
     def read(self, name):
         """The text of a file, as its bytes stand."""
         try:

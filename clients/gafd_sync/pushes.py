@@ -111,7 +111,10 @@ class FilePush(Push):
 
     def __init__(self, asked, server, folder):
         super().__init__(server, folder, asked.files)
-        self.asked, self.missing = asked, set()
+        self.asked = asked
+        # The sheet that first names a symbol that is nowhere, by the symbol; None where it was
+        # asked for by itself.
+        self.missing = {}
         # Of the sheets of the server, by name.
         self.texts = {}
 
@@ -119,13 +122,13 @@ class FilePush(Push):
         if not self.folder.has(name) and name in self.folder.pulled(""):
             print(GONE.format(name))
             return 1
-        return self.symbol(name, True) if name.endswith(".sym") else self.sheet(name)
+        return self.symbol(name) if name.endswith(".sym") else self.sheet(name)
 
     def sheet(self, name):
         sheet = self.folder.sheet(name)
         status = 0
         for symbol in sheet.symbols():
-            status |= self.symbol(symbol, False)
+            status |= self.symbol(symbol, name)
         now, origin = self.server.sheet(name), self.folder.origin(name)
         if now is None:
             return status | self.new_sheet(name, sheet, origin)
@@ -160,12 +163,12 @@ class FilePush(Push):
             print(f"{name}: others changed {len(plan.theirs)} other objects; `pull` brings them")
         return 0 if is_all else 1
 
-    def symbol(self, name, is_asked):
-        """Adds a symbol that the server does not have, and sends one that was changed here."""
-        text, base = self.server.symbol(name), self.server.front
+    def symbol(self, name, sheet=None):
+        """Adds a symbol that the server does not have, and sends one that was changed here. It is
+        asked for by itself, or by a sheet."""
+        text, base, is_asked = self.server.symbol(name), self.server.front, sheet is None
         if text is None and not self.folder.has(name):
-            self.missing.add(name)
-            return 1
+            return self.library_symbol(name, sheet, base)
         if not self.folder.has(name):
             return 0
         mine, origin = self.folder.sheet(name).text, self.folder.symbol_origin(name)
@@ -183,6 +186,16 @@ class FilePush(Push):
         elif is_asked:
             print(f"{name}: nothing to send")
         self.folder.set_symbol_origin(name, self.server.front, mine)
+        return 0
+
+    def library_symbol(self, name, sheet, base):
+        """Adds a symbol of a library. The folder gets no file of it, but by the next pull."""
+        path = self.folder.library(name)
+        if path is None:
+            self.missing.setdefault(name, sheet)
+            return 1
+        body = {"kind": "add_symbol", "name": name, "text": self.folder.read(path)}
+        self.sent_whole(name, Edit(body, f"{name} from {path}", {}), base)
         return 0
 
     def symbol_left(self, name, state, origin, text, mine):
@@ -239,12 +252,11 @@ class FilePush(Push):
         """Says in one line which symbols neither the server nor the folder has."""
         if not self.missing:
             return
-        sheets = [name for name in self.files if not name.endswith(".sym")]
+        sheets = sorted(set(filter(None, self.missing.values()))) or ["SHEET"]
         print(
             f"{', '.join(sorted(self.missing))}: neither the server nor this folder has"
             f" {'it' if len(self.missing) == 1 else 'them'};"
-            f" `gafd-bring {(sheets or ['SHEET'])[0]} /usr/share/lepton-eda/sym` brings what is"
-            " there; then push again"
+            f" `gafd-bring {' '.join(sheets)}` brings what lepton would find; then push again"
         )
 
 
