@@ -2,8 +2,10 @@
 import csv
 import io
 import os
+import unittest
 from unittest import mock
 
+from gafd_sync.cells import is_respelled
 from laboratory import Laboratory
 from served import program
 
@@ -112,3 +114,83 @@ class TableTest(Laboratory):
                 self.assertEqual(status, 1, said)
                 self.assertIn(line, said)
         self.assertEqual(self.rows(), front)
+
+    def test_fields_may_be_parted_by_what_the_first_line_has(self):
+        _, rows = self.table(self.ann)
+        for at, parter in enumerate(";\t;"):
+            lines = ["sheet,id,maker", self.place(rows["R3"]) + f",A{at}"]
+            if at == 2:
+                lines = ['"sheet","id","maker"', self.place(rows["R3"]) + ',"A, B"']
+            lines = [parter.join(line.split(",", 2)) for line in lines]
+            status, said = self.fills(self.ann, *lines)
+            self.assertEqual((status, self.kinds(said)), (0, ["replace"]), said)
+        self.assertIn("maker=A, B\n", self.answer("/sheets/preamp.sch"))
+        lines = ["id;value", f"{rows['R3']['id']};7,5k"]
+        self.ann.path("t.csv").write_text("\n".join(lines))
+        self.assertEqual(self.ann("fill", "preamp.sch", "t.csv")[0], 0)
+        self.assertIn("value=7,5k\n", self.answer("/sheets/preamp.sch"))
+
+    def test_a_table_may_lie_in_another_folder(self):
+        _, rows = self.table(self.ann)
+        path = self.room / "my tables"
+        path.mkdir()
+        path /= "t 1.csv"
+        for place, value in ((path, "3k"), ("../my tables/t 1.csv", "4k")):
+            path.write_text(f"sheet,id,value\n{self.place(rows['R3'])},{value}\n")
+            status, said = self.ann("fill", str(place))
+            self.assertEqual((status, self.kinds(said)), (0, ["replace"]), said)
+        path.write_text("sheet,id,value\npreamp.sch,none,1\n")
+        self.assertIn(f"{path}:2: BadId", self.ann("fill", str(path))[1])
+        self.assertEqual(self.ann("fill", "a", "b", "c")[0], 2)
+
+    def test_what_a_spreadsheet_spelled_anew_is_told_and_not_sent(self):
+        _, rows = self.table(self.ann)
+        place = self.place(rows["R3"])
+        start = f"{place},1e-12,1-2,0603\n"
+        self.assertEqual(self.fills(self.ann, "sheet,id,noise,pins,size", start)[0], 0)
+        self.table(self.ann)
+        front = self.rows()
+        lines = ["sheet,id,noise,pins,size,value"]
+        lines.append(f"{place},0.000000000001,2026-02-01,603,9k")
+        status, said = self.fills(self.ann, *lines)
+        for old, new in (("1e-12", "0.000000000001"), ("1-2", "2026-02-01"), ("0603", "603")):
+            self.assertIn(f"={old} is {new} now\n", said)
+        self.assertIn("preamp.sch: R3: size=0603 is 603 now\n", said)
+        self.assertNotIn("9k", said)
+        self.assertEqual((status, "nothing was sent" in said, self.rows()), (1, True, front))
+        status, said = self.ann("fill", "--all", "t.csv")
+        self.assertEqual((status, self.kinds(said)), (0, ["replace"]), said)
+        self.assertIn("size=603\n", self.answer("/sheets/preamp.sch"))
+        self.assertEqual(self.ann("fill", "t.csv"), (0, "filled 0\n"))
+
+    def test_a_table_of_utf_16_is_named(self):
+        _, rows = self.table(self.ann)
+        text = f"sheet\tid\tvalue\n{self.place(rows['R3'])}\t1k\n"
+        for encoding in ("utf-16", "utf-16-be"):
+            data = ("" if encoding == "utf-16" else "\ufeff") + text
+            self.ann.path("t.csv").write_bytes(data.encode(encoding))
+            status, said = self.ann("fill", "t.csv")
+            self.assertEqual((status, "t.csv:1: NotUtf8: it is UTF-16;" in said), (1, True), said)
+        self.ann.path("t.csv").write_bytes(b"sheet,id,value\n\xb5")
+        self.assertEqual(self.ann("fill", "t.csv"), (1, "gafd_sync: t.csv:2: NotUtf8\n"))
+
+
+class CellTest(unittest.TestCase):
+    def test_numbers_and_dates_of_spreadsheets_are_known(self):
+        for old, new in (
+            ("1e-12", "0.000000000001"), ("1E3", "1000"), ("0603", "603"), ("10.0", "10"),
+            ("0.5", "0,5"), (".5", "0.5"), ("+5", "5"), ("5%", "5.00%"), ("5%", "0.05"),
+            ("12345678901234567890", "12345678901234600000"), ("12345678901234", "1.23457E+13"),
+            ("1-2", "2026-02-01"), ("1/2", "01/02/26"), ("1.2", "01.02.26"), ("1.2", "1.2.2026"),
+            ("1-2", "02-Jan"), ("MAR1", "Mar 01"), ("3/4", "04. Mrz"), ("1:2:3", "01:02:03 AM"),
+        ):
+            self.assertTrue(is_respelled(old, new), (old, new))
+
+    def test_other_cells_are_what_somebody_wrote(self):
+        for old, new in (
+            ("10k", "22k"), ("10", "22"), ("10.4", "10"), ("1k", "1000"), ("100n", "0.1u"),
+            ("0603", "0805"), ("", "603"), ("603", ""), ("0603", "0603"), ("1:2", "1:10"),
+            ("2026-01-02", "2026-02-01"), ("", "2026-02-01"), ("7805", "2026-12-01"),
+            ("1.2.2", "1.2.3"), ("10", "10 Ohm"), ("1234567", "1234568"), ("1.5", "1.6E+0"),
+        ):
+            self.assertFalse(is_respelled(old, new), (old, new))

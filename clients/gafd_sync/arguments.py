@@ -47,8 +47,10 @@ symbol's name ends in .sym.
   table [SHEET...]      prints the attributes of the components of the sheets, or of all, as a table
                         for a spreadsheet, with a column for the sheet. It calls `gafd`, as `fill`
   fill [SHEET] TABLE    sends what was changed in the last table of this folder, an edit for each
-                        component. An empty cell changes nothing. Where others changed a component
-                        since, nothing is sent, and they are told by refdes
+                        component. TABLE may have a path, and commas, semicolons or tabs. An empty
+                        cell changes nothing. Where others changed a component since, nothing is
+                        sent, and they are told by refdes; so it is with cells that a spreadsheet
+                        spelled anew, as 603 for 0603, but with --all
   sheets                prints the names of the server's sheets, in the order in which they came
   ids FILE              prints the ids of a sheet's objects, each with what it is
   at N FOLDER           writes the board as it was after N edits into an empty FOLDER: from the
@@ -106,12 +108,15 @@ FLAGS = {
     "--over": {"action": "store_true"},
     "--copy": {"action": "store_true"},
     "--lepton": {"action": "store_true"},
+    "--all": {"action": "store_true"},
     "--store": {"metavar": "STORE"},
 }
 WORDS = {
     "FILE": {"dest": "file", "type": a_name},
     "FILE...": {"dest": "files", "type": a_name, "nargs": "+"},
     "[FILE...]": {"dest": "files", "type": a_name, "nargs": "*"},
+    "[SHEET]": {"dest": "sheet", "type": a_name, "nargs": "?"},
+    "TABLE": {"dest": "table"},
     "N": {"dest": "edits", "type": a_number},
     "[N]": {"dest": "count", "type": a_count, "nargs": "?", "default": 1},
     "[ID...]": {"dest": "ids", "type": int, "nargs": "*"},
@@ -140,7 +145,7 @@ COMMANDS = {
     "revert": Command(revert, [], ["STORE", "SERIAL"]),
     "renumber": Command(renumber, [], []),
     "table": Command(table, [], ["[FILE...]"]),
-    "fill": Command(fill, [], ["FILE..."]),
+    "fill": Command(fill, ["--all"], ["[SHEET]", "TABLE"]),
     "sheets": Command(sheets, [], []),
     "ids": Command(ids, [], ["FILE"]),
     "copy": Command(copy, [], ["URL"]),

@@ -1,4 +1,5 @@
 """The folder of the files, and what is kept of where they came from."""
+import codecs
 import json
 import os
 import pathlib
@@ -7,6 +8,8 @@ from .sheets import sheet_of
 from .words import Stop
 
 GAFRC = '(component-library ".")\n(source-library ".")\n'
+# What a file of UTF-16 begins with; no text in UTF-8 does.
+UTF_16 = (codecs.BOM_UTF16_LE, codecs.BOM_UTF16_BE)
 LEPTON = "[netlist.hierarchy]\nmangle-net-attribute=false\n"
 
 
@@ -79,7 +82,8 @@ class Folder:
             return data.decode("utf-8")
         except UnicodeDecodeError as error:
             line = data.count(b"\n", 0, error.start) + 1
-            raise Stop(f"{name}:{line}: NotUtf8") from None
+            why = ": it is UTF-16; save it as UTF-8" if data[:2] in UTF_16 else ""
+            raise Stop(f"{name}:{line}: NotUtf8{why}") from None
 
     def sheet(self, name):
         return sheet_of(name, self.read(name))

@@ -4,8 +4,6 @@ A column of the name of the sheet stands before those of `gafd table`, and ids a
 What is in a table, when a cell counts and what is wrong with one is the program's: each sheet is
 tabled and filled by it, in a folder of its own, under the places of its objects in place of their
 ids."""
-import csv
-import io
 import pathlib
 import re
 import subprocess
@@ -14,6 +12,7 @@ import tempfile
 from typing import NamedTuple
 
 from .boards import program
+from .cells import is_respelled, records_of, text_of
 from .pushes import Edit, Push
 from .server import Stand, in_order
 from .sheets import item_of, sheet_of
@@ -38,17 +37,6 @@ def run(words, folder):
         [program(), *words], cwd=folder, capture_output=True, encoding="utf-8", check=False
     )
     return done.stdout, done.stderr.strip()
-
-
-def records_of(text):
-    """The records of CSV; empty lines are none."""
-    return [fields for fields in csv.reader(io.StringIO(text, newline="")) if fields]
-
-
-def text_of(records):
-    out = io.StringIO(newline="")
-    csv.writer(out, lineterminator="\n").writerows(records)
-    return out.getvalue()
 
 
 def table(asked, server, folder):
@@ -85,10 +73,8 @@ def sheet_table(name, stand):
 
 def fill(asked, server, folder):
     """Sends what a table changes in the sheets as they were when it was made."""
-    *only, name = asked.files
-    if len(only) > 1:
-        raise Stop("`fill` takes a table, or a sheet and a table", 2)
-    head, rows = rows_of(folder.read(name), name, *only)
+    name = asked.table
+    head, rows = rows_of(folder.read(name), name, asked.sheet)
     known = folder.load(KNOWN) or {}
     parts = {}
     for row in rows:
@@ -97,7 +83,10 @@ def fill(asked, server, folder):
         parts.setdefault(row.sheet, []).append(row)
     filling = Filling(server, folder, known)
     for sheet, part in parts.items():
-        filling.plan(sheet, filled(name, sheet, filling.stand(sheet), head, part))
+        stand = filling.stand(sheet)
+        filling.plan(sheet, filled(name, sheet, stand, head, part))
+        if not asked.all:
+            filling.respelled += respelled_cells(sheet, stand, head, part)
     return filling.send()
 
 
@@ -132,6 +121,19 @@ def filled(table_name, sheet, stand, head, rows):
     return {key: new for key, new in now.items() if new != stand.objects[key]}
 
 
+def respelled_cells(sheet, stand, head, rows):
+    """The cells that differ from those of the table that was made only as a spreadsheet spells
+    numbers and dates."""
+    names, records = sheet_table(sheet, stand)
+    made = {str(key): dict(zip(names[1:], values)) for key, *values in records}
+    for key, *cells in (row.fields for row in rows):
+        for name, new in zip(head[1:], cells):
+            old = made.get(key, {}).get(name, "")
+            if is_respelled(old, new):
+                item = item_of(stand.objects[int(key)])
+                yield f"{sheet}: {named(item)}: {name}={old} is {new} now"
+
+
 def by_id(rows):
     """The records; one without an id has an empty one, so that the program tells what it lacks."""
     return [row if row.fields else row._replace(fields=[""]) for row in rows]
@@ -142,7 +144,7 @@ class Filling:
 
     def __init__(self, server, folder, known):
         self.server, self.folder, self.known = server, folder, known
-        self.edits, self.others = [], []
+        self.edits, self.others, self.respelled = [], [], []
 
     def stand(self, sheet):
         """A sheet as it was when its table was made."""
@@ -169,10 +171,18 @@ class Filling:
         self.known[sheet] = head, [(at, text if at == key else it) for at, it in objects]
 
     def send(self):
-        """Sends the edits; none where others changed a component of one of them."""
+        """Sends the edits; none where others changed a component of one of them, or a spreadsheet
+        spelled cells anew."""
         if self.others:
             print("\n".join(self.others))
             print("nothing was sent: take a new table, and fill in there what you changed")
+            return 1
+        if self.respelled:
+            print("\n".join(self.respelled))
+            print(
+                "nothing was sent: a spreadsheet spells numbers and dates so. Open the table anew"
+                " with all columns as text; `fill --all` sends these cells too"
+            )
             return 1
         push, count = Push(self.server, self.folder, []), 0
         try:
