@@ -231,6 +231,16 @@ class SymbolTest(Laboratory):
             self.assertEqual(engineer("pull")[0], 0)
             self.assertIn(f"device={first}\n", engineer.path("own.sym").read_text())
 
+    def test_a_picture_of_a_library_leads_to_no_sheet(self):
+        folder, texts = self.library(), ("source=low.sch", "graphical=1")
+        for count in (1, 2):
+            lines = [f"T 0 0 8 10 0 0 0 0 1\n{text}\n" for text in texts[:count]]
+            (folder / f"own{count}.sym").write_text("v 20130925 2\n" + "".join(lines))
+            self.ann.path(f"{count}.sch").write_text(f"v 20130925 2\nC 0 0 1 0 0 own{count}.sym\n")
+            with mock.patch.dict(os.environ, {"GAFD_SYMBOLS": str(folder)}):
+                status, said = self.ann("push", f"{count}.sch")
+            self.assertEqual((status, "leads down to low.sch" in said), (0, count == 1), said)
+
     def test_without_a_library_a_symbol_is_missing(self):
         self.ann.path("b.sch").write_text("v 20130925 2\nC 0 0 1 0 0 own.sym\n")
         for folders in ("", str(self.library("other.sym"))):

@@ -66,8 +66,10 @@ class Folder:
     def has(self, name):
         return os.path.lexists(name)
 
-    def library(self, name):
-        """The path of a symbol in the first folder of GAFD_SYMBOLS that has it, or None."""
+    def symbol_path(self, name):
+        """The path of a symbol: here, else in the first folder of GAFD_SYMBOLS, if one has it."""
+        if self.has(name):
+            return name
         folders = filter(None, os.environ.get("GAFD_SYMBOLS", "").split(":"))
         paths = (os.path.join(folder, name) for folder in folders)
         return next((path for path in paths if os.path.isfile(path)), None)

@@ -190,7 +190,7 @@ class FilePush(Push):
 
     def library_symbol(self, name, sheet, base):
         """Adds a symbol of a library. The folder gets no file of it, but by the next pull."""
-        path = self.folder.library(name)
+        path = self.folder.symbol_path(name)
         if path is None:
             self.missing.setdefault(name, sheet)
             return 1

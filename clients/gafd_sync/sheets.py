@@ -214,12 +214,12 @@ def values_of(item, free, name):
 
 
 def sources_of(folder, sheet):
-    """The sheets below a sheet, as its components and the symbols beside it name them."""
+    """The sheets below a sheet, as its components and their symbols name them."""
     for item in sheet.items:
         if item.letter == "C":
             free = []
-            if item.symbol and folder.has(item.symbol):
-                parts = folder.sheet(item.symbol).items
+            if item.symbol and (path := folder.symbol_path(item.symbol)):
+                parts = folder.sheet(path).items
                 free = ["\n".join(part.content) for part in parts if part.letter == "T"]
             graphical, device, value = (
                 values_of(item, free, name)[:1] for name in ("graphical", "device", "value")
