@@ -71,6 +71,16 @@ next_can before after items next history =
     let fit : Fits (project before) (changes before e.edit) = fits before e (record { items = changes before e.edit }) first.legal first.in_range last.1 last.0.is in
     subst CanApply (sym next.made) (record { distinct = fit.distinct; in_range = fit.in_range })
 
+-- what an accepted entry changes can be put in
+pub judged_can : (h : List EntryData) (e : EntryData) (c : Change) → IsHistory h → EntryIsInRange e → IsJudged h e (verdicts.Accept c) → CanApply c.items
+judged_can h e c history range judged =
+    let fit : Fits (project h) c.items = fits h e c history.legal history.in_range range judged.is in
+    record { distinct = fit.distinct; in_range = fit.in_range }
+
+-- the project after an accepted entry has its change
+pub judged_project : (h : List EntryData) (e : EntryData) (c : Change) → IsJudged h e (verdicts.Accept c) → project (h ++ e ∷ []) ≡ put (project h) c.items
+judged_project h e c judged = project_push h e ∙ ap (put (project h)) (sym (change_is h e c judged))
+
 -- the project then is that of the longer list
 pub next_project : (before after : List EntryData) (items : List Item) → IsNextChange before after items → put (project before) items ≡ project after
 next_project before after items next =

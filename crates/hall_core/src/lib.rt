@@ -12,6 +12,7 @@
 #![tactic(auto)]
 
 mod board_copy;
+mod desk_budget;
 mod door;
 mod hall;
 mod keys;

@@ -129,10 +129,10 @@ impl<K: Keeper, B: HallName, S: ShowsBoard<B>, R: Wait + Drop> Pen<K, B, S, R> {
             drop((entry, change));
             return Reply::NoMemory;
         };
-        if self.desk.reserve(&change).is_err() {
+        let Ok(count) = self.desk.reserve(&entry, &change) else {
             drop((entry, change, kept));
             return Reply::NoMemory;
-        }
+        };
         let front = self.desk.front();
         match self.edit_log.put(front, &entry) {
             Ok(()) => {}
@@ -145,7 +145,7 @@ impl<K: Keeper, B: HallName, S: ShowsBoard<B>, R: Wait + Drop> Pen<K, B, S, R> {
             }
         }
         let first_id = self.desk.next_id();
-        let serial = self.desk.commit(entry, change, kept);
+        let serial = self.desk.commit(entry, change, kept, count);
         match self.catch_up() {
             Ok(()) => Reply::Done {
                 serial,

@@ -1,15 +1,18 @@
 // The history with what is published of it, as the pen holds them.
 ghost use Rattle.std.specs.Prelude.{◌≡◌, ◌<◌, ◌≤◌, ◌++◌, ◌∷◌, [], fold, length, take, ◌^◌, IfOk, IfSome, None, OnOk};
 ghost use mathlib.Core.List.{IsPrefix};
+ghost use Rattle.project_model.specs.Changes.{put};
 ghost use Rattle.edit_rules.specs.Histories.{project};
 ghost use Rattle.edit_rules.specs.declared.verdict.Verdict.TheVariants.{Accept};
 ghost use Rattle.edit_desk.specs.Desks.{IsRoomForEntry};
+ghost use Rattle.conductor_counts.specs.Conductors.{conductors};
 ghost use Rattle.hall_log.specs.Histories.{IsHistory};
 ghost use Rattle.hall_core.specs.Histories.{IsJudged, IsNextChange, first_id_at};
 ghost use Rattle.hall_core.specs.BoardSteps.{applied_to};
 ghost use Rattle.hall_core.specs.steps.Publishing.{IsCaughtUp, IsSameHistory, IsSameShown};
 
 use crate::board_copy::{NextChange, ShowsBoard};
+use crate::desk_budget::BudgetDesk;
 use crate::door::Door;
 use edit_desk::Desk;
 use edit_entries::Entry;
@@ -26,7 +29,7 @@ use std::sync::Wait;
 #[derive(Drop)]
 pub(crate) struct PublishedDesk<B: HallName, S: ShowsBoard<B>, R: Wait + Drop> {
     alloc: Global,
-    desk: Desk,
+    desk: BudgetDesk,
     log_length: LogLength<B>,
     listed: Prefix<B>,
     writer: WriteHandle<S, NextChange<B>, R>,
@@ -72,6 +75,7 @@ impl<B: HallName, S: ShowsBoard<B>, R: Wait + Drop> PublishedDesk<B, S, R> {
     {
         let (log_length, listed) = log;
         let _history = listed.len();
+        let desk = BudgetDesk::of(alloc, desk)?;
         let Ok(writer) = WriteHandle::new(alloc, rt, first, second, readers) else {
             drop(desk);
             return Err(AllocError);
@@ -114,14 +118,14 @@ impl<B: HallName, S: ShowsBoard<B>, R: Wait + Drop> PublishedDesk<B, S, R> {
         ensures history { IsHistory self.now.history }
         ensures short { length self.now.history ≤ 200000 }
     {
-        self.desk.front()
+        self.desk.desk().front()
     }
 
     /// The id that is free first.
     pub(crate) fn next_id(&self) -> u32
         ensures { result ≡ (project self.now.history).next_id }
     {
-        self.desk.project().next_id()
+        self.desk.desk().project().next_id()
     }
 
     /// The id that was free first before the entry at a serial.
@@ -129,14 +133,14 @@ impl<B: HallName, S: ShowsBoard<B>, R: Wait + Drop> PublishedDesk<B, S, R> {
         requires { serial < length self.now.history }
         ensures { result ≡ first_id_at self.now.history serial }
     {
-        self.desk.first_id(serial).unwrap()
+        self.desk.desk().first_id(serial).unwrap()
     }
 
     /// What the rules say of the entry after the history.
     pub(crate) fn judge(&self, entry: &Entry) -> Result<Verdict, AllocError>
         ensures { IfOk result (λ verdict. IsJudged self.now.history entry.now verdict) }
     {
-        self.desk.judge(self.alloc, entry)
+        self.desk.desk().judge(self.alloc, entry)
     }
 
     /// The prefix that is published.
@@ -146,27 +150,35 @@ impl<B: HallName, S: ShowsBoard<B>, R: Wait + Drop> PublishedDesk<B, S, R> {
         self.writer.published().prefix()
     }
 
-    /// Makes room for an entry with this change.
-    pub(crate) fn reserve(&mut self, change: &Change) -> Result<(), AllocError>
+    /// Makes room for an accepted entry with its change, and tells how many conductors there are
+    /// then. They have a budget.
+    pub(crate) fn reserve(&mut self, entry: &Entry, change: &Change) -> Result<u64, AllocError>
+        requires accepted { IsJudged self.old.history entry.now (Accept change.now) }
         ensures same { IsSameShown self.old self.new × (self.new.history ≡ self.old.history) }
         ensures room { OnOk result (IsRoomForEntry change.now.items self.new.spare) }
+        ensures count { IfOk result (λ count. count
+            ≡ conductors (put (project self.old.history) change.now.items)) }
     {
+        // A field is read so that the proof sees that the entry is in range.
+        let _ = &entry.edit;
         self.desk.reserve(self.alloc, change)
     }
 
-    /// Takes the entry into the history with its change, of which a copy is kept to be published.
-    pub(crate) fn commit(&mut self, entry: Entry, change: Change, kept: Change) -> u32
+    /// Takes the entry into the history with its change, of which a copy is kept to be published,
+    /// and by which there are so many conductors.
+    pub(crate) fn commit(&mut self, entry: Entry, change: Change, kept: Change, count: u64) -> u32
         requires accepted { IsJudged self.old.history entry (Accept change) }
         requires kept { kept.items ≡ change.items }
         requires room { IsRoomForEntry change.items self.old.spare }
         requires shown { IsCaughtUp self.old }
+        requires count { count ≡ conductors (put (project self.old.history) change.items) }
         ensures appended { self.new.history ≡ self.old.history ++ entry ∷ [] }
         ensures serial { result ≡ length self.old.history }
     {
         // A field is read so that the proof sees that the entry is in range.
         let _ = &entry.edit;
         self.change = Some(kept);
-        self.desk.commit(entry, change)
+        self.desk.commit(entry, change, count)
     }
 
     // Takes the last entry into the list that all share.
@@ -177,7 +189,7 @@ impl<B: HallName, S: ShowsBoard<B>, R: Wait + Drop> PublishedDesk<B, S, R> {
         ensures listed { OnOk result (self.new.listed ≡ self.new.history) }
     {
         let serial = self.listed.len();
-        let Some(entry) = self.desk.entry(serial as u32) else {
+        let Some(entry) = self.desk.desk().entry(serial as u32) else {
             return Ok(());
         };
         let mut listed = self.listed.again();

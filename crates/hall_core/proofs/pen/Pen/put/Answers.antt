@@ -35,3 +35,8 @@ returns-in-Ok-catch_up g c =
       (search rules, search rules, search rules, front),
       (search rules, search rules),
     )
+
+pub reserve-requires : goal.reserve-requires
+reserve-requires g c =
+    let same : c.self.inside.desk.history ≡ c.args.self.now.history = search rules in
+    record { accepted = subst (λ (l : List EntryData). IsJudged l c.args.entry (Accept c.args.change)) (sym same) c.requires.accepted }

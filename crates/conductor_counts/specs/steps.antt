@@ -1,0 +1,3 @@
+-- Steps of the code and of the proofs; no public clause cites them.
+pub mod SymbolItems
+pub mod Rows
