@@ -9,7 +9,7 @@ import subprocess
 import time
 
 TOP = pathlib.Path(__file__).resolve().parent.parent
-LONGEST = 60
+LONGEST = 240
 # What ends the processes that were started, should time run out.
 ENDS = []
 

@@ -29,7 +29,7 @@ sys.path.append(str(TOP / "told"))
 import geda_files
 from random_files import random_file
 
-LONGEST = 600
+LONGEST = 2400
 
 
 def drawn_at_random(draw, lines, turn):
@@ -65,7 +65,7 @@ class ClientTest(Laboratory):
         self.assertEqual(names, ["stereo.sch", "channel.sch", "driver.sch"])
         for form in ("list", "tango", "pcb", "bom"):
             words = [program(), "netlist", "--form", form, *names]
-            mine = subprocess.run(words, cwd=self.bob.folder, capture_output=True, timeout=60)
+            mine = subprocess.run(words, cwd=self.bob.folder, capture_output=True, timeout=240)
             self.assertEqual(mine.stdout.decode(), self.answer("/netlist/" + form), form)
 
     def test_the_fewest_edits_go_out(self):
@@ -329,10 +329,10 @@ class ClientTest(Laboratory):
         prefix = self.room / "prefix"
         place = {**os.environ, "GAFD": program()}
         words = [str(TOP / "contrib/install"), str(prefix)]
-        subprocess.run(words, env=place, check=True, timeout=60)
+        subprocess.run(words, env=place, check=True, timeout=240)
         for call in ([prefix / "bin/gafd_sync"], [sys.executable, "-B", TOP / "clients/gafd_sync"]):
             words = [*map(str, call), "--server", self.server.url, "sheets"]
-            found = subprocess.run(words, cwd=self.room, capture_output=True, timeout=60)
+            found = subprocess.run(words, cwd=self.room, capture_output=True, timeout=240)
             self.assertEqual((found.returncode, found.stdout), (0, b""), found.stderr)
 
     def test_an_engineer_goes_on_after_the_server_was_killed(self):

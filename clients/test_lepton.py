@@ -36,7 +36,7 @@ class LeptonTest(Laboratory):
             shutil.copy(path, self.ann.folder)
             folders = {str(it.parent) for it in path.parent.rglob("*.sym")}
             words = [str(TOP / "contrib/gafd-bring"), path.name, *sorted(folders), LIBRARY]
-            subprocess.run(words, cwd=self.ann.folder, capture_output=True, timeout=60)
+            subprocess.run(words, cwd=self.ann.folder, capture_output=True, timeout=240)
         self.assertEqual(self.ann("push", *[path.name for path in sheets])[0], 0)
         self.assertEqual(self.bob("pull", "--lepton")[0], 0)
         top = sheets[0].name
@@ -45,5 +45,5 @@ class LeptonTest(Laboratory):
         self.assertGreater(len(theirs), 3)
 
     def said(self, *words):
-        done = subprocess.run(words, cwd=self.bob.folder, capture_output=True, timeout=120)
+        done = subprocess.run(words, cwd=self.bob.folder, capture_output=True, timeout=480)
         return done.stdout.decode()

@@ -7,7 +7,7 @@ import sys
 from laboratory import SHEET, WIRE, Laboratory
 from served import ENDS, TOP
 
-PATIENCE = 60
+PATIENCE = 240
 
 
 class ViewLaboratory(Laboratory):

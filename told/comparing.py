@@ -14,7 +14,7 @@ import time
 
 from built import built
 
-LONGEST = 60
+LONGEST = 240
 MOST_SHRUNK = 1_000_000
 
 

@@ -56,7 +56,7 @@ def differs(program, folder, command, name, data):
     wanted = ANSWERS[command](name, data)
     pathlib.Path(folder, name).write_bytes(data)
     try:
-        run = subprocess.run([program, command, name], cwd=folder, capture_output=True, timeout=120)
+        run = subprocess.run([program, command, name], cwd=folder, capture_output=True, timeout=480)
     except subprocess.TimeoutExpired:
         return f"{command} {name}: no end within 120 seconds"
     said = apart((run.returncode, run.stdout, run.stderr), wanted)

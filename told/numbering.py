@@ -30,7 +30,7 @@ from random_projects import random_folder
 OPEN = [b"R?", b"R?", b"R?", b"U?", b"?", b"R??", b"R1?", b"U?a", b"U1/R?", b"? ?", b"\xc3\xa9?"]
 REFDES = re.compile(rb"(?<=\nrefdes=)[^\n]*")
 MODES = (0o644, 0o600, 0o664, 0o640)
-LONGEST = 60
+LONGEST = 240
 
 
 def set_refdes(item, refdes):

@@ -49,7 +49,7 @@ def measured(text):
         pathlib.Path(folder, "filter.cir").write_text(text)
         shutil.copy(EXAMPLES / "corner.cir", folder)
         run = subprocess.run(["ngspice", "-b", "corner.cir"], cwd=folder, capture_output=True,
-                             text=True, timeout=60)
+                             text=True, timeout=240)
     found = re.search(r"^corner\s*=\s*(\S+)", run.stdout, re.M)
     if not found:
         sys.exit(f"ngspice measured no corner:\n{run.stdout}{run.stderr}")

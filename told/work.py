@@ -30,7 +30,7 @@ MOST_START = 4_294_967_295
 GRID = 100
 PIN_PLACES = (0, 300)
 NAMES = ("live", "conductors", "groups", "nets", "bound")
-LONGEST = 60
+LONGEST = 240
 
 
 # The rules.

@@ -15,7 +15,7 @@ class Writer:
         self.connect()
 
     def connect(self):
-        self.link = socket.create_connection(("127.0.0.1", self.port), timeout=60)
+        self.link = socket.create_connection(("127.0.0.1", self.port), timeout=240)
         self.link.setsockopt(socket.IPPROTO_TCP, socket.TCP_NODELAY, 1)
         self.rest = b""
 

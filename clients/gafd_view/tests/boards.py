@@ -19,9 +19,9 @@ from sheet_text import read_objects
 EXAMPLES = served.TOP / "examples"
 STEREO = ["cap.sym", "channel.sym", "conn6.sym", "gnd.sym", "minus12.sym", "plus12.sym", "port.sym",
           "res.sym", "title.sym", "tl072.sym", "channel.sch", "stereo.sch"]
-PATIENCE = 60
+PATIENCE = 240
 # The longest that all tests of one file may take, in seconds.
-LONGEST = 900
+LONGEST = 3600
 
 
 def ask(address, method, path, body=None, headers=None):

@@ -66,7 +66,7 @@ class Page:
         self.window = self.shared.current_window_handle
         self.driver.set_window_size(width, height)
         self.driver.get(url)
-        self.until(lambda: self.text("status") not in ("", "reading"), 60)
+        self.until(lambda: self.text("status") not in ("", "reading"), 240)
         if name is not None:
             self.driver.find_element(By.ID, "edit").click()
             if name:
@@ -79,7 +79,7 @@ class Page:
             self.shared.switch_to.window(self.window)
         return self.shared
 
-    def until(self, holds, seconds=30):
+    def until(self, holds, seconds=120):
         # What is looked at may be drawn anew meanwhile.
         replaced = [StaleElementReferenceException, NoSuchElementException]
         WebDriverWait(self.driver, seconds, 0.1, replaced).until(lambda _: holds())

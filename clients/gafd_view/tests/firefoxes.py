@@ -9,7 +9,7 @@ import subprocess
 import tempfile
 import time
 
-STARTING, PATIENCE = 120, 60
+STARTING, PATIENCE = 480, 240
 PREFERENCES = {"marionette.port": 0, "browser.shell.checkDefaultBrowser": False,
                "datareporting.policy.dataSubmissionEnabled": False, "app.update.auto": False,
                "browser.startup.homepage": "about:blank", "toolkit.telemetry.enabled": False}

@@ -223,7 +223,7 @@ class Marking(PageCase):
         page.tab("history")
         page.until(lambda: "changed the symbol cap.sym" in page.text("list"))
         page.script(f"document.querySelector('[data-compare=\"{serial}\"]').click()")
-        page.until(lambda: page.all(".comparing"), 60)
+        page.until(lambda: page.all(".comparing"), 240)
         self.assertEqual(len(page.all("#drawn .is-changed")), 4)
         self.assertIn("C1: its symbol cap.sym", page.text("list"))
         page.keys(Keys.ESCAPE)
@@ -242,7 +242,7 @@ class Comparing(PageCase):
         page = self.page()
         page.tab("history")
         page.script("document.querySelector('[data-compare=\"12\"]').click()")
-        page.until(lambda: page.all(".comparing"), 60)
+        page.until(lambda: page.all(".comparing"), 240)
         [added] = page.all("#drawn .is-added")
         self.assertEqual(added.get_attribute("data-id"), str(self.ann.ids("stereo.sch")[-1]))
         self.assertEqual([it.get_attribute("data-id") for it in page.all("#drawn .is-changed")],
@@ -381,7 +381,7 @@ class Following(PageCase):
                 bob.edit(kind="delete", ids=[ids.pop()])
             else:
                 bob.edit(kind="add_sheet", name=f"s{step}.sch", text="v 20130925 2\n")
-        page.until(lambda: page.text("status") == f"{bob.front()} edits", 30)
+        page.until(lambda: page.text("status") == f"{bob.front()} edits", 120)
         self.assertEqual(self.pieces(page), self.pieces(self.page(where="#stereo.sch@")))
         self.assertEqual(page.faults(), [])
 
@@ -468,7 +468,7 @@ class Large(PageCase):
             self.ann.add(pathlib.Path(f"s{at:03}.sch"),
                          self.sheet_of(PARTS // SHEETS, 1, f"R{at:03}_"))
         page = self.page("ann")
-        page.until(lambda: f"parts {PARTS}" in page.text("tabs"), 60)
+        page.until(lambda: f"parts {PARTS}" in page.text("tabs"), 240)
         number = self.ann.ids("s000.sch")[0]
         page.press(number)
         times = []
@@ -486,16 +486,16 @@ class Large(PageCase):
                 document.getElementById('sheet').dispatchEvent(new KeyboardEvent('keydown',
                   {{ key: 'ArrowRight', shiftKey: true, bubbles: true }}));
                 """)
-            page.until(lambda: page.script("return window.edited"), 60)
+            page.until(lambda: page.script("return window.edited"), 240)
             times.append(page.script("return window.edited"))
-        page.until(lambda: page.text("status") == f"{SHEETS + 4} edits", 60)
+        page.until(lambda: page.text("status") == f"{SHEETS + 4} edits", 240)
         self.tell(f"{SHEETS} sheets, {PARTS} parts: from edit to picture", min(times),
                   1_000)
         self.is_idle(page)
 
     def is_idle(self, page):
         """Nothing but the list of sheets is asked for, each two seconds."""
-        page.until(lambda: not page.all("#marks > g"), 60)
+        page.until(lambda: not page.all("#marks > g"), 240)
         asked = page.script("performance.clearResourceTimings(); return 0")
         time.sleep(10)
         asked = page.script("return performance.getEntriesByType('resource').map(it => it.name)")
