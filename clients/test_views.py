@@ -38,8 +38,8 @@ class WhoTest(ViewLaboratory):
         self.ann.draws("N 44500 47400 44500 48000 4\n", WIRE)
         self.assertEqual(self.ann("push", "preamp.sch")[0], 0)
         said = self.bob("--view", self.view, "pull")[1]
-        for line in ("changed by ann, edit 9: 20, N 100", "changed by ann, edit 10: 26, C R2",
-                     "changed by ann, edit 11: 30, C R3"):
+        for line in ("changed by ann, edit 9: 26, C R2", "changed by ann, edit 10: 30, C R3",
+                     "added by ann, edit 11: 46, N 100", "deleted by ann, edit 12: 20, N 44500"):
             self.assertIn(line, said)
         self.assertNotIn("others", said)
 

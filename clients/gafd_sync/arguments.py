@@ -28,10 +28,11 @@ symbol's name ends in .sym.
   pull [FILE...]        writes the files, or all sheets of the server, with the symbols that they
                         name. What you drew since stays: it is put together with what others
                         changed, object by object. Where both changed one object, or one symbol,
-                        nothing is written, and --mine or --theirs says whose stands; --over takes
-                        all as the server has it. A symbol that is a link becomes a file: what the
-                        link leads to is never written. Where there is no gafrc one is written, so
-                        that lepton finds the symbols; --lepton writes a lepton.conf likewise
+                        nothing is written, and --mine or --theirs says whose stands, and prints
+                        each object of the other side that goes; --over takes all as the server has
+                        it. A symbol that is a link becomes a file: what the link leads to is never
+                        written. Where there is no gafrc one is written, so that lepton finds the
+                        symbols; --lepton writes a lepton.conf likewise
   push FILE...          sends what you changed, as the fewest edits, one after the other, and prints
                         each. What moved or turned as one goes as one. A sheet that the server does
                         not have is added. The symbols of a sheet go with it, also from the folders

@@ -1,6 +1,7 @@
 """Differences as lines that are printed."""
 import difflib
 
+from .merge import versions_left
 from .motions import motions_between, motions_of
 from .sheets import item_of
 
@@ -39,6 +40,21 @@ def show_conflicts(name, plan, now, view):
         for who, text in (("theirs", now.get(key)), ("yours", plan.replaced.get(key))):
             for line in change_lines(was, text):
                 print(f"    {who:6} {line}")
+
+
+def named_or_placed(item):
+    """An object by its refdes, or else by what and where it is."""
+    if item.letter not in "CT" or item.attribute("refdes"):
+        return str(item)
+    return "{} at {},{}".format(item, *item.place)
+
+
+def show_left(name, plan, now, taken):
+    """Prints each object of the side that is not taken: it goes, or is another one and stays."""
+    whose = "theirs" if taken == "mine" else "yours"
+    for key, text, is_same in versions_left(plan, now, taken):
+        what = "dropped" if is_same else "kept beside it"
+        print(f"{name}: {what}: {whose}, {key}, {named_or_placed(item_of(text))}")
 
 
 def show_change(name, who, key, was, text):

@@ -1,9 +1,28 @@
 """What a file has otherwise than what it was made from, beside what others changed."""
+import math
 from collections import Counter
 from typing import NamedTuple
 
+from .likeness import (
+    NAME_AND_REST,
+    NEAR,
+    PLACE_AND_REST,
+    REFDES_AND_PLACE,
+    all_but_name,
+    cell,
+    cells_around,
+    distance,
+    is_alike,
+    kind,
+    same_end,
+    same_name,
+    same_place,
+)
 from .motions import MOST_MOTIONS, likely_shifts, motions_between, outline
 from .sheets import item_of
+
+# Of more objects that are alike the nearest is not looked for.
+MOST_ALIKE = 100
 
 
 class Plan(NamedTuple):
@@ -46,7 +65,7 @@ def unmatched(origin, now, mine):
 def plan_of(origin, now, mine):
     """The plan of a file with the texts `mine`, made from `origin`, where the server has `now`."""
     known, changed, left = unmatched(origin, now, mine)
-    replaced, deleted, added = Pairing(changed, left, now).found()
+    replaced, deleted, added = Pairing(changed, left).found()
     for key in [key for key in changed if key not in now and key not in replaced]:
         # Both deleted it.
         deleted.remove(key)
@@ -57,75 +76,70 @@ def plan_of(origin, now, mine):
 
 
 class Pairing:
-    """Which objects came in place of which. In place of an object that the server has no more only
-    what is alike comes."""
+    """Which objects came in place of which: those that have a name, a place, an end or a look in
+    common, and then those of one kind that are near each other. What has nothing in common went and
+    came."""
 
-    def __init__(self, old, new, now):
+    def __init__(self, old, new):
         self.olds = {key: item_of(text) for key, text in sorted(old.items())}
         self.news = [item_of(text) for text in new]
-        self.pairs, self.now = {}, now
+        self.pairs = {}
 
     def found(self):
         """Texts by id, the ids that are left, the texts that are left."""
         for motion in likely_shifts(self.olds.values(), self.news):
             self.by(motion.text, lambda item: item.text)
+        for alike in (REFDES_AND_PLACE, NAME_AND_REST, PLACE_AND_REST):
+            self.by(alike)
+        self.by(all_but_name, farthest=NEAR)
         self.by(same_name)
         for motion in self.turns():
             self.by(motion.text, lambda item: item.text)
         for alike in (same_place, same_end, outline):
             self.by(alike)
-        for alike in (same_letter, any_object):
-            self.by(lambda item, alike=alike: alike(item), is_sure=False)
+        self.by_nearness()
         replaced = {key: item.text for key, (_, item) in sorted(self.pairs.items())}
         return replaced, list(self.olds), [item.text for item in self.news]
 
-    def by(self, mark_old, mark_new=None, is_sure=True):
-        """Pairs what has one mark, in the order of the ids."""
+    def by(self, mark_old, mark_new=None, farthest=math.inf):
+        """Pairs what has one mark, of several the nearest, where that is not too far."""
         homes = {}
         for key, item in self.olds.items():
-            mark = mark_old(item)
-            if mark is not None and (is_sure or key in self.now):
+            if (mark := mark_old(item)) is not None:
                 homes.setdefault(mark, []).append(key)
-        for found in homes.values():
-            found.reverse()
         left = []
         for item in self.news:
-            found = homes.get((mark_new or mark_old)(item)) if homes else None
-            if found:
-                key = found.pop()
-                self.pairs[key] = self.olds.pop(key), item
-            else:
+            keys = homes.get((mark_new or mark_old)(item), []) if homes else []
+            ways = ((distance(self.olds[key], item), key) for key in keys[:MOST_ALIKE])
+            far, key = min(ways, default=(math.inf, None))
+            if key is None or far > farthest:
                 left.append(item)
+            else:
+                keys.remove(key)
+                self.pairs[key] = self.olds.pop(key), item
         self.news = left
+
+    def by_nearness(self):
+        """Pairs what is of one kind and near each other, the nearest first."""
+        homes = {}
+        for key, item in self.olds.items():
+            if item.place is not None:
+                homes.setdefault((kind(item), cell(item)), []).append(key)
+        found, taken = [], set()
+        for at, item in enumerate(self.news):
+            keys = (key for near in cells_around(item) for key in homes.get((kind(item), near), ()))
+            found += ((distance(self.olds[key], item), key, at) for key in keys)
+        for far, key, at in sorted(found):
+            if far <= NEAR and key in self.olds and at not in taken:
+                taken.add(at)
+                self.pairs[key] = self.olds.pop(key), self.news[at]
+        self.news = [item for at, item in enumerate(self.news) if at not in taken]
 
     def turns(self):
         """The turns that named objects made, the likeliest first."""
         found = (motions_between(old, new, True) for old, new in self.pairs.values())
         votes = Counter(motion for motions in found for motion in motions)
         return [motion for motion, _ in votes.most_common(MOST_MOTIONS)]
-
-
-def same_name(item):
-    names = [item.attribute(name) for name in ("refdes", "slot", "netname")]
-    if item.letter == "T":
-        names = item.content
-    return (item.letter, *names) if any(names) and item.letter in "CTN" else None
-
-
-def same_place(item):
-    return (item.letter, *item.words[1:3])
-
-
-def same_end(item):
-    return (item.letter, *item.words[3:5]) if item.letter in "LNUP" else None
-
-
-def same_letter(item):
-    return item.letter
-
-
-def any_object(_):
-    return True
 
 
 def who_changed(origin, text, mine):
@@ -140,14 +154,27 @@ def who_changed(origin, text, mine):
     return "theirs" if origin == mine else "both"
 
 
+def versions_left(plan, now, taken):
+    """Of each conflict the version that is not `taken`, where there is one: its id, its text, and
+    whether it is the same object as before. One that is not stays beside the one that is taken."""
+    for key in plan.conflicts:
+        text = now.get(key) if taken == "mine" else plan.replaced.get(key)
+        if text is not None:
+            yield key, text, is_alike(item_of(plan.known[key]), item_of(text))
+
+
 def merged(plan, now, taken):
     """The texts of a sheet with the changes of both; of conflicts those of `taken`."""
-    theirs = set(plan.conflicts) if taken == "theirs" else set()
-    texts = []
-    for key, text in now.items():
-        if key in theirs:
-            texts.append(text)
-        elif key not in plan.deleted:
-            texts.append(plan.replaced.get(key, text))
-    lost = [text for key, text in plan.replaced.items() if key not in now and key not in theirs]
-    return texts + lost + plan.added
+    both = {key for key, _, is_same in versions_left(plan, now, taken) if not is_same}
+    theirs = set(plan.conflicts) if taken == "theirs" else both
+    texts = [
+        text if key in theirs else plan.replaced.get(key, text)
+        for key, text in now.items()
+        if key in theirs or key not in plan.deleted
+    ]
+    mine = [
+        text
+        for key, text in plan.replaced.items()
+        if key in both or not (key in now or key in theirs)
+    ]
+    return texts + mine + plan.added

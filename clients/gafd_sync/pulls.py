@@ -1,5 +1,12 @@
 """`pull`: what the server has, put together in the folder with what was drawn since."""
-from .differences import WHOSE, show_conflicts, show_lines, show_symbol_conflict, show_theirs
+from .differences import (
+    WHOSE,
+    show_conflicts,
+    show_left,
+    show_lines,
+    show_symbol_conflict,
+    show_theirs,
+)
 from .merge import merged, plan_of, who_changed
 from .sheets import sheet_of
 
@@ -41,6 +48,7 @@ def pull_sheet(asked, folder, name, stand):
             print(f"{name}: not written; {WHOSE.format(name)}")
             return 1
         show_theirs(name, plan, stand.objects, asked.view)
+        show_left(name, plan, stand.objects, asked.taken)
     # Where nothing came, what you drew stays as it stands.
     if plan is None or plan.is_empty() or plan.theirs:
         texts = merged(plan, stand.objects, asked.taken) if plan else stand.objects.values()
