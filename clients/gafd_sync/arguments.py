@@ -1,5 +1,6 @@
 """The arguments of a call, and its status."""
 import argparse
+import contextlib
 import getpass
 import os
 import re
@@ -17,7 +18,7 @@ from .store import backup, check, history
 from .tables import fill, table
 from .undo import undo
 from .view import View
-from .words import NAME, Refused, Stop, told
+from .words import NAME, Printed, Refused, Stop, told
 
 USAGE = """\
 gafd_sync: a folder of sheets beside a `gafd serve`, for who draws in lepton-schematic.
@@ -217,7 +218,17 @@ def view_of(asked, folder):
 
 
 def main():
-    asked, folder, server, view = arguments(), Folder(), None, None
+    asked = arguments()
+    # A table is a file for a spreadsheet, unless somebody looks at it.
+    is_file = asked.command == "table" and not sys.stdout.isatty()
+    out = sys.stdout if is_file else Printed(sys.stdout)
+    with contextlib.redirect_stdout(out), contextlib.redirect_stderr(Printed(sys.stderr)):
+        return status_of(asked)
+
+
+def status_of(asked):
+    """Does what is asked, and says what went wrong."""
+    folder, server, view = Folder(), None, None
     command = COMMANDS[asked.command]
     try:
         asked.view = view = view_of(asked, folder)

@@ -13,7 +13,6 @@ from typing import NamedTuple
 from .folder import GAFRC, put
 from .rows import Rows, row_name
 from .server import Server, in_order
-from .sheets import item_of
 from .words import Stop
 
 LONGEST_START = 120
@@ -113,8 +112,4 @@ def board_of(server, named=""):
     """The board that a server has: its sheets with the symbols that they name, and one more."""
     with contextlib.closing(server.link):
         stands = server.all_sheets()
-        texts = [text for stand in stands.values() for text in stand.objects.values()]
-        names = {item_of(text).symbol for text in texts} | {named}
-        names = {name for name in names if name and name.endswith(".sym")}
-        texts = {name: text for name in names if (text := server.symbol(name)) is not None}
-        return Board(stands, texts)
+        return Board(stands, server.symbol_texts(stands, named))

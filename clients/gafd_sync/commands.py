@@ -5,7 +5,7 @@ from .differences import show_conflicts, show_lines, show_symbol_conflict, show_
 from .merge import plan_of, who_changed
 from .pushes import GONE
 from .server import Server, in_order
-from .sheets import item_of, sheet_of
+from .sheets import item_of
 from .stack import Stack
 from .words import Refused, Stop, told
 
@@ -92,8 +92,7 @@ def copy(asked, server, folder):
         raise Stop(f"{asked.url} is not empty: it has {other.front} edits")
     stands = server.all_sheets()
     front = server.front
-    named = {name for key, stand in stands.items() for name in sheet_of(key, stand.text).symbols()}
-    texts = {name: text for name in sorted(named) if (text := server.symbol(name)) is not None}
+    texts = server.symbol_texts(stands)
     netlist = server.get("/netlist/list").text
     if server.front != front:
         raise Stop(f"{server.url} was edited meanwhile: call it again when nobody edits")

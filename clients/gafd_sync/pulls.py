@@ -28,7 +28,7 @@ def pull(asked, server, folder):
             status = 1
             continue
         status |= pull_sheet(asked, folder, name, stand)
-        symbols |= set(sheet_of(name, stand.text).symbols())
+        symbols |= set(server.symbols_of(sheet_of(name, stand.text)))
     for name in sorted(symbols):
         status |= pull_symbol(asked, server, folder, name)
     folder.lepton_files(asked.lepton)

@@ -82,7 +82,7 @@ class Push:
         except Refused as refused:
             fault = refused.fault
             if fault.get("fault") == "BadText":
-                raise Stop(f"{name}:{fault['line']}: {fault['read']}") from None
+                raise Stop(f"{name}:{fault.get('line')}: {fault.get('read')}") from None
             raise Stop(f"{name}: {told(fault)}") from None
 
     def end(self):

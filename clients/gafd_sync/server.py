@@ -3,14 +3,17 @@ import base64
 import http.client
 import json
 import netrc
+import re
 import ssl
+import sys
 import time
 import urllib.parse
 from typing import NamedTuple
 
 from .sheets import sheet_of
-from .words import Refused, Stop
+from .words import NAME, SHEET, SYMBOL, Refused, Stop
 
+NUMBER = re.compile("[0-9]{1,10}")
 MOST_IDS = 1000
 MOST_BYTES = 4_194_304
 GREATEST = 4_294_967_295
@@ -25,11 +28,18 @@ class Reply(NamedTuple):
     text: str
 
     def fault(self):
+        """What it tells under names, as words and numbers."""
         try:
             found = json.loads(self.text)
-            return found if isinstance(found, dict) else {}
-        except ValueError:
+        except (ValueError, RecursionError):
             return {}
+        fields = found.items() if isinstance(found, dict) else ()
+        return {name: it for name, it in fields if isinstance(it, (str, int))}
+
+    @property
+    def start(self):
+        """Its status, and how its text begins, in one line."""
+        return f"{self.status} {' '.join(self.text.split())[:200]}"
 
 
 class Stand(NamedTuple):
@@ -60,6 +70,7 @@ class Server:
         self.path = parts.path.rstrip("/")
         self.headers = {} if self.user is None else {"Authorization": word}
         self.front, self.number = 0, None
+        self.left_out = set()
         # Who tells whose changes these are; set where lines on changes are printed.
         self.view = None
 
@@ -72,7 +83,8 @@ class Server:
         self.link.request(method, self.path + path, body, self.headers)
         answer = self.link.getresponse()
         text = answer.read().decode("utf-8", "replace")
-        return Reply(answer.status, int(answer.getheader("Front", -1)), text)
+        front = answer.getheader("Front", "")
+        return Reply(answer.status, int(front) if NUMBER.fullmatch(front) else -1, text)
 
     def ask(self, method, path, body=None):
         """The reply to a request. One whose reply is lost is sent again as it was: an edit that
@@ -82,7 +94,7 @@ class Server:
                 reply = self.once(method, path, body)
                 if reply.status not in (500, 502, 503, 504):
                     break
-                cause = f"{reply.status} {reply.text.strip()[:100]}"
+                cause = reply.start
             except ssl.SSLCertVerificationError as error:
                 why = f"{error.verify_message}; SSL_CERT_FILE=FILE.pem names one to trust"
                 raise Stop(f"{self.url}: its certificate is not trusted: {why}", 3) from None
@@ -95,7 +107,7 @@ class Server:
         if reply.status in (401, 403):
             raise Stop(f"{self.url} {self.kept_out(method)}", 3)
         if reply.front < 0:
-            raise Stop(f"{self.url}: {reply.status} {reply.text.strip()[:200]}", 3)
+            raise Stop(f"{self.url}: {reply.start}", 3)
         return reply
 
     def kept_out(self, method):
@@ -124,11 +136,32 @@ class Server:
                 f"{self.url} has {reply.front} edits, and this folder has seen {self.front}: it is"
                 " another server, or came from an older backup. `pull --over` takes its sheets"
             )
-        raise Stop(f"{self.url}{path}: {reply.status} {reply.text.strip()[:200]}", 3)
+        raise Stop(f"{self.url}{path}: {reply.start}", 3)
 
     def names(self):
         """The sheets, by name."""
-        return [line.rsplit(" ", 1)[0] for line in self.get("/sheets").text.splitlines()]
+        lines = self.get("/sheets").text.splitlines()
+        return self.file_names((line.rsplit(" ", 1)[0] for line in lines), SHEET, ".sch")
+
+    def symbols_of(self, sheet):
+        """The library symbols that a sheet of the server names."""
+        return self.file_names(sheet.symbols(), SYMBOL, ".sym")
+
+    def file_names(self, names, fitting, ending):
+        """Names that the server gives, as far as a file here may have them. What leads out of the
+        folder ends the call, as no server has it; what another program takes for a file of its own,
+        as `gafrc`, is left out."""
+        kept = []
+        for name in names:
+            if not NAME.fullmatch(name):
+                raise Stop(f"{self.url}: {name!r} is no name of a file: nothing was written", 3)
+            if fitting.fullmatch(name):
+                kept.append(name)
+            elif name not in self.left_out:
+                self.left_out.add(name)
+                why = "begins with `-`" if name.startswith("-") else f"does not end in {ending}"
+                print(f"gafd_sync: {name} is left out: its name {why}", file=sys.stderr)
+        return kept
 
     def sheet(self, name):
         """A sheet as it stands, or None. Text and ids are of one moment."""
@@ -139,11 +172,17 @@ class Server:
                     return None
             elif text.front == ids.front:
                 found = sheet_of(name, text.text)
-                numbers = [int(line.split(" ")[0]) for line in ids.text.splitlines()]
-                if len(numbers) != len(found.items):
-                    raise Stop(f"{self.url}: {name} has {len(numbers)} ids, and other objects", 3)
+                numbers = self.ids(name, ids.text, len(found.items))
                 return Stand(text.front, found.head, dict(zip(numbers, found.texts)))
         raise Stop(f"{self.url}: {name} changes faster than it can be read", 3)
+
+    def ids(self, name, text, count):
+        """The ids that a text has, of as many objects, each of its own."""
+        words = [line.split(" ")[0] for line in text.splitlines()]
+        numbers = [int(word) for word in words if NUMBER.fullmatch(word)]
+        if not len(words) == len(set(numbers)) == count:
+            raise Stop(f"{self.url}: {name} has {len(words)} ids, and other objects", 3)
+        return numbers
 
     def texts(self, name):
         """The texts of the objects of a sheet, none where it is not there."""
@@ -160,12 +199,22 @@ class Server:
 
     def symbol(self, name):
         reply = self.get("/symbols/" + name)
-        return reply.text if reply else None
+        if reply:
+            sheet_of(name, reply.text)
+        return reply and reply.text
+
+    def symbol_texts(self, stands, named=""):
+        """The texts of the symbols that sheets name, and of one more where its name is one."""
+        sheets = (sheet_of(name, stand.text) for name, stand in stands.items())
+        names = {name for sheet in sheets for name in self.symbols_of(sheet)}
+        names |= {named} if SYMBOL.fullmatch(named) else set()
+        found = ((name, self.symbol(name)) for name in sorted(names))
+        return {name: text for name, text in found if text is not None}
 
     def next_number(self):
         """One above the session's last number, which a gap on purpose tells."""
         fault = self.post({"kind": "renumber"}, GREATEST, 0).fault()
-        if fault.get("fault") != "NumberGap":
+        if fault.get("fault") != "NumberGap" or not isinstance(fault.get("last"), int):
             raise Stop(f"{self.url}: {fault} in place of NumberGap", 3)
         return fault["last"] + 1
 
@@ -182,10 +231,13 @@ class Server:
             self.number = self.next_number()
         reply = self.post(edit, self.number, base)
         if reply.status != 200:
-            raise Refused(reply.fault() or {"fault": f"{reply.status} {reply.text.strip()[:100]}"})
+            raise Refused(reply.fault() or {"fault": reply.start})
         self.number += 1
         self.front = max(self.front, reply.front)
-        return reply.fault()
+        found = reply.fault()
+        if not all(isinstance(found.get(it), int) for it in ("serial", "first_id")):
+            raise Stop(f"{self.url}: {reply.start} in place of a serial", 3)
+        return found
 
 
 def in_order(stands):

@@ -127,10 +127,11 @@ class Reader:
 
     def following(self, words):
         """The lines behind the line of an object that are its own."""
-        if words[0] == "T":
-            return self.take(int(words[9]))
-        if words[0] == "H":
-            return self.take(int(words[13]))
+        if words[0] in "TH":
+            count = int(words[9 if words[0] == "T" else 13])
+            if not count:
+                raise ValueError("no lines")
+            return self.take(count)
         if words[0] == "G":
             return self.take(1) + (self.data() if words[7] == "1" else [])
         return []
@@ -198,7 +199,7 @@ def sheet_of(name, text):
             raise ValueError("no version line")
         reader.at = 1
         return Sheet(" ".join(words), reader.items())
-    except (ValueError, IndexError):
+    except (ValueError, IndexError, RecursionError):
         line = min(reader.at + 1, len(reader.lines) + 1)
         what = f"not understood near line {line}; `gafd export {name}` says why"
         raise Stop(f"{name}: {what}") from None

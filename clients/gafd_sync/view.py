@@ -5,10 +5,37 @@ import sys
 
 from .server import GREATEST, Server
 from .sheets import item_of
-from .words import Stop
+from .words import NAME, Stop
 
 OTHERS = "others"
 MOST_ASKED = 1000
+
+
+def is_number(value):
+    return type(value) is int
+
+
+def is_row(value):
+    """Whether a page tells an edit so: its serial, its session, and what it was."""
+    if not isinstance(value, dict) or not isinstance(value.get("edit"), dict):
+        return False
+    texts = [value["edit"].get(name, "") for name in ("name", "value", "text")]
+    is_named = NAME.fullmatch(str(value.get("session")))
+    return is_number(value.get("serial")) and is_named and all(type(it) is str for it in texts)
+
+
+def are_changes(told, count):
+    """Whether a page tells who changed so many objects: the rows of edits, and for each object the
+    serial of the last one and of the one that brought it, or none."""
+    rows, numbering = told.get("rows"), told.get("numbering")
+    if type(rows) is not list or not all(map(is_row, rows)):
+        return False
+    for serials in (told.get("last"), told.get("brought"), [numbering] * count):
+        if type(serials) is not list or len(serials) != count:
+            return False
+        if not all(it is None or is_number(it) for it in serials):
+            return False
+    return True
 
 
 class View:
@@ -30,14 +57,17 @@ class View:
             return None
         try:
             reply = self.server.once("GET", path, None)
-            if reply.status == 200:
-                return json.loads(reply.text)
-            why = reply.fault().get("fault", reply.status)
-        except (OSError, http.client.HTTPException, ValueError) as error:
-            why = error
+            if reply.status == 200 and isinstance(told := json.loads(reply.text), dict):
+                return told
+            return self.tells_not(reply.fault().get("fault", reply.status))
+        except (OSError, http.client.HTTPException, ValueError, RecursionError) as error:
+            return self.tells_not(error)
+
+    def tells_not(self, why):
+        """Says once that it tells nothing, and why. It is not asked again."""
         print(f"gafd_sync: {self.url} does not tell who changed what: {why}", file=sys.stderr)
+        self.close()
         self.server = None
-        return None
 
     def look(self, keys):
         """Asks who changed these objects, as far as it was not asked yet."""
@@ -45,6 +75,8 @@ class View:
         for at in range(0, len(left), MOST_ASKED):
             some = left[at : at + MOST_ASKED]
             told = self.ask("/whose?ids=" + ",".join(map(str, some)))
+            if told is not None and not are_changes(told, len(some)):
+                told = self.tells_not("it answers what it should not")
             if told is None:
                 return
             self.rows.update((row["serial"], row) for row in told["rows"])
@@ -74,10 +106,10 @@ class View:
     def symbol_changer(self, name):
         """Who changed a symbol last."""
         told = self.ask("/whose?symbol=" + name)
-        return self.words(told and told["row"])
+        return self.words(told and told.get("row"))
 
     def words(self, row):
-        return f"{row['session']}, edit {row['serial']}" if row else OTHERS
+        return f"{row['session']}, edit {row['serial']}" if is_row(row) else OTHERS
 
     def server_at(self, count):
         """The board as it was after so many edits, as a server."""
@@ -87,6 +119,6 @@ class View:
         if told is None or not told.get("past"):
             raise Stop(f"{self.url} has no boards as they were: it wants --store")
         told = self.ask(f"/watch?from={GREATEST}")
-        if told is None or told["front"] < count:
+        if told is None or not is_number(told.get("front")) or told["front"] < count:
             raise Stop(f"{self.url} has no {count} edits")
         return Server(f"{self.url.rstrip('/')}/at/{count}", "reader")

@@ -1,8 +1,33 @@
-"""What ends a call, and the faults of the server in words."""
+"""What names are, what ends a call, and the faults of the server in words."""
 import json
 import re
 
 NAME = re.compile(r"(?!\.)[A-Za-z0-9_+.-]{1,100}")
+# What a file of a board is called, so that no other program takes it for one of its own.
+SHEET = re.compile(r"(?![.-])[A-Za-z0-9_+.-]{1,96}\.sch")
+SYMBOL = re.compile(r"(?![.-])[A-Za-z0-9_+.-]{1,96}\.sym")
+# Control characters but for tab and LF, ends of lines, and marks that turn the direction of a text.
+UNSEEN = re.compile(
+    "[\0-\x08\x0b-\x1f\x7f-\x9f\u061c\u200e\u200f\u2028\u2029\u202a-\u202e\u2066-\u2069]"
+)
+
+
+def spelled(text):
+    """A text in which what a terminal would obey, and not show, is spelled as `\\x1b`."""
+    return UNSEEN.sub(lambda found: found[0].encode("unicode_escape").decode(), text)
+
+
+class Printed:
+    """A stream on which texts of others go out spelled."""
+
+    def __init__(self, stream):
+        self.stream = stream
+
+    def write(self, text):
+        return self.stream.write(spelled(text))
+
+    def flush(self):
+        self.stream.flush()
 
 
 class Stop(Exception):
@@ -43,13 +68,20 @@ FAULTS = {
 }
 
 
+class Fields(dict):
+    """What a fault has; what it lacks is told as a question mark."""
+
+    def __missing__(self, _):
+        return "?"
+
+
 def told(fault):
     """A fault in words."""
     name = str(fault.get("fault"))
     if name == "BadText":
         return f"BadText: {fault.get('read')} in line {fault.get('line')} of its text"
-    if name == "Stale" and "newer" in fault:
+    if name == "Stale" and isinstance(fault.get("newer"), int):
         return f"Stale: the edit {fault['newer'] - 1} changed it just now. Pull, then push again"
     if name == "BadEdit" and fault.get("pointer") == "/edit/kind":
         return "BadEdit: the server is older than this edit: it wants a newer gafd"
-    return f"{name}: {FAULTS[name].format_map(fault)}" if name in FAULTS else json.dumps(fault)
+    return f"{name}: {FAULTS[name].format_map(Fields(fault))}" if name in FAULTS else json.dumps(fault)
