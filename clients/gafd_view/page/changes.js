@@ -20,14 +20,33 @@ function maskedLines({ parts, nets }) {
   ];
 }
 
+/** The pins that a net has now and had not, and those that it had and has not, each with a sign. */
+function pinChanges(before, after) {
+  const [had, has] = [before, after].map((it) => new Set(it.split(" ")));
+  const only = (one, other, sign) => [...one].filter((it) => !other.has(it)).map((it) => sign + it);
+  return [...only(has, had, "+"), ...only(had, has, "-")].join(" ");
+}
+
+/** The nets of a drawn name among lines, by their names. */
+function namedNets(lines) {
+  return new Map(lines.filter(([kind, name]) => kind === "net" && name !== "*")
+    .map(([, name, members]) => [name, members]));
+}
+
 /**
- * What two net lists differ in, as contrib/gafd-netdiff tells it: lines that the old one alone has,
- * and lines that the new one alone has.
+ * What two net lists differ in, as contrib/gafd-netdiff tells it: the nets of a drawn name that both
+ * have, with the pins that came and went; the other lines that the old one alone has, and those that
+ * the new one alone has.
  */
 export function netListChanges(old, now) {
   const keyed = (list) => new Map(maskedLines(list).map((it) => [it.join("\t"), it]));
   const [before, after] = [keyed(old), keyed(now)];
   const only = (one, other) => [...one].filter(([key]) => !other.has(key))
     .map(([, line]) => line).sort();
-  return { gone: only(before, after), added: only(after, before) };
+  const [gone, added] = [only(before, after), only(after, before)];
+  const [had, has] = [gone, added].map(namedNets);
+  const inBoth = ([kind, name]) => kind === "net" && had.has(name) && has.has(name);
+  const changed = added.filter(inBoth)
+    .map(([kind, name, members]) => [kind, name, pinChanges(had.get(name), members)]);
+  return { changed, gone: gone.filter((it) => !inBoth(it)), added: added.filter((it) => !inBoth(it)) };
 }

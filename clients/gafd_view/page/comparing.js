@@ -11,7 +11,7 @@ import { readObjects } from "./objects.js";
 import { elementOf } from "./picture.js";
 import { askPast, forEachAtOnce } from "./server.js";
 import { board, byId, instanceOf, notice, shown, shownObjects } from "./state.js";
-import { escapeText } from "./texts.js";
+import { escapeText, unbroken } from "./texts.js";
 import { changeWords, label } from "./words.js";
 
 const STEP = 1;
@@ -98,6 +98,19 @@ function row(kind, words, link = "") {
   return `<tr class="${kind}"${leads}><td>${kind}</td><td>${escapeText(words)}</td></tr>`;
 }
 
+/** The changes of the net list, each with its sign; a net or a part that is there leads to itself. */
+function netLines({ changed, gone, added }) {
+  const signed = [["~", changed], ["<", gone], [">", added]]
+    .flatMap(([sign, lines]) => lines.map((it) => [sign, it]));
+  return signed.map(([sign, [kind, name, rest]]) => {
+    const isThere = sign !== "<" && name !== "*";
+    const leads = isThere ? ` data-link="${escapeText(`${kind}:${name}`)}" tabindex="0" role="link"`
+      : "";
+    return `<tr${leads}><td>${escapeText(sign)}</td><td>${kind} ${escapeText(name)} `
+      + `<small>${rest.split(" ").map(unbroken).join(" ")}</small></td></tr>`;
+  });
+}
+
 /** The changes of the sheet, and those of the net list, in place of the other lists. */
 function listChanges({ front, sheet, list }, { changed, placed, added, gone }) {
   const at = instanceOf(sheet);
@@ -108,11 +121,7 @@ function listChanges({ front, sheet, list }, { changed, placed, added, gone }) {
       `id:${sheet}:${is.id}`)),
     ...gone.map((it) => row("gone", label(it, at))),
   ];
-  const nets = list ? netListChanges(list, board.list) : { gone: [], added: [] };
-  const lines = [...nets.gone.map((it) => ["<", it]), ...nets.added.map((it) => [">", it])]
-    .map(([sign, [kind, name,
-      rest]]) => `<tr><td>${escapeText(sign)}</td><td>${kind} ${escapeText(name)} `
-      + `<small>${escapeText(rest)}</small></td></tr>`);
+  const lines = list ? netLines(netListChanges(list, board.list)) : [];
   byId("list").innerHTML = `<p><b>${escapeText(sheet)}</b> since edit ${front} `
     + '<button id="end-comparison">end</button></p>'
     + `<p><button data-compare="${Math.max(0, front - STEP)}">one earlier</button> `

@@ -6,7 +6,7 @@ import { findingText, linkOf } from "./findings.js";
 import { printed } from "./instances.js";
 import { pinsOf } from "./placing.js";
 import { board, byId, objectOf, shown, shownInstance, shownObjects } from "./state.js";
-import { escapeText } from "./texts.js";
+import { escapeText, unbroken } from "./texts.js";
 import { editWords, label } from "./words.js";
 
 const MOST_ROWS = 500;
@@ -26,7 +26,7 @@ function row(link, cells, kind = "") {
 }
 
 function anchor(link, text) {
-  return `<a data-link="${escapeText(link)}" tabindex="0" role="link">${escapeText(text)}</a>`;
+  return `<a data-link="${escapeText(link)}" tabindex="0" role="link">${unbroken(text)}</a>`;
 }
 
 function netRow({ name, members }) {
@@ -118,7 +118,7 @@ function historyRow({ serial, session, time, edit }) {
   const compare = board.about.past ? ` <a data-compare="${serial}" tabindex="0" role="link" `
     + 'title="show what changed since before this edit">compare</a>' : "";
   return row(first === undefined ? "" : `id::${first}`,
-    [serial, escapeText(session), escapeText(editWords(edit)),
+    [serial, unbroken(session), escapeText(editWords(edit)),
     `<small>${new Date(time).toLocaleString([], digits)}${compare}</small>`]);
 }
 

@@ -3,6 +3,8 @@
 import { splitAttribute } from "./attributes.js";
 import { EM, colourClass, widenBox } from "./canvas.js";
 
+const LONGEST_UNBROKEN = 20;
+
 /** What a text shows: of an attribute its name, its value, or both. */
 function shownText(text) {
   const attribute = text.show ? splitAttribute(text) : null;
@@ -14,6 +16,12 @@ export function escapeText(text) {
   return text.replace(/[&<>"]/g, (it) => ({ "&": "&amp;", "<": "&lt;", ">": "&gt;",
     '"': "&quot;" })[it])
     .replace(/[\x00-\x08\x0b-\x1f]/g, "");
+}
+
+/** A name in a list as markup: a short one does not break. */
+export function unbroken(name) {
+  const text = escapeText(name);
+  return name.length > LONGEST_UNBROKEN ? text : `<span class="name">${text}</span>`;
 }
 
 /**

@@ -284,8 +284,18 @@ test("what changed is told by ids, and of net lists without the numbers of unnam
   const lists = ["A\tR1-1\nunnamed_net1\tR1-2 R2-1\n", "unnamed_net7\tR1-2 R2-1\nB\tR1-1\n"]
     .map((it) => readNetList(`parts 1\nR1\t-\t1k\t-\nnets 2\n${it}`));
   assert.deepEqual(netListChanges(...lists),
-    { gone: [["net", "A", "R1-1"]], added: [["net", "B", "R1-1"]] });
-  assert.deepEqual(netListChanges(lists[0], lists[0]), { gone: [], added: [] });
+    { changed: [], gone: [["net", "A", "R1-1"]], added: [["net", "B", "R1-1"]] });
+  assert.deepEqual(netListChanges(lists[0], lists[0]), { changed: [], gone: [], added: [] });
+});
+
+test("a net of a drawn name that both lists have is told with the pins that came and went", () => {
+  const list = (nets) => readNetList(`parts 1\nR1\t-\t1k\t-\nnets 3\n${nets}`);
+  const [old, now] = ["GND\tC8-1 R1-2 R2-1\nA\tR3-1\nunnamed_net1\tR4-1 R4-2\n",
+    "GND\tC21-1 R1-2 R2-1 S1/C3-1\nA\tR3-1\nunnamed_net1\tR4-1\n"].map(list);
+  assert.deepEqual(netListChanges(old, now), {
+    changed: [["net", "GND", "+C21-1 +S1/C3-1 -C8-1"]],
+    gone: [["net", "*", "R4-1 R4-2"]], added: [["net", "*", "R4-1"]],
+  });
 });
 
 test("open ends are those of wires and pins that nothing touches", () => {

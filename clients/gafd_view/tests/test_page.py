@@ -11,6 +11,7 @@ import os
 import pathlib
 import random
 import re
+import subprocess
 import sys
 import time
 import unittest
@@ -72,6 +73,15 @@ class Looking(SharedCase):
         self.assertEqual(page.text("trail"), "stereo.sch")
         self.assertEqual(len(page.all("#marks .here")), 1)
         self.assertEqual(page.faults(), [])
+
+    def test_short_names_do_not_break(self):
+        page = self.page()
+        for tab, selector in (("history", "td:nth-child(2)"), ("nets", "a")):
+            page.tab(tab)
+            heights = page.script(f"""
+                return [...document.querySelectorAll('#list {selector} .name')]
+                  .map((it) => it.getClientRects().length);""")
+            self.assertEqual(set(heights), {1}, tab)
 
     def test_a_text_is_marked(self):
         page = self.page()
@@ -251,9 +261,28 @@ class Comparing(PageCase):
         self.assertIn("10u", page.one("#past .is-gone").text)
         self.assertIn("changed C1 changed: value=100n → value=220n", page.text("list"))
         self.assertIn("part C2", page.text("list"))
+        self.assertEqual(self.net_lines(page), self.told_by_netdiff(12))
+        page.follow("net:GND")
+        self.assertTrue(page.all("#drawn .lit"))
         page.keys(Keys.ESCAPE)
         self.assertEqual(len(page.all(".comparing, #past > *, #drawn .is-added")), 0)
         self.assertEqual(page.faults(), [])
+
+
+    def net_lines(self, page):
+        """What the page tells of nets and parts, word by word."""
+        rows = (it.text.split() for it in page.all("#list table:last-child tr"))
+        return sorted([words[0] + " " + words[1], *words[2:]] for words in rows)
+
+    def told_by_netdiff(self, front):
+        """What the script tells of the lists of then and now."""
+        lists = []
+        for name, path in (("old", f"/at/{front}/netlist/list"), ("new", "/board/netlist/list")):
+            lists.append(self.folder / name)
+            lists[-1].write_text(self.view.ask(path)[1])
+        words = [str(served.TOP / "contrib/gafd-netdiff"), *map(str, lists)]
+        told = subprocess.run(words, capture_output=True, text=True, check=False).stdout
+        return sorted([line.split("\t")[0], *line.split()[2:]] for line in told.splitlines())
 
 
 class Drawing(PageCase):
