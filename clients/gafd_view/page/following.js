@@ -4,7 +4,7 @@ import { addRails, railsThatMeet } from "./findings.js";
 import { showList, showTrail } from "./lists.js";
 import { netsIn } from "./nets.js";
 import { addressed, open } from "./navigation.js";
-import { drawAll, drawChanges, drawFindings, elementOf, frame, light,
+import { boxesOf, drawAll, drawChanges, drawFindings, frame, light,
   markLooseEnds } from "./picture.js";
 import { symbolNames } from "./board.js";
 import { Away } from "./server.js";
@@ -93,12 +93,14 @@ async function readBoard() {
     board.readHistory(front),
     readSymbolsAnew(),
     // Where nobody tells what changed, a sheet that is not shown is read when it is asked for.
-    board.readStale(takes, (name) => !shown.at || (isKnown && board.sheets.has(name))),
+    board.readStale(takes, (name) => !shown.at || shown.at.isGuess
+      || (isKnown && board.sheets.has(name))),
   ]);
   if (isOfFront) board.front = front;
   else isAskedAgain = true;
   board.arrange();
   if (!shown.at || !board.sheets.has(shown.at.sheet)) leaveLostSheet();
+  else if (shown.at.isGuess) leaveGuess();
   if (!shown.at) return undefined;
   for (const [name, changes] of told) tell(name, changes, since);
   showNets();
@@ -140,14 +142,23 @@ async function readSymbolsAnew() {
 }
 
 /**
- * The sheet that the address names, the only one, or the first of many; else it is chosen once all
- * are read.
+ * The sheet that the address names, or the first. Of a few that is a guess, until all are read and
+ * it is known which one is on top.
  */
 function firstSheet() {
   const asked = addressed();
   if (asked && board.counts.has(asked.sheet)) return asked;
   const { size } = board.counts;
-  return size === 1 || size > MOST_WAITED_FOR ? { sheet: board.names[0], path: "" } : null;
+  return size ? { sheet: board.names[0], path: "", isGuess: size > 1 && size <= MOST_WAITED_FOR }
+    : null;
+}
+
+/** Goes to the sheet on top, where another one was shown until all were read. */
+function leaveGuess() {
+  const [top] = board.instances;
+  const { sheet, path } = shown.at;
+  shown.at.isGuess = false;
+  if (top && (top.sheet !== sheet || top.path !== path)) open(top, true);
 }
 
 function leaveLostSheet() {
@@ -209,11 +220,8 @@ function tell(name, { changed, added, gone, isNew }, since) {
   for (const object of added) log(object.id, name, `${label(object, at)} came on ${name}`, since);
   for (const object of gone) log(object.id, name, `${label(object, at)} went from ${name}`, since);
   if (name !== shown.at.sheet) return;
-  const elements = [...changed.map(([, is]) => is), ...added].map((it) => elementOf(it.id))
-    .filter((it) => it);
-  for (const one of elements) one.classList.add("changed");
-  setTimeout(() => elements.forEach((it) => it.classList.remove("changed")), FRAMED * 1000);
-  frame(elements.map((it) => it.getBBox()), "", FRAMED);
+  // A frame of its own: a mark on the objects themselves would draw the whole sheet anew.
+  frame(boxesOf([...changed.map(([, is]) => is), ...added].map((it) => it.id)), "changed", FRAMED);
   markLooseEnds();
 }
 

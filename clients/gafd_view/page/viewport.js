@@ -1,16 +1,30 @@
 // The window on the sheet.
 
-import { byId, shown } from "./state.js";
+import { EM } from "./canvas.js";
+import { byId, shown, shownObjects } from "./state.js";
 
 const [NARROWEST, WIDEST] = [200, 2e6];
 const READABLE = 9000;
+// On a sheet of so many objects letters that are less than four pixels high are not drawn.
+const MANY = 1000;
+const LEAST_LETTER = 4;
+const LETTER = 10 * EM;
 let hair = 1;
+
+/** How many mils a pixel of the window on the sheet is. */
+function pixelSize() {
+  const { width, height } = byId("sheet").getBoundingClientRect();
+  return Math.max(shown.box[2] / (width || 1), shown.box[3] / (height || 1));
+}
 
 /** Shows the sheet through the window. */
 export function showBox() {
+  // Before the window moves, since what is laid out has to be laid out anew behind it.
+  const pixel = pixelSize();
   byId("sheet").setAttribute("viewBox", shown.box.map((it) => it.toFixed(1)).join(" "));
+  const isFar = LETTER < LEAST_LETTER * pixel && shownObjects().length > MANY;
+  byId("sheet").classList.toggle("far", isFar);
   // No line is thinner than a pixel; a new width for all lines is set only where it shows.
-  const pixel = 1 / (byId("sheet").getScreenCTM()?.a || 1);
   if (Math.abs(Math.log(pixel / hair)) < 0.15) return;
   hair = pixel;
   byId("sheet").style.setProperty("--hair", `${hair.toFixed(1)}px`);

@@ -74,6 +74,16 @@ class Looking(SharedCase):
         self.assertEqual(len(page.all("#marks .here")), 1)
         self.assertEqual(page.faults(), [])
 
+    def test_the_first_picture_does_not_wait_for_all_sheets(self):
+        page = self.page()
+        self.assertEqual(page.text("trail"), "stereo.sch")
+        pictured, last = page.script("""
+            const asked = performance.getEntriesByType('resource');
+            const sheets = asked.filter((it) => it.name.includes('/board/sheets/'));
+            return [performance.getEntriesByName('pictured')[0].startTime,
+              Math.max(...sheets.map((it) => it.startTime))];""")
+        self.assertLess(pictured, last)
+
     def test_short_names_do_not_break(self):
         page = self.page()
         for tab, selector in (("history", "td:nth-child(2)"), ("nets", "a")):
@@ -136,7 +146,10 @@ class Editing(PageCase):
         field.send_keys(Keys.CONTROL + "a" + Keys.NULL + "220n" + Keys.ENTER)
         bob.until(lambda: "220n" in bob.drawn(c1).text)
         bob.until(lambda: "ann: C1 changed: value=100n → value=220n" in bob.text("log"))
-        self.assertIn("changed", bob.drawn(c1).get_attribute("class"))
+        # The mark is beside the drawing, which stays as it is.
+        self.assertEqual(len(bob.all("#marks .changed")), 1)
+        self.assertNotIn("changed", bob.drawn(c1).get_attribute("class"))
+        self.assertTrue(bob.script("return document.getAnimations().length === 0"))
         ann.driver.find_element(By.ID, "undo").click()
         bob.until(lambda: "100n" in bob.drawn(c1).text)
 
@@ -415,8 +428,7 @@ class Following(PageCase):
         self.assertEqual(page.faults(), [])
 
     def pieces(self, page):
-        """What is drawn, by id, without what marks it for a while."""
-        page.until(lambda: not page.all("#drawn .changed"))
+        """What is drawn, by id."""
         script = "return [...document.querySelectorAll('#drawn > .o, #cues')].map(it => it.outerHTML)"
         return sorted(page.driver.execute_script(script))
 
@@ -488,9 +500,18 @@ class Large(PageCase):
         page = Page(self.view.url)
         try:
             self.assertEqual(len(page.all("#drawn > .o")), WIRES)
+            self.texts_are_left_out_from_afar(page)
             return page.script("return performance.getEntriesByName('pictured')[0].startTime")
         finally:
             page.close()
+
+    def texts_are_left_out_from_afar(self, page):
+        """Texts are drawn where their letters are four pixels high, however far that is."""
+        script = "return getComputedStyle(document.querySelector('#drawn text')).display"
+        mils = page.script("return 1 / document.getElementById('sheet').getScreenCTM().a")
+        self.assertEqual(page.script(script), "none" if 10 * 1300 / 72 < 4 * mils else "block")
+        page.keys(*"+" * 12)
+        self.assertEqual(page.script(script), "block")
 
     def test_a_board_of_many_sheets_is_quick(self):
         for at in range(SHEETS):
