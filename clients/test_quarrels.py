@@ -14,6 +14,10 @@ def part(x, refdes, value="1k", symbol="res.sym"):
     return "\n".join([*lines, "}", ""])
 
 
+def named(y, net):
+    return f"N 100 {y} 900 {y} 4\n{{\nT 200 {y} 5 10 1 1 0 0 1\nnetname={net}\n}}\n"
+
+
 class QuarrelLaboratory(Laboratory):
     def start(self, *texts):
         """A sheet of these objects is on the server, and both have it."""
@@ -50,6 +54,9 @@ class PairTest(QuarrelLaboratory):
              [part(100, "R2"), part(2000, "R1", "2k")], ["replace"] * 2),
             ("one that is gone, and the next in its place", [part(100, "R1"), part(900, "R2")],
              [part(100, "R2")], ["move", "delete"]),
+            ("another part without a number", [part(100, "R?")], [part(9000, "R?", "2k")], gone),
+            ("a wire that is gone, and one that has its name now",
+             [named(100, "A"), named(3000, "B")], [named(3000, "A")], ["replace", "delete"]),
             ("a copy under the old name, and the old one changed", [part(100, "R1")],
              [part(100, "R1", "2k"), part(400, "R1")], ["replace", "add_object"]),
         ]

@@ -29,20 +29,26 @@ def distance(one, other):
     return max(abs(a - b) for a, b in zip(one.place, other.place))
 
 
-def same_name(item):
-    names = [item.attribute(name) for name in ("refdes", "slot", "netname")]
-    if item.letter == "T":
-        names = item.content
-    return (item.letter, *names) if any(names) and item.letter in "CTN" else None
-
-
 def refdes_of(item):
-    return item.attribute("refdes") if item.letter == "C" else None
+    """The refdes of a component; one that has no number yet, as `R?`, is no name."""
+    refdes = item.attribute("refdes") if item.letter == "C" else None
+    return None if refdes is None or refdes.endswith("?") else refdes
+
+
+def same_name(item):
+    refdes = refdes_of(item)
+    return refdes and (refdes, item.attribute("slot"))
+
+
+def same_words(item):
+    """What a text says, or the net that a wire names: others may do so too."""
+    words = item.content if item.letter == "T" else [item.attribute("netname")]
+    return (item.letter, *words) if item.letter in "TN" and any(words) else None
 
 
 def all_but_name(item):
     """The symbol of a component with a refdes, and its other attributes."""
-    if refdes_of(item) is None:
+    if item.letter != "C" or item.attribute("refdes") is None:
         return None
     return (item.words[6], *(it for it in item.attributes if not it.startswith("refdes=")))
 

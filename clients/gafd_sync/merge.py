@@ -17,6 +17,7 @@ from .likeness import (
     same_end,
     same_name,
     same_place,
+    same_words,
 )
 from .motions import MOST_MOTIONS, likely_shifts, motions_between, outline
 from .sheets import item_of
@@ -95,7 +96,7 @@ class Pairing:
         self.by(same_name)
         for motion in self.turns():
             self.by(motion.text, lambda item: item.text)
-        for alike in (same_place, same_end, outline):
+        for alike in (same_place, same_end, outline, same_words):
             self.by(alike)
         self.by_nearness()
         replaced = {key: item.text for key, (_, item) in sorted(self.pairs.items())}
