@@ -120,7 +120,7 @@ class BoardFiles:
                 self.files[name] = file
 
     def read(self, name, stamp):
-        status, text, refusal = self.call("export", name)
+        status, text, refusal = self.call("export", "--", name)
         if status == 0:
             return File(stamp, text, read_objects(text), "")
         before = self.files.get(name, File(stamp, "v 20130925 2\n", [], ""))

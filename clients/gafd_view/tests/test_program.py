@@ -267,6 +267,12 @@ class Folders(FolderCase):
         told = json.loads(view.ask("/about")[1])
         self.assertEqual((told["kind"], told["edits"], told["history"]), ("folder", False, False))
 
+    def test_a_sheet_that_begins_with_a_dash_is_no_option(self):
+        text = "v 20130925 2\nN 0 0 100 0 4\n"
+        (self.folder / "--form.sch").write_text(text)
+        view = self.viewed(self.folder)
+        self.assertEqual(view.ask("/board/sheets/--form.sch")[:2], (200, text))
+
     def test_sheets_that_are_named_are_shown_with_those_below(self):
         (self.folder / "other.sch").write_text("v 20130925 2\nN 0 0 100 0 4\n")
         view = self.viewed(self.folder / "stereo.sch")
