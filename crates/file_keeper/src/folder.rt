@@ -1,6 +1,7 @@
 // The folder of a store: how it is made, locked and listed.
 use crate::files::{own_fault, require_file_or_none};
-use std::alloc::Global;
+use crate::names::{is_next, serial_named};
+use std::alloc::{AllocError, Global};
 use std::fs::{File, OpenOptions, TryLockError};
 use std::rt::Files;
 use std::{fs, io};
@@ -63,25 +64,48 @@ pub fn lock_file<R: Files<File = File>>(rt: &R, alloc: Global, path: &str) -> io
     Ok(lock)
 }
 
-/// The serial that the file of this name has, if it is that of a row: ten digits and `.json`.
-fn serial_named(name: &str) -> Option<u32> {
-    let digits = name.strip_suffix(".json")?;
-    if digits.len() != 10 || !digits.as_bytes().iter().all(|byte| byte.is_ascii_digit()) {
-        return None;
-    }
-    digits.parse().ok()
+/// What a folder has when it is taken.
+#[derive(Drop)]
+pub struct Found {
+    /// The greatest serial that a row file has.
+    pub last: Option<u32>,
+    /// The names of files to which servers wrote a row; those that wrote them have ended.
+    nexts: Vec<String>,
 }
 
-/// The greatest serial that a row file of the folder has.
-pub fn last_serial<R: Files + AllocGlobal>(rt: &R, path: &str) -> io::Result<Option<u32>> {
-    let mut last = None;
+impl Found {
+    fn add(&mut self, alloc: Global, name: &str) -> Result<(), AllocError> {
+        self.last = self.last.max(serial_named(name));
+        if is_next(name) {
+            self.nexts.push(String::from_str(alloc, name)?)?;
+        }
+        Ok(())
+    }
+
+    /// Removes what servers that have ended wrote. What cannot be removed counts for nothing.
+    pub fn clear<R: Files>(&self, rt: &R, alloc: Global, path: &str) -> Result<(), AllocError> {
+        for name in &self.nexts {
+            let next_path = format!(in alloc; "{path}/{name}")?;
+            let _ = fs::remove_file(rt, next_path.as_str());
+        }
+        Ok(())
+    }
+}
+
+/// Looks through the names in a folder.
+pub fn look_through<R: Files + AllocGlobal>(rt: &R, path: &str) -> io::Result<Found> {
+    let alloc = rt.alloc();
+    let mut found = Found {
+        last: None,
+        nexts: Vec::new(alloc),
+    };
     for entry in fs::read_dir(&rt, path)? {
         match entry {
-            Ok(entry) => last = last.max(serial_named(entry.file_name())),
-            // A name that is not UTF-8 is that of no row.
+            Ok(entry) => found.add(alloc, entry.file_name())?,
+            // A name that is not UTF-8 is that of no file of a store.
             Err(fault) if fault.kind() == io::ErrorKind::InvalidFilename => {}
             Err(fault) => return Err(fault),
         }
     }
-    Ok(last)
+    Ok(found)
 }

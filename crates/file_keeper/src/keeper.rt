@@ -10,11 +10,12 @@ use edit_entries::Entry;
 use keeper_core::{KeepFault, Keeper};
 use std::fs::File;
 use std::io;
+use std::random::RandomSource;
 use std::rt::Files;
 
 /// The durable log of accepted edits, as files of a folder (docs/RULES.md, "Rows in files").
 #[derive(Drop)]
-pub struct FileKeeper<'a, R: Files<File = File> + AllocGlobal> {
+pub struct FileKeeper<'a, R: Files<File = File> + AllocGlobal + RandomSource> {
     rt: &'a R,
     store: Option<Store>,
     faults: u64,
@@ -30,7 +31,11 @@ fn keep_fault(fault: io::Error) -> KeepFault {
     }
 }
 
-impl<'a, R: Files<File = File> + AllocGlobal> FileKeeper<'a, R> {
+fn taken(store: &mut Option<Store>) -> io::Result<&mut Store> {
+    store.as_mut().ok_or_else(|| own_fault("no store is taken"))
+}
+
+impl<'a, R: Files<File = File> + AllocGlobal + RandomSource> FileKeeper<'a, R> {
     /// A keeper that has taken no store yet. It takes no memory.
     pub fn new(rt: &'a R) -> FileKeeper<'a, R>
         ensures faults { result.faults ≡ 0 }
@@ -70,12 +75,6 @@ impl<'a, R: Files<File = File> + AllocGlobal> FileKeeper<'a, R> {
         }
     }
 
-    fn taken(&self) -> io::Result<&Store> {
-        self.store
-            .as_ref()
-            .ok_or_else(|| own_fault("no store is taken"))
-    }
-
     fn take_store(&mut self, path: &str) -> io::Result<()>
         ensures faults { self.new.faults ≡ self.old.faults }
     {
@@ -83,20 +82,27 @@ impl<'a, R: Files<File = File> + AllocGlobal> FileKeeper<'a, R> {
         Ok(())
     }
 
-    fn put_row(&self, serial: u32, entry: &Entry) -> io::Result<()> {
+    fn put_row(&mut self, serial: u32, entry: &Entry) -> io::Result<()>
+        ensures faults { self.new.faults ≡ self.old.faults }
+    {
         let alloc = self.rt.alloc();
         let bytes = row_bytes(alloc, entry)?;
-        self.taken()?.put(self.rt, alloc, serial, &bytes)
+        taken(&mut self.store)?.put(self.rt, alloc, serial, &bytes)
     }
 
-    fn load_row(&self, serial: u32) -> io::Result<Option<Entry>> {
+    fn load_row(&mut self, serial: u32) -> io::Result<Option<Entry>>
+        ensures faults { self.new.faults ≡ self.old.faults }
+    {
         let alloc = self.rt.alloc();
-        let store = self.taken()?;
+        let store = taken(&mut self.store)?;
         let Some(bytes) = store.read(self.rt, alloc, serial)? else {
             return Ok(None);
         };
         match row_of(alloc, &bytes) {
-            Ok(None) if store.has_later(serial) => Err(own_fault("cut, and later rows are there")),
+            Ok(None) => {
+                store.remove_cut(self.rt, alloc, serial)?;
+                Ok(None)
+            }
             Ok(row) => Ok(row),
             Err(KeepFault::Failed) => Err(own_fault("no row of version 1 or 2")),
             Err(KeepFault::NoMemory) => Err(io::Error::from(io::ErrorKind::OutOfMemory)),
@@ -104,7 +110,7 @@ impl<'a, R: Files<File = File> + AllocGlobal> FileKeeper<'a, R> {
     }
 }
 
-impl<R: Files<File = File> + AllocGlobal> Keeper for FileKeeper<'_, R> {
+impl<R: Files<File = File> + AllocGlobal + RandomSource> Keeper for FileKeeper<'_, R> {
     ghost rows = { λ _. None };
 
     ghost faults = { λ k. k.faults };
@@ -113,25 +119,26 @@ impl<R: Files<File = File> + AllocGlobal> Keeper for FileKeeper<'_, R> {
 
     /// Takes the folder of this name. It is made where it is missing, in a folder that is there.
     ///
-    /// `Failed` only where the count of faults rose, as where another keeper has the folder.
+    /// `Failed` only where the count of faults rose, as where another keeper has the folder, or its
+    /// file system knows no hard links.
     fn attach(&mut self, store: &str) -> Result<(), KeepFault> {
         let taken = self.take_store(store);
         self.note(store, None, &taken);
         self.count(taken)
     }
 
-    /// Keeps a row, which is then on the disk. A file of its serial is replaced.
+    /// Keeps a row, which is then on the disk.
     ///
-    /// `Failed` only where the count of faults rose, as where another folder stands in the place of
-    /// the one that was taken.
+    /// `Failed` only where the count of faults rose, as where a file of its serial is there, or
+    /// another folder stands in the place of the one that was taken.
     fn put(&mut self, serial: u32, entry: &Entry) -> Result<(), KeepFault> {
         let put = self.put_row(serial, entry);
         self.note_row(serial, &put);
         self.count(put)
     }
 
-    /// The row of a serial. `None` where it has no file, or one that does not end in LF, and no
-    /// later row was there when the folder was taken.
+    /// The row of a serial. `None` where it has no file, or one that does not end in LF, which is
+    /// removed, and no later row was there when the folder was taken.
     ///
     /// `Failed` only where the count of faults rose, as where a later row was there, or the file is
     /// no row.

@@ -12,6 +12,7 @@ mod faults;
 mod files;
 mod folder;
 mod keeper;
+mod names;
 mod rows;
 mod store;
 

@@ -1,9 +1,11 @@
 // A folder of row files, which one process at a time has.
-use crate::files::{Node, create_anew, own_fault, require_file};
-use crate::folder::{last_serial, lock_file, lock_folder, make_folder};
-use std::alloc::{AllocError, Global};
+use crate::files::{Node, create_anew, give_name, node_at, own_fault, require_file, require_links};
+use crate::folder::{lock_file, lock_folder, look_through, make_folder};
+use crate::names::{next_path, row_path};
+use std::alloc::Global;
 use std::fs::File;
 use std::io::{Read, Write};
+use std::random::RandomSource;
 use std::rt::Files;
 use std::{fs, io};
 
@@ -11,34 +13,60 @@ use std::{fs, io};
 #[derive(Drop)]
 pub struct Store {
     path: String,
-    /// What a row is written to before it gets its own name.
+    /// What a row is written to before it gets its own name. No other server has this path.
     next_path: String,
     folder: File,
     node: Node,
     /// The greatest serial of which there was a row file when the folder was taken.
     last: Option<u32>,
+    /// The serial and the file of a row that could neither be brought to the disk nor be removed.
+    left: Option<(u32, Node)>,
     _lock: File,
 }
 
+/// A path of a server's own for what it writes rows to.
+fn own_next_path<R: AllocGlobal + RandomSource>(rt: &R, path: &str) -> io::Result<String> {
+    let mut own = [0u8; 8];
+    rt.fill_bytes(&mut own)?;
+    Ok(next_path(rt.alloc(), path, u64::from_le_bytes(own))?)
+}
+
 impl Store {
-    /// Takes a folder, which is made where it is missing. It fails where another process has it.
-    pub fn open<R: Files<File = File> + AllocGlobal>(rt: &R, path: &str) -> io::Result<Store> {
+    /// Takes a folder, which is made where it is missing. It fails where another process has it,
+    /// or its file system knows no hard links.
+    pub fn open<R: Files<File = File> + AllocGlobal + RandomSource>(
+        rt: &R,
+        path: &str,
+    ) -> io::Result<Store> {
         let alloc = rt.alloc();
         make_folder(rt, alloc, path)?;
         let folder = fs::open(rt, path)?;
         lock_folder(&folder)?;
-        Ok(Store {
+        let lock = lock_file(rt, alloc, path)?;
+        let found = look_through(rt, path)?;
+        found.clear(rt, alloc, path)?;
+        let store = Store {
             path: String::from_str(alloc, path)?,
-            next_path: format!(in alloc; "{path}/next")?,
+            next_path: own_next_path(rt, path)?,
             node: Node::of(&folder.metadata()?),
-            _lock: lock_file(rt, alloc, path)?,
-            last: last_serial(rt, path)?,
+            last: found.last,
+            left: None,
+            _lock: lock,
             folder,
-        })
+        };
+        store.require_links(rt, alloc)?;
+        Ok(store)
     }
 
     pub fn path(&self) -> &str {
         self.path.as_str()
+    }
+
+    /// Fails where rows cannot be put, since no file gets a second name here.
+    fn require_links<R: Files>(&self, rt: &R, alloc: Global) -> io::Result<()> {
+        let path = self.path.as_str();
+        let lock_path = format!(in alloc; "{path}/lock")?;
+        require_links(rt, lock_path.as_str(), self.next_path.as_str())
     }
 
     /// A row file of a later serial was there when the folder was taken.
@@ -51,11 +79,6 @@ impl Store {
         self.last >= Some(serial)
     }
 
-    fn row_path(&self, alloc: Global, serial: u32) -> Result<String, AllocError> {
-        let path = self.path.as_str();
-        format!(in alloc; "{path}/{serial:010}.json")
-    }
-
     /// Fails where the folder that was taken no longer stands at its path.
     fn require_place<R: Files>(&self, rt: &R) -> io::Result<()> {
         if Node::of(&fs::metadata(rt, self.path.as_str())?) == self.node {
@@ -66,31 +89,63 @@ impl Store {
     }
 
     /// Writes the bytes of the next row beside the rows, and brings them to the disk.
-    fn write_next<R: Files<File = File>>(&self, rt: &R, bytes: &[u8]) -> io::Result<()> {
+    fn write_next<R: Files<File = File>>(&self, rt: &R, bytes: &[u8]) -> io::Result<Node> {
         let mut file = create_anew(rt, self.next_path.as_str())?;
         file.write_all(bytes)?;
-        file.sync_all()
+        file.sync_all()?;
+        Ok(Node::of(&file.metadata()?))
     }
 
-    /// Puts these bytes in the place of a row file, or makes it of them where there is none. They
-    /// are on the disk under that name when it ends.
+    /// Removes the row that was left, where it is of this serial and still there.
+    fn remove_left<R: Files>(&mut self, rt: &R, serial: u32, row_path: &str) -> io::Result<()> {
+        match self.left {
+            Some((left, node)) if left == serial => {
+                match node_at(rt, row_path) {
+                    Ok(there) if there == node => fs::remove_file(rt, row_path)?,
+                    Err(fault) if fault.kind() != io::ErrorKind::NotFound => return Err(fault),
+                    _ => {}
+                }
+                self.left = None;
+                Ok(())
+            }
+            _ => Ok(()),
+        }
+    }
+
+    /// Brings the name of a row to the disk. Where that fails the row goes, where it can, since it
+    /// is not acknowledged.
+    fn sync_row<R: Files>(
+        &mut self,
+        rt: &R,
+        serial: u32,
+        node: Node,
+        row_path: &str,
+    ) -> io::Result<()> {
+        let synced = self.folder.sync_all();
+        if synced.is_err() && fs::remove_file(rt, row_path).is_err() {
+            self.left = Some((serial, node));
+        }
+        synced
+    }
+
+    /// Makes a row file of these bytes, which are on the disk under that name when it ends. It
+    /// fails where the row is there: another server has written it.
     pub fn put<R: Files<File = File>>(
-        &self,
+        &mut self,
         rt: &R,
         alloc: Global,
         serial: u32,
         bytes: &[u8],
     ) -> io::Result<()> {
-        let row_path = self.row_path(alloc, serial)?;
+        let row_path = row_path(alloc, self.path.as_str(), serial)?;
         self.require_place(rt)?;
-        self.write_next(rt, bytes)?;
-        fs::rename(rt, self.next_path.as_str(), row_path.as_str())?;
-        let synced = self.folder.sync_all();
-        if synced.is_err() {
-            // A row that may not be on the disk goes, where it can, since it is not acknowledged.
-            let _ = fs::remove_file(rt, row_path.as_str());
-        }
-        synced
+        self.remove_left(rt, serial, row_path.as_str())?;
+        let node = self.write_next(rt, bytes)?;
+        let named = give_name(rt, self.next_path.as_str(), node, row_path.as_str());
+        // The row keeps the file under its own name.
+        let _ = fs::remove_file(rt, self.next_path.as_str());
+        named?;
+        self.sync_row(rt, serial, node, row_path.as_str())
     }
 
     /// The bytes of a row file; `None` where there is none, nor was one of a later serial.
@@ -100,7 +155,7 @@ impl Store {
         alloc: Global,
         serial: u32,
     ) -> io::Result<Option<Vec<u8>>> {
-        let row_path = self.row_path(alloc, serial)?;
+        let row_path = row_path(alloc, self.path.as_str(), serial)?;
         match read_file(rt, alloc, row_path.as_str()) {
             Ok(bytes) => Ok(Some(bytes)),
             Err(fault) if fault.kind() == io::ErrorKind::NotFound && !self.has_row(serial) => {
@@ -108,6 +163,18 @@ impl Store {
             }
             Err(fault) => Err(fault),
         }
+    }
+
+    /// Removes a row file that is cut, so that its serial is free. It fails where a row file of a
+    /// later serial was there when the folder was taken.
+    pub fn remove_cut<R: Files>(&mut self, rt: &R, alloc: Global, serial: u32) -> io::Result<()> {
+        if self.has_later(serial) {
+            return Err(own_fault("cut, and later rows are there"));
+        }
+        let row_path = row_path(alloc, self.path.as_str(), serial)?;
+        fs::remove_file(rt, row_path.as_str())?;
+        self.last = serial.checked_sub(1);
+        Ok(())
     }
 }
 
