@@ -1,2 +1,3 @@
 pub mod RowFiles
+pub mod Faults
 pub mod steps

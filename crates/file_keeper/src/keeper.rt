@@ -1,6 +1,7 @@
 // The keeper of rows in files. It tells no rows.
 ghost use Rattle.std.specs.Prelude.{◌≡◌, None};
 ghost use Rattle.geda_defs.specs.Causes.{HasCause};
+ghost use Rattle.file_keeper.specs.Faults.{Becomes, BecomesFault};
 
 use crate::faults::add_fault;
 use crate::files::own_fault;
@@ -24,7 +25,9 @@ pub struct FileKeeper<'a, R: Files<File = File> + AllocGlobal + RandomSource> {
 }
 
 /// A call of the system that failed.
-fn keep_fault(fault: io::Error) -> KeepFault {
+fn keep_fault(fault: io::Error) -> KeepFault
+    ensures memory { BecomesFault fault result }
+{
     match fault.kind() {
         io::ErrorKind::OutOfMemory => KeepFault::NoMemory,
         _ => KeepFault::Failed,
@@ -50,6 +53,7 @@ impl<'a, R: Files<File = File> + AllocGlobal + RandomSource> FileKeeper<'a, R> {
 
     /// Counts what failed, and hands the answer on.
     fn count<T: Drop>(&mut self, answer: io::Result<T>) -> Result<T, KeepFault>
+        ensures handed { Becomes answer result }
         ensures cause { HasCause self.old.faults self.new.faults result KeepFault.Failed }
     {
         self.has_failed = answer.is_err();
