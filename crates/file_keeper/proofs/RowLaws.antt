@@ -6,13 +6,13 @@ use Rattle.edit_entries.specs.Entries.{EntryData}
 use Rattle.edit_json.specs.Rows.{IsRowRead, IsRowText, RowData, RowIsInRange}
 use Rattle.edit_json.specs.declared.row.RowFault.{RowFault}
 use Rattle.edit_json.specs.declared.row.RowFault.TheVariants as rows
-use Rattle.file_keeper.specs.RowFiles.{IsLoaded, IsRow, IsRowOf}
+use Rattle.file_keeper.specs.RowFiles.{IsLoaded, IsRow, IsRowLine}
 use Rattle.file_keeper.specs.steps.RowTexts.{ReadsText, TakesEntry}
 use Rattle.keeper_core.specs.declared.keeper.KeepFault.{KeepFault}
 use Rattle.keeper_core.specs.declared.keeper.KeepFault.TheVariants as fault
 
 -- a row is one of its entry
-of_row : (text : List ℕ) (row : RowData) → RowIsInRange row → IsRowText text row → IsRowOf text row.entry
+of_row : (text : List ℕ) (row : RowData) → RowIsInRange row → IsRowText text row → IsRowLine text row.entry
 of_row text row range is = record { version = row.version; range = range; is = is }
 
 -- each row that a text is, is the one that was read
@@ -21,7 +21,7 @@ IsReader text read = (row : RowData) → RowIsInRange row → IsRowText text row
 
 -- what is read of a text is a row, or it is none
 pub entry_read : (text : List ℕ) (read : Result RowData RowFault) (taken : Result EntryData KeepFault) → TakesEntry read taken → IfOk read (IsRowText text) → IsReader text read → ReadsText text taken
-entry_read text (Ok row) (Ok entry) takes found every = subst (IsRowOf text) (sym takes.0) (of_row text row takes.1 found)
+entry_read text (Ok row) (Ok entry) takes found every = subst (IsRowLine text) (sym takes.0) (of_row text row takes.1 found)
 entry_read text (Ok row) (Err f) takes found every = absurd takes
 entry_read text (Err rows.BadRow) (Ok entry) takes found every = absurd takes
 entry_read text (Err rows.BadRow) (Err fault.Failed) takes found every = λ entry o. every (record { version = o.version; entry = entry }) o.range o.is
@@ -31,7 +31,7 @@ entry_read text (Err rows.NoMemory) (Err fault.Failed) takes found every = absur
 entry_read text (Err rows.NoMemory) (Err fault.NoMemory) takes found every = tt
 
 -- the entry of a text is read
-pub entry_loaded : (text : List ℕ) (read : Result RowData RowFault) (taken : Result EntryData KeepFault) → TakesEntry read taken → IsReader text read → (entry : EntryData) → IsRowOf text entry → IsLoaded entry taken
+pub entry_loaded : (text : List ℕ) (read : Result RowData RowFault) (taken : Result EntryData KeepFault) → TakesEntry read taken → IsReader text read → (entry : EntryData) → IsRowLine text entry → IsLoaded entry taken
 entry_loaded text (Ok row) (Ok x) takes every entry o = takes.0 ∙ ap (λ r. r.entry) (every (record { version = o.version; entry = entry }) o.range o.is)
 entry_loaded text (Ok row) (Err f) takes every entry o = absurd takes
 entry_loaded text (Err rows.BadRow) (Ok x) takes every entry o = absurd takes
@@ -42,8 +42,8 @@ entry_loaded text (Err rows.NoMemory) (Err fault.Failed) takes every entry o = a
 entry_loaded text (Err rows.NoMemory) (Err fault.NoMemory) takes every entry o = tt
 
 -- bytes that are a row have the text of it before their LF
-pub text_of_row : (bytes text : List ℕ) (entry : EntryData) → bytes ≡ ended text → IsRow bytes entry → IsRowOf text entry
-text_of_row bytes text entry whole (other, is, row) = subst (λ t. IsRowOf t entry) (append_cancel_right other text (10 ∷ []) (sym is ∙ whole)) row
+pub text_of_row : (bytes text : List ℕ) (entry : EntryData) → bytes ≡ ended text → IsRow bytes entry → IsRowLine text entry
+text_of_row bytes text entry whole (other, is, row) = subst (λ t. IsRowLine t entry) (append_cancel_right other text (10 ∷ []) (sym is ∙ whole)) row
 
 -- a fault is one whatever was to be read
 pub same_fault : {X Y : Type 0} (x : X) (y : Y) (f : KeepFault) → IsLoaded x (Err f) → IsLoaded y (Err f)

@@ -7,14 +7,14 @@ use Rattle.keeper_core.specs.declared.keeper.KeepFault.{KeepFault}
 use Rattle.keeper_core.specs.declared.keeper.KeepFault.TheVariants as fault
 
 -- the text is a row of this entry, of either version
-pub record IsRowOf (text : List ℕ) (entry : EntryData) : Type 0 where
+pub record IsRowLine (text : List ℕ) (entry : EntryData) : Type 0 where
   pub version : ℕ
   pub range : RowIsInRange (record { version = version; entry = entry })
   pub is : IsRowText text (record { version = version; entry = entry })
 
 -- the bytes are the row of this entry: a text that is one of it, and LF
 abbrev pub IsRow : List ℕ → EntryData → Type 0
-IsRow bytes entry = (text : List ℕ) × (bytes ≡ ended text) × IsRowOf text entry
+IsRow bytes entry = (text : List ℕ) × (bytes ≡ ended text) × IsRowLine text entry
 
 -- the bytes do not end in LF
 abbrev pub IsCut : List ℕ → Type 0
@@ -24,7 +24,7 @@ IsCut bytes = (text : List ℕ) → ¬ (bytes ≡ ended text)
 pub record HoldsNoEntry (bytes : List ℕ) : Type 0 where
   pub text : List ℕ
   pub whole : bytes ≡ ended text
-  pub no_entry : (entry : EntryData) → ¬ (IsRowOf text entry)
+  pub no_entry : (entry : EntryData) → ¬ (IsRowLine text entry)
 
 -- what a reader of a row file answers: there is no row where it is cut
 abbrev pub ReadsRow : List ℕ → Result (Option EntryData) KeepFault → Type 0

@@ -3,7 +3,7 @@ ghost use Rattle.std.specs.Prelude.{◌≡◌, IfOk, MatchOption};
 ghost use Rattle.geda_defs.specs.Lines.{ended};
 ghost use Rattle.edit_entries.specs.Entries.{EntryData};
 ghost use Rattle.edit_json.specs.Rows.{row_text};
-ghost use Rattle.file_keeper.specs.RowFiles.{IsCut, IsLoaded, IsRow, IsRowOf, ReadsRow};
+ghost use Rattle.file_keeper.specs.RowFiles.{IsCut, IsLoaded, IsRow, IsRowLine, ReadsRow};
 ghost use Rattle.file_keeper.specs.steps.RowTexts.{ReadsText, TakesEntry};
 
 use edit_entries::Entry;
@@ -48,7 +48,7 @@ fn entry_in(read: Result<Row, RowFault>) -> Result<Entry, KeepFault>
 /// The entry of a text.
 fn entry_of(alloc: Global, text: &[u8]) -> Result<Entry, KeepFault>
     ensures read { ReadsText text.now result }
-    ensures every { (entry : EntryData) → IsRowOf text.now entry → IsLoaded entry result }
+    ensures every { (entry : EntryData) → IsRowLine text.now entry → IsLoaded entry result }
 {
     entry_in(read_row(alloc, text))
 }

@@ -4,14 +4,14 @@ use Rattle.edit_entries.specs.Entries.{EntryData}
 use Rattle.edit_json.specs.Rows.{RowData, RowIsInRange}
 use Rattle.edit_json.specs.declared.row.RowFault.{RowFault}
 use Rattle.edit_json.specs.declared.row.RowFault.TheVariants as rows
-use Rattle.file_keeper.specs.RowFiles.{IsRowOf}
+use Rattle.file_keeper.specs.RowFiles.{IsRowLine}
 use Rattle.keeper_core.specs.declared.keeper.KeepFault.{KeepFault}
 use Rattle.keeper_core.specs.declared.keeper.KeepFault.TheVariants as fault
 
 -- what a reader of a text answers
 abbrev pub ReadsText : List ℕ → Result EntryData KeepFault → Type 0
-ReadsText text (Ok entry) = IsRowOf text entry
-ReadsText text (Err fault.Failed) = (entry : EntryData) → ¬ (IsRowOf text entry)
+ReadsText text (Ok entry) = IsRowLine text entry
+ReadsText text (Err fault.Failed) = (entry : EntryData) → ¬ (IsRowLine text entry)
 ReadsText text (Err fault.NoMemory) = ⊤
 
 -- the entry of the row that was read, or the same fault
