@@ -23,6 +23,7 @@ import os
 import pathlib
 import signal
 import sys
+import threading
 
 from folder_board import FolderBoard
 from gafd_program import program
@@ -91,7 +92,8 @@ def main():
         view = (server_view if is_server else folder_view)(asked)
     except OSError as error:
         sys.exit(f"gafd_view: 127.0.0.1:{asked.port}: {error.strerror}")
-    signal.signal(signal.SIGTERM, lambda *_: sys.exit(0))
+    # What a handler raises is lost where it comes amid another callback, so this one raises nothing.
+    signal.signal(signal.SIGTERM, lambda *_: threading.Thread(target=view.shutdown).start())
     print(f"http://127.0.0.1:{view.server_port}/", flush=True)
     try:
         view.serve_forever()
