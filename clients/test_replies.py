@@ -97,7 +97,7 @@ class RepliesLaboratory(unittest.TestCase):
 
 
 class NameTest(RepliesLaboratory):
-    LEADING = ("../.bashrc", "../outside.sch", "/tmp/outside.sch", ".bashrc", ".hidden.sch", "..",
+    LEADING = ("../.bashrc", "../outside.sch", "/outside.sch", ".bashrc", ".hidden.sch", "..",
                "a/b.sch", "a\\b.sch", "", "a b.sch", "a\x1bb.sch", "\u202ehcs.a", "x" * 97 + ".sch")
     OTHERS = ("gafrc", "lepton.conf", "Makefile", "x.sym", "a.sch.mine", "--over", "-rf.sch", "notes")
 
