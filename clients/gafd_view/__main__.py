@@ -7,8 +7,8 @@
 
 It prints the address of the page, and serves it on the loopback alone. Of a FOLDER it shows all
 sheets as one board, of FILEs these and the sheets below them; it looks again when a file changes.
-Symbols that do not lie beside the sheets are looked for below the folders that --symbols names, and
-below those of lepton-eda and gEDA.
+Symbols that do not lie beside the sheets are looked for below the folders that --symbols names, then
+in those of GAFD_SYMBOLS, as `gafd` does, and below those of lepton-eda and gEDA.
 
 Of a SERVER, as http://127.0.0.1:8080, it shows what that keeps, and hands edits on. --store names
 the server's store where it can be read here; then the page has the history, and who did what is
@@ -25,6 +25,7 @@ import signal
 import sys
 import threading
 
+from board_files import Library, below
 from folder_board import FolderBoard
 from gafd_program import program
 from history import History
@@ -32,7 +33,7 @@ from past_boards import PastBoards
 from served_board import ServedBoard
 from web import View
 
-LIBRARIES = ["/usr/share/lepton-eda/sym", "/usr/share/gEDA/sym", "/usr/local/share/lepton-eda/sym"]
+SYSTEM = ["/usr/share/lepton-eda/sym", "/usr/share/gEDA/sym", "/usr/local/share/lepton-eda/sym"]
 
 
 def arguments():
@@ -68,7 +69,8 @@ def folder_view(asked):
     run = program()
     if run is None:
         sys.exit("gafd_view: there is no gafd: have it on the PATH, or name it by GAFD")
-    libraries = asked.symbols + [it for it in LIBRARIES if pathlib.Path(it).is_dir()]
+    named = filter(None, os.environ.get("GAFD_SYMBOLS", "").split(":"))
+    libraries = [*map(below, asked.symbols), *map(Library, named), *map(below, SYSTEM)]
     board = FolderBoard(folder, names, libraries, run)
     return View(asked.port, board, is_look=True, hosts=asked.host)
 

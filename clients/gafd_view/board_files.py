@@ -5,6 +5,7 @@ They are brought together as links in a folder of this program's own, in which `
 symbols of libraries are found too, and nothing is written beside the sheets.
 """
 import concurrent.futures
+import os
 import pathlib
 import re
 import shutil
@@ -17,6 +18,22 @@ from sheet_text import read_objects
 NAME = re.compile(r"(?!\.)[A-Za-z0-9_+.-]{1,100}")
 LONGEST = 120
 AT_ONCE = 4
+
+
+class Library(NamedTuple):
+    """A folder of symbols, and what their paths there are like."""
+
+    folder: str
+    pattern: str = "*.sym"
+
+    def paths(self):
+        files = pathlib.Path(self.folder).resolve().glob(self.pattern)
+        return (it for it in files if it.is_file())
+
+
+def below(folder):
+    """The symbols of a folder, and of all folders below it."""
+    return Library(folder, "**/*.sym")
 
 
 class File(NamedTuple):
@@ -37,6 +54,8 @@ class BoardFiles:
         self.folder, self.names, self.run = pathlib.Path(folder).resolve(), names, run
         self.libraries, self.library = libraries, None
         self.room = pathlib.Path(tempfile.mkdtemp(prefix="gafd_view_"))
+        # What the program finds is in the room: folders of symbols lead on from elsewhere.
+        self.environment = {it: os.environ[it] for it in os.environ if it != "GAFD_SYMBOLS"}
         self.files, self.stamps = {}, None
         self.sheets, self.symbols = [], []
 
@@ -92,15 +111,13 @@ class BoardFiles:
         return [value for it in symbol if it.letter == "T" for value in it.values("source")]
 
     def symbol_path(self, basename):
-        """Where the file of a symbol lies: beside the sheets, else below the first library that has
-        it."""
+        """Where the file of a symbol lies: beside the sheets, else in the first library that has it."""
         if not NAME.fullmatch(basename) or basename.startswith("EMBEDDED"):
             return None
         if (self.folder / basename).is_file():
             return self.folder / basename
         if self.library is None:
-            paths = [it for one in reversed(self.libraries)
-                     for it in pathlib.Path(one).rglob("*.sym")]
+            paths = [it for one in reversed(self.libraries) for it in one.paths()]
             self.library = {it.name: it for it in paths}
         return self.library.get(basename)
 
@@ -129,8 +146,8 @@ class BoardFiles:
     def call(self, *words):
         """The status of a call of `gafd`, what it printed, and the line on what went wrong."""
         try:
-            done = subprocess.run([self.run, *words], cwd=self.room, capture_output=True,
-                                  timeout=LONGEST)
+            done = subprocess.run([self.run, *words], cwd=self.room, env=self.environment,
+                                  capture_output=True, timeout=LONGEST)
         except (OSError, subprocess.TimeoutExpired) as error:
             return 71, "", f"gafd: {error}"
         refusal = done.stderr.decode(errors="replace").strip()

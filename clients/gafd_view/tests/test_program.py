@@ -11,6 +11,7 @@ import sys
 import threading
 import time
 import unittest
+from unittest import mock
 
 from boards import EXAMPLES, LONGEST, Case, FolderCase, ask, served
 from sheet_text import count_objects, read_objects
@@ -315,6 +316,30 @@ class Folders(FolderCase):
         self.assertIn("MissingSymbol", self.viewed(self.folder).ask("/board/drc")[1])
         view = self.viewed("--symbols", self.folder / "library", self.folder)
         self.assertEqual(view.ask("/board/drc")[1], "findings 0\nerrors 0 warnings 0\n")
+
+    def test_symbols_come_from_the_folders_that_gafd_looks_into(self):
+        elsewhere = self.folder / "elsewhere"
+        for name in ("first", "second", "second/below", "third"):
+            (elsewhere / name).mkdir(parents=True)
+        text = (self.folder / "res.sym").read_text()
+        for name, footprint in (("first", "ACY1"), ("second", "ACY2"), ("third", "ACY3")):
+            (elsewhere / name / "res.sym").write_text(text.replace("ACY400", footprint))
+        (self.folder / "res.sym").rename(elsewhere / "second/below/own.sym")
+        cases = [
+            ({"GAFD_SYMBOLS": f":nowhere:{elsewhere}/first:{elsewhere}/second"}, [], "ACY1"),
+            ({"GAFD_SYMBOLS": os.path.relpath(elsewhere / "second")}, [], "ACY2"),
+            ({"GAFD_SYMBOLS": f"{elsewhere}/first"}, ["--symbols", os.path.relpath(elsewhere / "third")],
+             "ACY3"),
+        ]
+        for variables, words, footprint in cases:
+            with mock.patch.dict(os.environ, variables):
+                view = self.viewed(*words, self.folder)
+            self.assertEqual(view.ask("/board/drc")[1], "findings 0\nerrors 0 warnings 0\n")
+            self.assertIn(f"LEFT/R4\tRESISTOR\t100\t{footprint}\n", view.ask("/board/netlist/list")[1])
+        with (self.folder / "stereo.sch").open("a") as sheet:
+            sheet.write("C 0 0 1 0 0 own.sym\n")
+        with mock.patch.dict(os.environ, {"GAFD_SYMBOLS": f"{elsewhere}/second"}):
+            self.assertIn("own.sym\n", self.viewed(self.folder).ask("/board/drc")[1])
 
     def test_ids_of_findings_are_those_of_the_page(self):
         part = "C 0 0 1 0 0 EMBEDDEDx\n[\nP 0 0 0 100 1 0 0\n]\n"
