@@ -17,6 +17,7 @@ from .server import Server
 from .store import backup, check, history
 from .tables import fill, table
 from .undo import undo
+from .version import version
 from .view import View
 from .words import NAME, Printed, Refused, Stop, told
 
@@ -69,6 +70,7 @@ symbol's name ends in .sym.
 
 `--server URL` names the server, as http://127.0.0.1:8080 or https://lab.example/amp; else
 GAFD_SERVER does, else the folder remembers the last one. A password is taken from ~/.netrc.
+`--version` prints the version.
 `--view URL`, else GAFD_VIEW, else the last one that the folder remembers, is a gafd_view of the
 same board: with it lines tell who changed what, "changed by bob, edit 12" in place of "changed by
 others". An empty URL is none.
@@ -158,12 +160,19 @@ COMMANDS = {
 }
 
 
+class Version(argparse.Action):
+    def __call__(self, parser, *_):
+        print(f"{parser.prog} {version()}")
+        parser.exit()
+
+
 def arguments():
     parser = argparse.ArgumentParser(
         prog="gafd_sync", description=USAGE, formatter_class=argparse.RawDescriptionHelpFormatter,
         usage="gafd_sync [--server URL] [--session NAME] [--view URL] COMMAND ...", add_help=False,
     )
     parser.add_argument("--help", "-h", action="help", help=argparse.SUPPRESS)
+    parser.add_argument("--version", action=Version, nargs=0, help=argparse.SUPPRESS)
     parser.add_argument("--server", help=argparse.SUPPRESS)
     parser.add_argument("--session", type=a_name, help=argparse.SUPPRESS)
     parser.add_argument("--view", help=argparse.SUPPRESS)

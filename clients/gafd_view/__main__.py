@@ -27,7 +27,7 @@ import threading
 
 from board_files import Library, below
 from folder_board import FolderBoard
-from gafd_program import program
+from gafd_program import program, version
 from history import History
 from past_boards import PastBoards
 from served_board import ServedBoard
@@ -38,6 +38,7 @@ SYSTEM = ["/usr/share/lepton-eda/sym", "/usr/share/gEDA/sym", "/usr/local/share/
 
 def arguments():
     parser = argparse.ArgumentParser(prog="gafd_view", description=__doc__.split("\n")[0])
+    parser.add_argument("--version", action="version", version=f"gafd_view {version()}")
     parser.add_argument("--port", type=int, default=8090, help="of the page; 0 takes a free one")
     parser.add_argument("--symbols", action="append", default=[], metavar="FOLDER",
                         help="where symbols are looked for that do not lie beside the sheets")

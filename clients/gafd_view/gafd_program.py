@@ -17,6 +17,12 @@ def program():
     return next((str(it) for it in paths if it.is_file() and os.access(it, os.X_OK)), None)
 
 
+def version():
+    """The version of the installation, else of the release in the checkout."""
+    told = (TOP / "share/gafd_view/VERSION", TOP / "release/SOURCES")
+    return next(it for it in told if it.is_file()).read_text(encoding="utf-8").split()[1]
+
+
 def free_port():
     """A free port below those that the system gives to clients, which might take it meanwhile."""
     for _ in range(100):
