@@ -213,9 +213,8 @@ def server_of(asked, folder):
     server.session = session or a_session(server.user or login())
     if not NAME.fullmatch(server.session):
         raise Stop(f"{server.session} is no name of a session", 2)
-    if asked.command in ("pull", "push") and not asked.over:
-        names = asked.files or server.names()
-        server.front = max([server.front, *map(folder.front, names)])
+    if asked.command == "push" and not asked.over:
+        server.front = max([server.front, *map(folder.front, asked.files)])
     return server
 
 

@@ -10,6 +10,8 @@ from .words import Stop
 GAFRC = '(component-library ".")\n(source-library ".")\n'
 # What a file of UTF-16 begins with; no text in UTF-8 does.
 UTF_16 = (codecs.BOM_UTF16_LE, codecs.BOM_UTF16_BE)
+# Under this name stands with which front all of a server was pulled.
+WHOLE = "whole"
 LEPTON = "[netlist.hierarchy]\nmangle-net-attribute=false\n"
 
 
@@ -34,6 +36,22 @@ class Folder:
 
     def forget(self, name):
         (self.known / (name + ".from")).unlink(missing_ok=True)
+        self.forget_whole()
+
+    def forget_whole(self):
+        (self.known / WHOLE).unlink(missing_ok=True)
+
+    def keep_whole(self, server, names):
+        """Notes that all that the server has now, under these names, was pulled."""
+        self.keep(WHOLE, {"server": server.url, "front": server.front, "names": sorted(names)})
+
+    def is_whole(self, server):
+        """Whether all that the server has now was pulled, nothing here is known otherwise since, and
+        no file is gone."""
+        last = self.load(WHOLE)
+        if not last or (last["server"], last["front"]) != (server.url, server.front):
+            return False
+        return all(self.has(it) and (self.known / (it + ".from")).exists() for it in last["names"])
 
     def origin(self, name):
         """The objects that a sheet was made from, by id, and the front that was seen; or None."""
@@ -43,7 +61,11 @@ class Folder:
         return found["front"], {int(key): text for key, text in found["objects"].items()}
 
     def set_origin(self, name, front, objects):
-        self.keep(name + ".from", {"front": front, "objects": objects})
+        self.keep_origin(name, {"front": front, "objects": objects})
+
+    def keep_origin(self, name, origin):
+        self.forget_whole()
+        self.keep(name + ".from", origin)
 
     def symbol_origin(self, name):
         """The text that a symbol was made from, or None."""
@@ -51,7 +73,7 @@ class Folder:
         return found["text"] if found else None
 
     def set_symbol_origin(self, name, front, text):
-        self.keep(name + ".from", {"front": front, "text": text})
+        self.keep_origin(name, {"front": front, "text": text})
 
     def front(self, name):
         """The front that was seen with a file; 0 where none was."""

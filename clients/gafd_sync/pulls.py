@@ -16,12 +16,19 @@ def is_symbol(name):
 
 
 def pull(asked, server, folder):
+    if not asked.over:
+        names = asked.files or server.names()
+        if not asked.files and folder.is_whole(server):
+            folder.lepton_files(asked.lepton)
+            return 0
+        server.front = max([server.front, *map(folder.front, names)])
     wanted = [name for name in asked.files if not is_symbol(name)]
     if asked.files:
         stands = {name: server.sheet(name) for name in wanted}
     else:
         stands = server.all_sheets()
-    status, symbols = 0, set(filter(is_symbol, asked.files or folder.pulled(".sym")))
+    front, status = server.front, 0
+    symbols = set(filter(is_symbol, asked.files or folder.pulled(".sym")))
     for name, stand in stands.items():
         if stand is None:
             print(f"{name}: the server has no such sheet")
@@ -31,6 +38,9 @@ def pull(asked, server, folder):
         symbols |= set(server.symbols_of(sheet_of(name, stand.text)))
     for name in sorted(symbols):
         status |= pull_symbol(asked, server, folder, name)
+    # What came meanwhile may be of a sheet that was read before it.
+    if not asked.files and not status and not server.left_out and server.front == front:
+        folder.keep_whole(server, {*stands, *symbols})
     folder.lepton_files(asked.lepton)
     return status
 
