@@ -5,15 +5,19 @@ import getpass
 import os
 import re
 import sys
+import urllib.parse
 from typing import Callable, NamedTuple
 
+from .accepting import accept, withdraw
 from .boards import at
 from .commands import copy, diff, ids, renumber, sheets
 from .folder import Folder
+from .proposals import proposals, propose
 from .pulls import pull
 from .pushes import push
 from .revert import revert
-from .server import Server
+from .reviews import Reviews
+from .server import Server, password
 from .store import backup, check, history
 from .tables import fill, table
 from .undo import undo
@@ -67,6 +71,13 @@ symbol's name ends in .sym.
                         the store is served. It asks no server
   check STORE           whether the rows of a store are whole and without a gap, and whether this
                         user may go on with it. It asks no server
+  propose NAME [FILE...] [-m MESSAGE]
+                        keeps what `push` would send of the files, or of all that were pulled, for
+                        another to look at; nothing is sent
+  proposals             lists the proposals of the board, each open, stale, accepted or withdrawn. A
+                        stale one changes what others changed since
+  accept NAME           sends a proposal as edits of yours, all of them or none
+  withdraw NAME         ends a proposal that is not to be accepted
 
 `--server URL` names the server, as http://127.0.0.1:8080 or https://lab.example/amp; else
 GAFD_SERVER does, else the folder remembers the last one. A password is taken from ~/.netrc.
@@ -74,6 +85,8 @@ GAFD_SERVER does, else the folder remembers the last one. A password is taken fr
 `--view URL`, else GAFD_VIEW, else the last one that the folder remembers, is a gafd_view of the
 same board: with it lines tell who changed what, "changed by bob, edit 12" in place of "changed by
 others". An empty URL is none.
+`--reviews FOLDER`, else GAFD_REVIEWS, else the last one that the folder remembers, is where the
+proposals of the board lie: one for all who look at it.
 `--session NAME`, else GAFD_SESSION, is who you are to the server; else it is your name in ~/.netrc,
 else your login name.
 
@@ -114,6 +127,7 @@ FLAGS = {
     "--lepton": {"action": "store_true"},
     "--all": {"action": "store_true"},
     "--store": {"metavar": "STORE"},
+    "-m": {"dest": "message", "metavar": "MESSAGE", "default": ""},
 }
 WORDS = {
     "FILE": {"dest": "file", "type": a_name},
@@ -121,6 +135,7 @@ WORDS = {
     "[FILE...]": {"dest": "files", "type": a_name, "nargs": "*"},
     "[SHEET]": {"dest": "sheet", "type": a_name, "nargs": "?"},
     "TABLE": {"dest": "table"},
+    "NAME": {"dest": "name", "type": a_name},
     "N": {"dest": "edits", "type": a_number},
     "[N]": {"dest": "count", "type": a_count, "nargs": "?", "default": 1},
     "[ID...]": {"dest": "ids", "type": int, "nargs": "*"},
@@ -133,12 +148,13 @@ WORDS = {
 
 class Command(NamedTuple):
     """What a command calls, its flags, of which those of one text exclude each other, its words,
-    and whether it asks a server."""
+    whether it asks a server, and whether it is about the reviews of a board."""
 
     call: Callable
     flags: list
     words: list
     asks_server: bool = True
+    is_review: bool = False
 
 
 COMMANDS = {
@@ -157,6 +173,10 @@ COMMANDS = {
     "history": Command(history, [], ["STORE", "[ID...]"], False),
     "backup": Command(backup, [], ["STORE", "FOLDER"], False),
     "check": Command(check, [], ["STORE"], False),
+    "propose": Command(propose, ["-m"], ["NAME", "[FILE...]"], is_review=True),
+    "proposals": Command(proposals, [], [], is_review=True),
+    "accept": Command(accept, [], ["NAME"], is_review=True),
+    "withdraw": Command(withdraw, [], ["NAME"], False, is_review=True),
 }
 
 
@@ -169,13 +189,15 @@ class Version(argparse.Action):
 def arguments():
     parser = argparse.ArgumentParser(
         prog="gafd_sync", description=USAGE, formatter_class=argparse.RawDescriptionHelpFormatter,
-        usage="gafd_sync [--server URL] [--session NAME] [--view URL] COMMAND ...", add_help=False,
+        usage="gafd_sync [--server URL] [--session NAME] [--view URL] [--reviews FOLDER] COMMAND ...",
+        add_help=False,
     )
     parser.add_argument("--help", "-h", action="help", help=argparse.SUPPRESS)
     parser.add_argument("--version", action=Version, nargs=0, help=argparse.SUPPRESS)
     parser.add_argument("--server", help=argparse.SUPPRESS)
     parser.add_argument("--session", type=a_name, help=argparse.SUPPRESS)
     parser.add_argument("--view", help=argparse.SUPPRESS)
+    parser.add_argument("--reviews", help=argparse.SUPPRESS)
     commands = parser.add_subparsers(
         dest="command", required=True, metavar="COMMAND", help=argparse.SUPPRESS
     )
@@ -202,20 +224,31 @@ def login():
         return "nobody"
 
 
+def session_of(asked, user):
+    """Who calls, where a password is a user's."""
+    session = asked.session or os.environ.get("GAFD_SESSION") or a_session(user or login())
+    if not NAME.fullmatch(session):
+        raise Stop(f"{session} is no name of a session", 2)
+    return session
+
+
 def server_of(asked, folder):
     """The server that is asked for, which the folder remembers."""
     url = asked.server or os.environ.get("GAFD_SERVER") or folder.load("server")
     if not url:
         raise Stop("which server? --server URL or GAFD_SERVER names it", 2)
-    session = asked.session or os.environ.get("GAFD_SESSION")
-    server = Server(url, session)
+    server = Server(url, None)
     server.view = asked.view
-    server.session = session or a_session(server.user or login())
-    if not NAME.fullmatch(server.session):
-        raise Stop(f"{server.session} is no name of a session", 2)
+    server.session = session_of(asked, server.user)
     if asked.command == "push" and not asked.over:
         server.front = max([server.front, *map(folder.front, asked.files)])
     return server
+
+
+def user_of(folder):
+    """The user whom ~/.netrc has for the server that the folder remembers, or None."""
+    url = folder.load("server")
+    return password(urllib.parse.urlsplit(url))[0] if url else None
 
 
 def view_of(asked, folder):
@@ -223,6 +256,14 @@ def view_of(asked, folder):
     if asked.view is not None:
         return View(asked.view)
     return View(os.environ.get("GAFD_VIEW") or folder.load("view"))
+
+
+def reviews_of(asked, folder):
+    """The reviews that are asked for, which the folder remembers."""
+    place = asked.reviews or os.environ.get("GAFD_REVIEWS") or folder.load("reviews")
+    if not place:
+        raise Stop("which reviews? --reviews FOLDER or GAFD_REVIEWS names them", 2)
+    return Reviews(os.path.abspath(place))
 
 
 def main():
@@ -241,7 +282,12 @@ def status_of(asked):
     try:
         asked.view = view = view_of(asked, folder)
         server = server_of(asked, folder) if command.asks_server else None
+        if command.is_review:
+            asked.reviews = reviews_of(asked, folder)
+            asked.who = server.session if server else session_of(asked, user_of(folder))
         status = command.call(asked, server, folder)
+        if command.is_review:
+            folder.keep("reviews", str(asked.reviews.folder))
         if asked.command in ("pull", "push"):
             folder.keep("server", server.url)
             if view.url or folder.load("view"):

@@ -1,5 +1,6 @@
 """`push`: what was drawn in the folder, as the fewest edits."""
-from typing import NamedTuple, Optional
+from types import MappingProxyType
+from typing import Mapping, NamedTuple, Optional
 
 from .differences import WHOSE, objects_named, show_conflicts, show_symbol_conflict
 from .merge import plan_of, who_changed
@@ -18,12 +19,14 @@ GONE = (
 class Edit(NamedTuple):
     """An edit, what it is about in words, and the texts that it leaves, by id or by the name of a
     symbol: None for an object that it deletes, and the key None for the one that it adds. `back` is
-    the edit that does the contrary, where there is one before the edit itself is sent."""
+    the edit that does the contrary, where there is one before the edit itself is sent, and `was` has
+    the texts of what it changes."""
 
     body: dict
     what: str
     texts: dict
     back: Optional[dict] = None
+    was: Mapping = MappingProxyType({})
 
     def left(self, first_id):
         return {first_id if key is None else key: text for key, text in self.texts.items()}
@@ -35,23 +38,28 @@ def in_parts(keys):
 
 def edits_of(name, plan):
     """The edits of a plan for a sheet. What moved or turned as one goes as one."""
+
+    def texts_of(ids):
+        return {key: plan.known[key] for key in ids}
+
     olds = {key: item_of(plan.known[key]) for key in plan.replaced}
     left, edits = dict(plan.replaced), []
     for motion, keys in motions_of(olds, {key: item_of(text) for key, text in left.items()}):
         for ids in in_parts(keys):
             what = f"{motion.way}: {objects_named(ids, olds)}"
             texts = {key: left.pop(key) for key in ids}
-            edits.append(Edit(motion.edit(ids), what, texts, motion.back(ids)))
+            edits.append(Edit(motion.edit(ids), what, texts, motion.back(ids), texts_of(ids)))
     for key, text in left.items():
         body = {"kind": "replace", "id": key, "text": text}
         back = {**body, "text": plan.known[key]}
-        edits.append(Edit(body, f"{key}, {item_of(text)}", {key: text}, back))
+        edits.append(Edit(body, f"{key}, {item_of(text)}", {key: text}, back, texts_of([key])))
     for text in plan.added:
         body = {"kind": "add_object", "sheet": name, "text": text}
         edits.append(Edit(body, str(item_of(text)), {None: text}))
     for ids in in_parts(plan.deleted):
         what = "; ".join(f"{key}, {item_of(plan.known[key])}" for key in ids)
-        edits.append(Edit({"kind": "delete", "ids": ids}, what, dict.fromkeys(ids)))
+        body = {"kind": "delete", "ids": ids}
+        edits.append(Edit(body, what, dict.fromkeys(ids), None, texts_of(ids)))
     return edits
 
 
@@ -60,12 +68,13 @@ class Push:
 
     def __init__(self, server, folder, files):
         self.server, self.folder, self.files = server, folder, files
-        self.stack, self.is_left = Stack(folder), False
+        self.stack, self.is_left, self.serials = Stack(folder), False, []
 
     def send(self, name, edit, base):
         """Sends an edit, prints it, and answers the first id that is free for it."""
         reply = self.server.send(edit.body, base)
         kind, serial, first_id = edit.body["kind"], reply["serial"], reply["first_id"]
+        self.serials.append(serial)
         print(f"{name}: {serial} {kind} {edit.what}")
         if self.stack.number is None:
             self.stack.begin(self.files)
@@ -158,10 +167,13 @@ class FilePush(Push):
             objects = {key: text for key, text in known.items() if text is not None}
             self.folder.set_origin(name, self.server.front, objects)
         if is_all and plan.is_empty():
-            print(f"{name}: nothing to send")
+            self.nothing(name)
         if is_all and plan.theirs:
             print(f"{name}: others changed {len(plan.theirs)} other objects; `pull` brings them")
         return 0 if is_all else 1
+
+    def nothing(self, name):
+        print(f"{name}: nothing to send")
 
     def symbol(self, name, sheet=None):
         """Adds a symbol that the server does not have, and sends one that was changed here. It is
@@ -181,10 +193,10 @@ class FilePush(Push):
             kind = "add_symbol" if state == "new" else "replace_symbol"
             body = {"kind": kind, "name": name, "text": self.folder.read(name)}
             back = {**body, "text": text} if text else None
-            edit = Edit(body, name, {name: mine} if text else {}, back)
-            self.sent_whole(name, edit, base)
+            left, was = ({name: mine}, {name: text}) if text else ({}, {})
+            self.sent_whole(name, Edit(body, name, left, back, was), base)
         elif is_asked:
-            print(f"{name}: nothing to send")
+            self.nothing(name)
         self.folder.set_symbol_origin(name, self.server.front, mine)
         return 0
 

@@ -63,6 +63,10 @@ class Stack:
         with open(self.path, "a", encoding="utf-8") as file:
             file.write(json.dumps({"push": self.number, **row}) + "\n")
 
+    def drop(self):
+        """Forgets the push that runs, of which nothing stands."""
+        self.set([rows for rows in self.pushes() if rows[0].get("push", 0) != self.number])
+
     def end(self, files):
         """Nothing is left to send of the push that runs, or of the one that it goes on with."""
         if self.number is None and self.goes_on(files):
