@@ -4,6 +4,7 @@ import subprocess
 import sys
 import threading
 
+from gafd_sync.netlists import finding_differences, net_differences
 from gafd_sync.records import Records
 from laboratory import SHEET, WIRE, Laboratory
 from served import TOP
@@ -77,7 +78,8 @@ class ProposeTest(ProposalLaboratory):
         self.assertRegex(self.state("faster"), r"^accepted by bob at \S+Z as edits 9, 10, 11; "
                          r"proposed by ann at \S+Z$")
         end = json.loads((self.reviews / "ends/faster.json").read_text())
-        self.assertEqual((end["who"], end["state"], end["serials"]), ("bob", "accepted", [9, 10, 11]))
+        self.assertEqual((end["who"], end["state"], end["serials"]),
+                         ("bob", "accepted", [9, 10, 11]))
 
     def texts(self):
         return self.asked_server(lambda server: list(server.sheet("preamp.sch").objects.values()))
@@ -202,7 +204,8 @@ class NameTest(ProposalLaboratory):
 
 class StaleTest(ProposalLaboratory):
     def test_what_stands_against_it_is_told_and_nothing_is_sent(self):
-        self.proposes(self.ann, "first", ("value=1k\n", "value=2k\n"), ("value=10k\n", "value=12k\n"))
+        self.proposes(self.ann, "first", ("value=1k\n", "value=2k\n"),
+                      ("value=10k\n", "value=12k\n"))
         self.bob.draws("value=1k\n", "value=3k\n")
         self.bob("push", "preamp.sch")
         self.assertTrue(self.state("first").startswith("stale, by ann"))
@@ -259,7 +262,8 @@ class EndTest(ProposalLaboratory):
 
     def test_a_proposal_ends_once(self):
         self.assertEqual(self.ask(self.ann, "withdraw", "faster"), (0, "faster: withdrawn\n"))
-        self.assertRegex(self.state("faster"), r"^withdrawn by ann at \S+Z; proposed by ann at \S+Z$")
+        self.assertRegex(self.state("faster"),
+                         r"^withdrawn by ann at \S+Z; proposed by ann at \S+Z$")
         for words in (["accept", "faster"], ["withdraw", "faster"]):
             status, said = self.ask(self.bob, *words)
             self.assertEqual((status, "faster was withdrawn by ann at" in said), (1, True), said)
@@ -350,3 +354,97 @@ class EndTest(ProposalLaboratory):
         self.ask(self.bob, "accept", "faster")
         self.assertEqual(self.bob("undo")[0], 0)
         self.assertEqual(sorted(self.board().splitlines()), sorted(SHEET.read_text().splitlines()))
+
+
+class ReviewTest(ProposalLaboratory):
+    def review(self, name, *words):
+        return self.ask(self.bob, "review", name, *(words or ("--store", str(self.server.store))))
+
+    def test_sheets_nets_and_findings_are_told_before_and_after(self):
+        self.proposes(self.ann, "faster", ("value=1k\n", "value=2k\n"),
+                      ("refdes=R4\n", "refdes=R3\n"), ("N 44500 47400 44500 48000 4\n", WIRE))
+        before = {path.name for path in self.server_files()}
+        status, said = self.review("faster")
+        self.assertEqual(status, 0, said)
+        lines = said.splitlines()
+        self.assertRegex(lines[0], r"^faster: open, by ann at \S+Z: 4 edits on preamp.sch$")
+        for line in ("    it is faster",
+                     "preamp.sch: changed by ann: 30, C R3 res.sym", "    +value=2k",
+                     "preamp.sch: added by ann: 46, N 100 100 900 100",
+                     "preamp.sch: deleted by ann: 20, N 44500 47400 44500 48000",
+                     "nets: parts 8 nets 10 before, parts 7 nets 11 after",
+                     "    ~ net GND -R4-1", "    ~ net OUT +R3-2 -R4-2",
+                     "    < net * C1-2 R1-2 U1-3", "    > net * C1-2 U1-3", "    > net * R1-2",
+                     "    > part R3 RESISTOR 2k ACY400",
+                     "check: errors 1 warnings 0 before, errors 4 warnings 0 after",
+                     "    + error DuplicateRefdes R3", "    + error UnconnectedPin R1-2",
+                     "    + error PinOnTwoNets R3-2"):
+            self.assertIn(line, lines)
+        self.assertEqual(self.rows(), self.start)
+        self.assertEqual({path.name for path in self.server_files()}, before)
+
+    def server_files(self):
+        return (self.room / "store").iterdir()
+
+    def test_what_is_told_is_what_comes(self):
+        """The reports of the copy are those of the server behind the acceptance, byte for byte."""
+        self.proposes(self.ann, "faster", ("value=1k\n", "value=2k\n"),
+                      ("N 44500 47400 44500 48000 4\n", WIRE))
+        said = self.review("faster")[1].splitlines()
+        old = {path: self.answer(path) for path in ("/netlist/list", "/drc")}
+        self.ask(self.bob, "accept", "faster")
+        new = {path: self.answer(path) for path in ("/netlist/list", "/drc")}
+        nets = list(net_differences(old["/netlist/list"], new["/netlist/list"]))
+        found = list(finding_differences(old["/drc"], new["/drc"]))
+        self.assertGreater(len(nets), 0)
+        for line in nets + found:
+            self.assertIn("    " + line, said)
+        self.assertEqual(sum(line[4:6] in ("~ ", "< ", "> ", "+ ", "- ") for line in said),
+                         len(nets) + len(found), said)
+
+    def test_what_is_stale_is_told_and_shown_as_it_was_meant(self):
+        self.proposes(self.ann, "faster", ("value=1k\n", "value=2k\n"))
+        self.bob.draws("value=1k\n", "value=3k\n")
+        self.bob("push", "preamp.sch")
+        status, said = self.review("faster")
+        self.assertEqual(status, 1)
+        self.assertEqual([line for line in said.splitlines() if "faster" not in line][:6],
+                         ["    preamp.sch: changed since: 30, C R3 res.sym",
+                          "        -value=1k", "        +value=3k",
+                          "as it was meant, on the board after 9 edits:",
+                          "preamp.sch: changed by ann: 30, C R3 res.sym", "    -value=1k"])
+
+    def test_what_has_ended_is_shown_as_it_was_meant(self):
+        self.proposes(self.ann, "faster", ("value=1k\n", "value=2k\n"))
+        self.ask(self.bob, "accept", "faster")
+        status, said = self.review("faster")
+        self.assertEqual((status, said.startswith("faster: accepted by bob at ")), (1, True), said)
+        self.assertIn("as it was meant, on the board after 9 edits:\n", said)
+
+    def test_symbols_and_new_sheets_are_told(self):
+        for path in (TOP / "examples/timer.sch", *TOP.glob("examples/*.sym")):
+            self.ann.path(path.name).write_bytes(path.read_bytes())
+        self.ann.draws(RES, "footprint=ACY300\n", "res.sym")
+        self.assertEqual(self.ask(self.ann, "propose", "timer", "timer.sch", "res.sym")[0], 0)
+        status, said = self.review("timer")
+        self.assertEqual(status, 0, said)
+        for line in ("timer.sch: added by ann, ",
+                     "res.sym: changed by ann\n    -footprint=ACY400\n",
+                     "ne555.sym: added by ann\n", "    < part R2 RESISTOR 10k ACY400\n"):
+            self.assertIn(line, said)
+
+    def test_what_the_program_refuses_is_told(self):
+        self.proposes(self.ann, "faster", ("value=1k\n", "value=2k\n"))
+        path = self.reviews / "proposals/faster.json"
+        kept = json.loads(path.read_text())
+        wrong = {"kind": "add_sheet", "name": "a.sch", "text": "v 20130925 2\nN 1 1 2 2 4 4\n"}
+        kept["steps"].append({"file": "a.sch", "edit": wrong, "was": {}})
+        path.write_text(json.dumps(kept))
+        status, said = self.review("faster")
+        self.assertEqual(status, 1, said)
+        self.assertIn("    a.sch: add_sheet is refused: BadText: ", said)
+
+    def test_a_board_has_to_be_named(self):
+        self.proposes(self.ann, "faster", ("value=1k\n", "value=2k\n"))
+        status, said = self.ask(self.bob, "review", "faster")
+        self.assertEqual((status, "which board?" in said), (2, True), said)

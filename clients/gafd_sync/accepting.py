@@ -22,15 +22,15 @@ def open_proposal(reviews, name):
 
 
 def own_claim(reviews, name, who):
-    """The claim that a call of one's own has left, or None. One without entries counts for nothing."""
+    """The claim that a call of one's own has left, or None. One without entries is none."""
     try:
         claim = reviews.claims.load(name)
     except Damaged as why:
         raise Stop(f"the claim on {name} is damaged: {why}") from None
     if claim and claim["who"] != who:
         raise Stop(
-            f"{claim['who']} began to accept or withdraw {name} at {claim['time']}: the same call of"
-            f" {claim['who']} goes on with it"
+            f"{claim['who']} began to accept or withdraw {name} at {claim['time']}: that call,"
+            " done again, goes on with it"
         )
     if claim and not claim["entries"]:
         reviews.claims.take_away(name)

@@ -16,6 +16,7 @@ from .proposals import proposals, propose
 from .pulls import pull
 from .pushes import push
 from .revert import revert
+from .reviewing import review
 from .reviews import Reviews
 from .server import Server, password
 from .store import backup, check, history
@@ -76,6 +77,10 @@ symbol's name ends in .sym.
                         another to look at; nothing is sent
   proposals             lists the proposals of the board, each open, stale, accepted or withdrawn. A
                         stale one changes what others changed since
+  review NAME           prints the sheets that a proposal changes, and in what the nets and the check
+                        differ with it: by the gafd_view that --view names, or with --store STORE of
+                        the store or a copy, for which it calls `gafd`. What is stale is shown as it
+                        was meant
   accept NAME           sends a proposal as edits of yours, all of them or none
   withdraw NAME         ends a proposal that is not to be accepted
 
@@ -175,6 +180,7 @@ COMMANDS = {
     "check": Command(check, [], ["STORE"], False),
     "propose": Command(propose, ["-m"], ["NAME", "[FILE...]"], is_review=True),
     "proposals": Command(proposals, [], [], is_review=True),
+    "review": Command(review, ["--store"], ["NAME"], False, is_review=True),
     "accept": Command(accept, [], ["NAME"], is_review=True),
     "withdraw": Command(withdraw, [], ["NAME"], False, is_review=True),
 }
@@ -189,7 +195,8 @@ class Version(argparse.Action):
 def arguments():
     parser = argparse.ArgumentParser(
         prog="gafd_sync", description=USAGE, formatter_class=argparse.RawDescriptionHelpFormatter,
-        usage="gafd_sync [--server URL] [--session NAME] [--view URL] [--reviews FOLDER] COMMAND ...",
+        usage="gafd_sync [--server URL] [--session NAME] [--view URL] [--reviews FOLDER] COMMAND"
+        " ...",
         add_help=False,
     )
     parser.add_argument("--help", "-h", action="help", help=argparse.SUPPRESS)

@@ -88,9 +88,9 @@ def program():
     return found
 
 
-def board_of_store(store, named=""):
-    """The board that a store has, and one symbol more. A server over it is started for it, and
-    ended."""
+@contextlib.contextmanager
+def served(store, session):
+    """A server over a store, as a session sees it. It is started for it, and ended."""
     with contextlib.closing(socket.socket()) as probe:
         probe.bind(("127.0.0.1", 0))
         address = f"127.0.0.1:{probe.getsockname()[1]}"
@@ -101,11 +101,19 @@ def board_of_store(store, named=""):
         said = process.stdout.readline() if ready else b"no answer"
         if said != b"serving\n":
             raise Stop(f"{' '.join(words)}: {said.decode(errors='replace').strip()}")
-        return board_of(Server(address, "reader"), named)
+        server = Server(address, session)
+        with contextlib.closing(server.link):
+            yield server
     finally:
         process.kill()
         process.wait()
         process.stdout.close()
+
+
+def board_of_store(store, named=""):
+    """The board that a store has, and one symbol more."""
+    with served(store, "reader") as server:
+        return board_of(server, named)
 
 
 def board_of(server, named=""):

@@ -1,4 +1,4 @@
-"""`propose`, `proposals`: what somebody would push, kept for another to look at before it counts."""
+"""`propose`, `proposals`: what somebody would push, kept for another to look at first."""
 from .differences import change_lines, lines_between
 from .pushes import FilePush
 from .records import Damaged

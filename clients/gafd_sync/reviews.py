@@ -39,7 +39,8 @@ def are_serials(value):
 def is_edit(value):
     if type(value) is not dict or value.get("kind") not in ADDING + CHANGING:
         return False
-    return has_fields({key: it for key, it in value.items() if key != "kind"}, FIELDS[value["kind"]])
+    fields = {key: it for key, it in value.items() if key != "kind"}
+    return has_fields(fields, FIELDS[value["kind"]])
 
 
 def changed_by(edit):
