@@ -480,7 +480,7 @@ if __name__ == "__main__":
         print("no program is built, so clients/ is not tried")
         sys.exit(0)
     bounded(LONGEST)
-    for name in ("GAFD_SERVER", "GAFD_SESSION", "GAFD_SYMBOLS"):
+    for name in ("GAFD_SERVER", "GAFD_SESSION", "GAFD_SYMBOLS", "GAFD_REVIEWS"):
         os.environ.pop(name, None)
     words = ["discover", "-s", str(TOP / "clients"), *sys.argv[1:]]
     unittest.main(module=None, argv=[sys.argv[0], *words])

@@ -4,7 +4,7 @@ Who ends it has a claim on it first, which has the entries that are sent and the
 that was broken off goes on by the same entries, which a server takes once.
 """
 from .differences import objects_named
-from .proposals import BoardNow, Standing, edit_count, margin, sent_as
+from .proposals import BoardNow, Standing, edit_count, sent_as
 from .pushes import Edit, Push
 from .records import Damaged
 from .reviews import now

@@ -12,12 +12,13 @@ from .accepting import accept, withdraw
 from .boards import at
 from .commands import copy, diff, ids, renumber, sheets
 from .folder import Folder
+from .notes import note, notes, resolve
 from .proposals import proposals, propose
 from .pulls import pull
 from .pushes import push
 from .revert import revert
 from .reviewing import review
-from .reviews import Reviews
+from .reviews import Reviews, a_place
 from .server import Server, password
 from .store import backup, check, history
 from .tables import fill, table
@@ -77,12 +78,15 @@ symbol's name ends in .sym.
                         another to look at; nothing is sent
   proposals             lists the proposals of the board, each open, stale, accepted or withdrawn. A
                         stale one changes what others changed since
-  review NAME           prints the sheets that a proposal changes, and in what the nets and the check
+  review NAME           prints what a proposal changes on sheets, and in what the nets and the check
                         differ with it: by the gafd_view that --view names, or with --store STORE of
                         the store or a copy, for which it calls `gafd`. What is stale is shown as it
                         was meant
   accept NAME           sends a proposal as edits of yours, all of them or none
   withdraw NAME         ends a proposal that is not to be accepted
+  note AT TEXT          keeps a note at a part, a net or a sheet: part:R1, net:GND, sheet:amp.sch
+  notes                 lists the notes that are open, and with --all those that are resolved too
+  resolve NUMBER        ends a note
 
 `--server URL` names the server, as http://127.0.0.1:8080 or https://lab.example/amp; else
 GAFD_SERVER does, else the folder remembers the last one. A password is taken from ~/.netrc.
@@ -91,7 +95,7 @@ GAFD_SERVER does, else the folder remembers the last one. A password is taken fr
 same board: with it lines tell who changed what, "changed by bob, edit 12" in place of "changed by
 others". An empty URL is none.
 `--reviews FOLDER`, else GAFD_REVIEWS, else the last one that the folder remembers, is where the
-proposals of the board lie: one for all who look at it.
+proposals and notes of the board lie: one for all who look at it.
 `--session NAME`, else GAFD_SESSION, is who you are to the server; else it is your name in ~/.netrc,
 else your login name.
 
@@ -109,6 +113,12 @@ they change after it is refused as Stale.
 def a_name(word):
     if not NAME.fullmatch(word):
         raise argparse.ArgumentTypeError(f"{word} is no name of a file without a path")
+    return word
+
+
+def a_place_of_note(word):
+    if not a_place(word):
+        raise argparse.ArgumentTypeError(f"{word} is none of part:R1, net:GND, sheet:amp.sch")
     return word
 
 
@@ -141,6 +151,9 @@ WORDS = {
     "[SHEET]": {"dest": "sheet", "type": a_name, "nargs": "?"},
     "TABLE": {"dest": "table"},
     "NAME": {"dest": "name", "type": a_name},
+    "AT": {"dest": "at", "type": a_place_of_note},
+    "TEXT": {"dest": "text"},
+    "NUMBER": {"dest": "count", "type": a_count},
     "N": {"dest": "edits", "type": a_number},
     "[N]": {"dest": "count", "type": a_count, "nargs": "?", "default": 1},
     "[ID...]": {"dest": "ids", "type": int, "nargs": "*"},
@@ -183,6 +196,9 @@ COMMANDS = {
     "review": Command(review, ["--store"], ["NAME"], False, is_review=True),
     "accept": Command(accept, [], ["NAME"], is_review=True),
     "withdraw": Command(withdraw, [], ["NAME"], False, is_review=True),
+    "note": Command(note, [], ["AT", "TEXT"], False, is_review=True),
+    "notes": Command(notes, ["--all"], [], False, is_review=True),
+    "resolve": Command(resolve, [], ["NUMBER"], False, is_review=True),
 }
 
 

@@ -2,7 +2,7 @@
 from .differences import change_lines, lines_between
 from .pushes import FilePush
 from .records import Damaged
-from .reviews import now
+from .reviews import margin, now
 from .sheets import item_of, sheet_of
 from .words import Stop
 
@@ -71,10 +71,6 @@ def edit_count(steps):
     return f"{len(steps)} edit{'s' if len(steps) > 1 else ''}"
 
 
-def margin(lines):
-    return [f"    {line}" for line in lines]
-
-
 class BoardNow:
     """The board as a server has it, of which each file is read once."""
 
@@ -116,7 +112,7 @@ class Standing:
             self.lines.append(f"{name}: the server has it no more")
         elif text != wanted:
             self.lines.append(f"{name}: was {'changed' if was else 'added'} since")
-            self.lines += margin(lines_between(was or wanted, text))
+            self.lines += [f"    {line}" for line in lines_between(was or wanted, text)]
 
     def new_sheet(self, step):
         name, stand = step["file"], self.board.sheet(step["file"])
@@ -150,7 +146,7 @@ class Standing:
         others = {key: text for key, text in was.items() if stand.objects.get(key) != text}
         for key, text in others.items():
             self.lines.append(f"{step['file']}: changed since: {key}, {item_of(text)}")
-            self.lines += margin(change_lines(text, stand.objects.get(key)))
+            self.lines += [f"    {line}" for line in change_lines(text, stand.objects.get(key))]
         if was and not others:
             self.leave(step, stand.front)
 
@@ -194,7 +190,7 @@ def show_proposal(proposal, state):
         print(f"{name}: {state} by {end['who']} at {end['time']}{sent_as(end)}; proposed {by}")
     else:
         print(f"{name}: {state}, {by}: {edit_count(proposal.steps)} on {', '.join(proposal.files)}")
-    for line in margin(proposal.message.splitlines()):
+    for line in margin(proposal.message):
         print(line)
 
 

@@ -19,8 +19,8 @@ GONE = (
 class Edit(NamedTuple):
     """An edit, what it is about in words, and the texts that it leaves, by id or by the name of a
     symbol: None for an object that it deletes, and the key None for the one that it adds. `back` is
-    the edit that does the contrary, where there is one before the edit itself is sent; `was` has the
-    texts of what it changes."""
+    the edit that does the contrary, where there is one before the edit itself is sent; `was` has
+    the texts of what it changes."""
 
     body: dict
     what: str

@@ -9,7 +9,7 @@ from .boards import served
 from .databases import rows_of
 from .differences import show_change, show_changes, show_lines
 from .netlists import finding_counts, finding_differences, net_counts, net_differences
-from .proposals import BoardNow, Standing, margin, show_proposal
+from .proposals import BoardNow, Standing, show_proposal
 from .rows import Rows, row_name
 from .server import Server
 from .store import data_of
@@ -127,8 +127,8 @@ def review(asked, server, folder):
     state = proposal.end["state"] if proposal.end else "open" if is_legal else "stale"
     show_proposal(proposal, state)
     for outcome in outcomes:
-        for line in margin(outcome.against):
-            print(line)
+        for line in outcome.against:
+            print(f"    {line}")
         if outcome.looks and not outcome.against:
             if not is_legal:
                 print(f"as it was meant, on the board after {outcome.front} edits:")

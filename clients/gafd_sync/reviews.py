@@ -24,6 +24,11 @@ def now():
     return time.strftime("%Y-%m-%dT%H:%M:%SZ", time.gmtime())
 
 
+def margin(text):
+    """The lines of a text of somebody, so that none is taken for a line of this program."""
+    return [f"    {line}" for line in text.splitlines()]
+
+
 def a_time(value):
     return a_text(value) and TIME.fullmatch(value) is not None
 
