@@ -53,6 +53,12 @@ def all_but_name(item):
     return (item.words[6], *(it for it in item.attributes if not it.startswith("refdes=")))
 
 
+def in_common(one, other):
+    """How many attributes two objects have in common, but for their refdes."""
+    shared = set(one.attributes) & set(other.attributes)
+    return sum(not it.startswith("refdes=") for it in shared)
+
+
 def same_place(item):
     """Where it begins; the data of a path has that in its first line."""
     if item.letter == "H":

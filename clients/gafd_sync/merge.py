@@ -12,6 +12,7 @@ from .likeness import (
     cell,
     cells_around,
     distance,
+    in_common,
     is_alike,
     kind,
     same_end,
@@ -93,17 +94,19 @@ class Pairing:
         for alike in (REFDES_AND_PLACE, NAME_AND_REST, PLACE_AND_REST):
             self.by(alike)
         self.by(all_but_name, farthest=NEAR)
-        self.by(same_name)
+        self.by_name()
         for motion in self.turns():
             self.by(motion.text, lambda item: item.text)
         for alike in (same_place, same_end, outline, same_words):
             self.by(alike)
         self.by_nearness()
+        self.by(same_name)
         replaced = {key: item.text for key, (_, item) in sorted(self.pairs.items())}
         return replaced, list(self.olds), [item.text for item in self.news]
 
-    def by(self, mark_old, mark_new=None, farthest=math.inf):
-        """Pairs what has one mark, of several the nearest, where that is not too far."""
+    def by(self, mark_old, mark_new=None, farthest=math.inf, is_same=None):
+        """Pairs what has one mark, of several the nearest, where that is not too far, and is the
+        same by a test."""
         homes = {}
         for key, item in self.olds.items():
             if (mark := mark_old(item)) is not None:
@@ -113,25 +116,48 @@ class Pairing:
             keys = homes.get((mark_new or mark_old)(item), []) if homes else []
             ways = ((distance(self.olds[key], item), key) for key in keys[:MOST_ALIKE])
             far, key = min(ways, default=(math.inf, None))
-            if key is None or far > farthest:
+            if key is None or far > farthest or (is_same and not is_same(self.olds[key], item)):
                 left.append(item)
             else:
                 keys.remove(key)
                 self.pairs[key] = self.olds.pop(key), item
         self.news = left
 
-    def by_nearness(self):
-        """Pairs what is of one kind and near each other, the nearest first."""
+    def by_name(self):
+        """Pairs what has one name. A namesake that lies far is another one where an object that is
+        near, and whose own name is gone, has more attributes in common: that was renamed."""
+        homes, names = self.by_cell(), {same_name(item) for item in self.news}
+
+        def is_same(old, new):
+            if distance(old, new) <= NEAR:
+                return True
+            near = (self.olds[key] for _, key in self.neighbours(homes, new))
+            renamed = (one for one in near if same_name(one) not in names)
+            return all(in_common(one, new) <= in_common(old, new) for one in renamed)
+
+        self.by(same_name, is_same=is_same)
+
+    def by_cell(self):
+        """The ids of what is left, by kind and square of the sheet."""
         homes = {}
         for key, item in self.olds.items():
             if item.place is not None:
                 homes.setdefault((kind(item), cell(item)), []).append(key)
-        found, taken = [], set()
+        return homes
+
+    def neighbours(self, homes, item):
+        """How far what is left of one kind and near an object lies from it, with its id."""
+        keys = (key for near in cells_around(item) for key in homes.get((kind(item), near), ()))
+        ways = ((distance(self.olds[key], item), key) for key in keys if key in self.olds)
+        return ((far, key) for far, key in ways if far <= NEAR)
+
+    def by_nearness(self):
+        """Pairs what is of one kind and near each other, the nearest first."""
+        homes, found, taken = self.by_cell(), [], set()
         for at, item in enumerate(self.news):
-            keys = (key for near in cells_around(item) for key in homes.get((kind(item), near), ()))
-            found += ((distance(self.olds[key], item), key, at) for key in keys)
-        for far, key, at in sorted(found):
-            if far <= NEAR and key in self.olds and at not in taken:
+            found += ((far, key, at) for far, key in self.neighbours(homes, item))
+        for _, key, at in sorted(found):
+            if key in self.olds and at not in taken:
                 taken.add(at)
                 self.pairs[key] = self.olds.pop(key), self.news[at]
         self.news = [item for at, item in enumerate(self.news) if at not in taken]
