@@ -96,7 +96,7 @@ def main():
     parser.add_argument("--only", default="")
     parser.add_argument("program", nargs="?")
     asked = parser.parse_args()
-    program = str(built(asked.program))
+    program, last = str(built(asked.program)), 0
     for shape, count in shapes_of(asked.only, asked.drc):
         files = shape(count)
         found = timed(program, "netlist", files, asked.check)

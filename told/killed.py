@@ -14,7 +14,6 @@ program is for, and is not tried here.
 """
 import argparse
 import json
-import pathlib
 import random
 import signal
 import sys

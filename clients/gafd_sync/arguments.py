@@ -134,7 +134,7 @@ def a_number(word):
     return int(word)
 
 
-FLAGS = {
+FLAGS: dict[str, dict] = {
     "--mine": {"dest": "taken", "action": "store_const", "const": "mine"},
     "--theirs": {"dest": "taken", "action": "store_const", "const": "theirs"},
     "--over": {"action": "store_true"},
@@ -144,7 +144,7 @@ FLAGS = {
     "--store": {"metavar": "STORE"},
     "-m": {"dest": "message", "metavar": "MESSAGE", "default": ""},
 }
-WORDS = {
+WORDS: dict[str, dict] = {
     "FILE": {"dest": "file", "type": a_name},
     "FILE...": {"dest": "files", "type": a_name, "nargs": "+"},
     "[FILE...]": {"dest": "files", "type": a_name, "nargs": "*"},

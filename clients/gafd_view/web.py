@@ -74,8 +74,9 @@ class View(ThreadingHTTPServer):
 
 
 class Handler(BaseHTTPRequestHandler):
-    """One request. `server` is the View."""
+    """One request."""
 
+    server: View
     protocol_version = "HTTP/1.1"
     timeout = IDLE
 

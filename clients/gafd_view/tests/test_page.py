@@ -16,7 +16,7 @@ import sys
 import time
 import unittest
 
-from boards import EXAMPLES, LONGEST, Case, FolderCase, ask, served
+from boards import EXAMPLES, LONGEST, Case, FolderCase, served
 from browsers import By, Keys, Page, missing
 
 WIRES = 5000
