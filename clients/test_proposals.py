@@ -8,6 +8,7 @@ from gafd_sync.netlists import finding_differences, net_differences
 from gafd_sync.records import Records
 from laboratory import SHEET, WIRE, Laboratory
 from served import TOP
+from test_views import ViewLaboratory
 
 RES = "footprint=ACY400\n"
 
@@ -448,3 +449,50 @@ class ReviewTest(ProposalLaboratory):
         self.proposes(self.ann, "faster", ("value=1k\n", "value=2k\n"))
         status, said = self.ask(self.bob, "review", "faster")
         self.assertEqual((status, "which board?" in said), (2, True), said)
+
+
+class ViewTest(ViewLaboratory):
+    """The same by a gafd_view that reads the store."""
+
+    words = ["--reviews", "{room}/reviews"]
+
+    def ask(self, who, *words):
+        return who("--reviews", str(self.room / "reviews"), "--view", self.view, *words)
+
+    def told(self, path):
+        return self.asked_server(lambda server: server.once("GET", path, None), self.view)
+
+    def test_a_page_has_the_board_with_a_proposal(self):
+        self.ann.draws("value=1k\n", "value=2k\n")
+        self.assertEqual(self.ask(self.ann, "propose", "faster", "-m", "it is faster")[0], 0)
+        status, by_page = self.ask(self.bob, "review", "faster")
+        self.assertEqual(status, 0, by_page)
+        by_store = self.ask(self.bob, "review", "faster", "--store", str(self.server.store))[1]
+        self.assertEqual(by_page, by_store)
+        self.assertIn("value=2k\n", self.told("/proposed/faster@9/sheets/preamp.sch").text)
+        self.assertEqual(json.loads(self.told("/proposed/faster").text),
+                         {"now": 9, "against": [], "front": 9})
+        [one] = json.loads(self.told("/reviews").text)["proposals"]
+        self.assertEqual((one["name"], one["state"], one["files"], one["message"], one["edits"]),
+                         ("faster", "open", ["preamp.sch"], "it is faster", 1))
+        self.bob.draws("value=1k\n", "value=3k\n")
+        self.bob("push", "preamp.sch")
+        against = ["preamp.sch: changed since: 30, C R3 res.sym", "    -value=1k", "    +value=3k"]
+        self.assertEqual(json.loads(self.told("/proposed/faster").text),
+                         {"now": 10, "against": against, "front": 9})
+        [one] = json.loads(self.told("/reviews").text)["proposals"]
+        self.assertEqual((one["state"], one["against"]), ("stale", against))
+        status, said = self.ask(self.bob, "review", "faster")
+        self.assertEqual((status, "on the board after 9 edits" in said), (1, True), said)
+        for path in ("/proposed/none", "/proposed/none@9/sheets", "/proposed/faster@99/sheets"):
+            self.assertEqual(self.told(path).status, 502, path)
+        for path in ("/proposed/..%2fx", "/proposed/faster@9/edits", "/proposed/../x@9/sheets"):
+            self.assertEqual(self.told(path).status, 404, path)
+
+    def test_notes_are_told_until_they_are_resolved(self):
+        self.ask(self.bob, "note", "part:R3", "why?")
+        [note] = json.loads(self.told("/reviews").text)["notes"]
+        self.assertEqual((note["number"], note["who"], note["at"], note["text"]),
+                         (1, "bob", "part:R3", "why?"))
+        self.ask(self.ann, "resolve", "1")
+        self.assertEqual(json.loads(self.told("/reviews").text)["notes"], [])

@@ -11,11 +11,14 @@ PATIENCE = 240
 
 
 class ViewLaboratory(Laboratory):
-    """A laboratory whose board is looked at."""
+    """A laboratory whose board is looked at, by a page with these words more."""
+
+    words = []
 
     def setUp(self):
         super().setUp()
         words = [sys.executable, str(TOP / "clients/gafd_view"), "--port", "0"]
+        words += [word.format(room=self.room) for word in self.words]
         words += ["--store", str(self.server.store), self.server.url]
         view = subprocess.Popen(words, stdout=subprocess.PIPE, text=True)
         ENDS.append(view.kill)

@@ -101,7 +101,7 @@ def outcomes_by(view, proposal):
     if found["front"] is None:
         return
     looks = []
-    for path in (f"at/{found['front']}", f"proposed/{proposal.name}"):
+    for path in (f"at/{found['front']}", f"proposed/{proposal.name}@{found['now']}"):
         server = Server(f"{view.url.rstrip('/')}/{path}", "reader")
         with contextlib.closing(server.link):
             looks.append(look_at(server, proposal.files))

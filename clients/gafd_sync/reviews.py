@@ -79,7 +79,7 @@ def is_step(value):
     if edit.get("name", edit.get("sheet", value["file"])) != value["file"]:
         return False
     is_file = edit["kind"] in ("add_sheet", "add_symbol", "replace_symbol")
-    texts = [*was.values(), edit.get("text", was and [*was.values()][0])]
+    texts = [*was.values(), *([edit["text"]] if "text" in edit else [])]
     is_text = is_whole if is_file else is_object
     return was.keys() == changed_by(edit) and all(map(is_text, texts))
 

@@ -4,6 +4,7 @@
   gafd_view [--port N] [--symbols FOLDER]... FOLDER
   gafd_view [--port N] [--symbols FOLDER]... FILE...
   gafd_view [--port N] [--store FOLDER] [--look] [--host NAME]... SERVER
+  gafd_view [--reviews FOLDER] ...
 
 It prints the address of the page, and serves it on the loopback alone. Of a FOLDER it shows all
 sheets as one board, of FILEs these and the sheets below them; it looks again when a file changes.
@@ -14,6 +15,9 @@ Of a SERVER, as http://127.0.0.1:8080, it shows what that keeps, and hands edits
 the server's store where it can be read here; then the page has the history, and who did what is
 told to others too. --look hands on no edits. --host is one more name under which the page is
 called, as behind a proxy.
+
+--reviews names the folder in which `gafd_sync` keeps the proposals and notes of the board; they are
+shown beside it, and a proposal's board beside the board now where the store is named too.
 
 Nobody is asked who they are: let people in by ssh or by nginx. The program is that which GAFD
 names, else `gafd` on the PATH, else that beside this one.
@@ -27,7 +31,7 @@ import threading
 
 from board_files import Library, below
 from folder_board import FolderBoard
-from gafd_program import program, version
+from gafd_program import client, program, version
 from history import History
 from past_boards import PastBoards
 from served_board import ServedBoard
@@ -44,6 +48,8 @@ def arguments():
                         help="where symbols are looked for that do not lie beside the sheets")
     parser.add_argument("--store", metavar="FOLDER",
                         help="the store of the server, for the history")
+    parser.add_argument("--reviews", metavar="FOLDER",
+                        help="the proposals and notes of the board")
     parser.add_argument("--look", action="store_true", help="hands on no edits")
     parser.add_argument("--host", action="append", default=[], metavar="NAME",
                         help="one more name under which the page is called")
@@ -65,6 +71,15 @@ def sheets_of(shown):
     return folders.pop(), [it.name for it in paths]
 
 
+def reviews_of(asked, url=None):
+    """The reviews that are asked for, or None. It is the client that reads them."""
+    if asked.reviews is None:
+        return None
+    sys.path.append(client())
+    from board_reviews import BoardReviews
+    return BoardReviews(asked.reviews, url, asked.store, program())
+
+
 def folder_view(asked):
     folder, names = sheets_of(asked.shown)
     run = program()
@@ -73,7 +88,7 @@ def folder_view(asked):
     named = filter(None, os.environ.get("GAFD_SYMBOLS", "").split(":"))
     libraries = [*map(below, asked.symbols), *map(Library, named), *map(below, SYSTEM)]
     board = FolderBoard(folder, names, libraries, run)
-    return View(asked.port, board, is_look=True, hosts=asked.host)
+    return View(asked.port, board, reviews=reviews_of(asked), is_look=True, hosts=asked.host)
 
 
 def server_view(asked):
@@ -85,7 +100,8 @@ def server_view(asked):
     if asked.store:
         history, past = History(asked.store), PastBoards(asked.store, program())
     board = ServedBoard(asked.shown[0])
-    return View(asked.port, board, history, past, is_look=asked.look, hosts=asked.host)
+    reviews = reviews_of(asked, asked.shown[0])
+    return View(asked.port, board, history, past, reviews, is_look=asked.look, hosts=asked.host)
 
 
 def main():

@@ -23,6 +23,12 @@ def version():
     return next(it for it in told if it.is_file()).read_text(encoding="utf-8").split()[1]
 
 
+def client():
+    """Where Python finds the modules of gafd_sync: in the checkout, or in its one file."""
+    found = [TOP / "clients", TOP / "bin/gafd_sync"]
+    return str(next((it for it in found if it.exists()), found[0]))
+
+
 def free_port():
     """A free port below those that the system gives to clients, which might take it meanwhile."""
     for _ in range(100):

@@ -19,6 +19,8 @@ READING = (r"((?:netlist/(?:list|bom)|drc|sheets(?:/[^/?]+)?|(?:symbols|objects)
            r"(?:\?min=[0-9]{1,10})?)")
 BOARD = re.compile("/board/" + READING)
 PAST = re.compile("/at/([0-9]{1,7})/" + READING)
+PROPOSED = re.compile("/proposed/([A-Za-z0-9_+-][A-Za-z0-9_+.-]{0,99})")
+PROPOSED_BOARD = re.compile(PROPOSED.pattern + "@([0-9]{1,7})/" + READING)
 IDS = re.compile(r"[0-9]{1,10}(?:,[0-9]{1,10}){0,999}")
 MOST_BYTES = 4_194_304
 MOST_READERS = 100
@@ -37,9 +39,10 @@ class View(ThreadingHTTPServer):
     daemon_threads = True
     request_queue_size = 128
 
-    def __init__(self, port, board, history=None, past=None, is_look=False, hosts=()):
+    def __init__(self, port, board, history=None, past=None, reviews=None, is_look=False, hosts=()):
         super().__init__(("127.0.0.1", port), Handler)
         self.board, self.history, self.past, self.is_look = board, history, past, is_look
+        self.reviews = reviews
         here = (f"127.0.0.1:{self.server_port}", f"localhost:{self.server_port}")
         self.hosts = {*here, *hosts}
         self.readers = threading.BoundedSemaphore(MOST_READERS)
@@ -68,7 +71,7 @@ class View(ThreadingHTTPServer):
             return None
 
     def close(self):
-        for one in (self.board, self.past):
+        for one in (self.board, self.past, self.reviews):
             if one:
                 one.close()
 
@@ -87,6 +90,8 @@ class Handler(BaseHTTPRequestHandler):
             return self.board_answer(lambda: self.server.board.ask("GET", route[1]))
         if (route := PAST.fullmatch(self.path)) and self.server.past:
             return self.board_answer(lambda: self.server.past.ask(int(route[1]), route[2]))
+        if self.server.reviews and (ask := self.review(self.path)):
+            return self.board_answer(ask)
         path, _, query = self.path.partition("?")
         asked = {"/about": self.about, "/watch": self.watch, "/changed": self.changed,
                  "/history": self.history, "/who": self.who, "/whose": self.whose}
@@ -120,12 +125,25 @@ class Handler(BaseHTTPRequestHandler):
             answer = fault(502, "NoServer")
         self.answer(answer, "text/plain; charset=utf-8" if answer.status == 200 else JSON)
 
+    def review(self, path):
+        """What answers a GET of proposals and notes: all of them, what stands against a proposal,
+        or the board with it, where the store is there to make one."""
+        reviews, view = self.server.reviews, self.server
+        if path == "/reviews":
+            return lambda: told(reviews.listed(view.front()))
+        if view.past and (route := PROPOSED.fullmatch(path)):
+            return lambda: told(reviews.outcome(route[1], view.front()))
+        if view.past and (route := PROPOSED_BOARD.fullmatch(path)):
+            return lambda: reviews.ask(route[1], int(route[2]), route[3])
+        return None
+
     def about(self, _query):
         """What is looked at, and what can be asked of it."""
         view = self.server
-        told = {"kind": view.board.kind, "name": view.board.name, "edits": not view.is_look,
-                "history": view.history is not None, "past": view.past is not None}
-        self.json(told)
+        about = {"kind": view.board.kind, "name": view.board.name, "edits": not view.is_look,
+                 "history": view.history is not None, "past": view.past is not None,
+                 "reviews": view.reviews is not None}
+        self.json(about)
 
     def history(self, query):
         """The rows from a serial on, a line each."""
@@ -181,8 +199,8 @@ class Handler(BaseHTTPRequestHandler):
     def refuse(self, number):
         self.answer(fault(400, "BadQuery") if number is None else fault(404, "NoHistory"), JSON)
 
-    def json(self, told):
-        self.answer(Answer(200, None, json.dumps(told, ensure_ascii=False).encode()), JSON)
+    def json(self, value):
+        self.answer(told(value), JSON)
 
     def page_file(self, name):
         found = page_files.read(name)
@@ -209,6 +227,11 @@ class Handler(BaseHTTPRequestHandler):
 
     def log_message(self, *_):
         pass
+
+
+def told(value):
+    """An answer that tells something as JSON."""
+    return Answer(200, None, json.dumps(value, ensure_ascii=False).encode())
 
 
 def number_in(query, name):

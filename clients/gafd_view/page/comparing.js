@@ -93,13 +93,14 @@ export function showComparison() {
   return listChanges(comparison, changes);
 }
 
-function row(kind, words, link = "") {
+/** A row of what changed. */
+export function row(kind, words, link = "") {
   const leads = link ? ` data-link="${escapeText(link)}" tabindex="0" role="link"` : "";
   return `<tr class="${kind}"${leads}><td>${kind}</td><td>${escapeText(words)}</td></tr>`;
 }
 
 /** The changes of the net list, each with its sign; a net or a part that is there leads to itself. */
-function netLines({ changed, gone, added }) {
+export function netLines({ changed, gone, added }) {
   const signed = [["~", changed], ["<", gone], [">", added]]
     .flatMap(([sign, lines]) => lines.map((it) => [sign, it]));
   return signed.map(([sign, [kind, name, rest]]) => {

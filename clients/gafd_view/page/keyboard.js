@@ -10,7 +10,7 @@ import { byId, isEditing, shown, shownInstance, shownObjects } from "./state.js"
 import { takeTool, toolClicked, toolStepped } from "./tools.js";
 import { fit, panBy, zoom } from "./viewport.js";
 
-const TABS = ["nets", "findings", "parts", "object", "history"];
+const TABS = ["nets", "findings", "parts", "object", "history", "reviews"];
 const GRID = 100;
 
 const KEYS = {
@@ -78,7 +78,7 @@ function actionOf(event) {
     return () => editing.move(...MOVES[event.key]);
   }
   if (event.ctrlKey) return event.key === "z" && isEditing() ? EDIT_KEYS.z : undefined;
-  if (/^[1-5]$/.test(event.key)) return () => showTab(TABS[event.key - 1]);
+  if (/^[1-6]$/.test(event.key)) return () => showTab(TABS[event.key - 1]);
   return (isEditing() && event.key !== "z" && EDIT_KEYS[event.key]) || KEYS[event.key];
 }
 
@@ -86,7 +86,7 @@ function pressed(event) {
   const { target } = event;
   if (/INPUT|SELECT|TEXTAREA|DIALOG/.test(target.tagName) || event.altKey || event.metaKey
     || !shown.at) return;
-  if (event.key === "Enter" && target.closest("button, [data-link], [data-compare]")) {
+  if (event.key === "Enter" && target.closest("button, [data-link], [data-compare], [data-proposal]")) {
     if (target.tagName !== "BUTTON") target.click();
     return;
   }

@@ -5,6 +5,7 @@ import { attributesAmong, symbolParts } from "./attributes.js";
 import { findingText, linkOf } from "./findings.js";
 import { printed } from "./instances.js";
 import { pinsOf } from "./placing.js";
+import { openReviews, reviewTable } from "./proposals.js";
 import { board, byId, objectOf, shown, shownInstance, shownObjects } from "./state.js";
 import { escapeText, unbroken } from "./texts.js";
 import { editWords, label } from "./words.js";
@@ -146,6 +147,7 @@ const TABS = {
   parts: () => table(board.list.parts, partRow),
   object: objectTable,
   history: historyTable,
+  reviews: reviewTable,
 };
 
 function isTypedIn() {
@@ -170,7 +172,8 @@ export function showList() {
 function showTabs() {
   const { nets, parts } = board.list;
   const findings = board.findings.length + shown.rails.length;
-  const counts = { nets: nets.length, findings, parts: parts.length };
+  const counts = { nets: nets.length, findings, parts: parts.length,
+    reviews: openReviews() };
   const isSearch = byId("search").value.trim() !== "";
   for (const tab of byId("tabs").children) {
     const name = tab.dataset.tab;

@@ -5,6 +5,7 @@ import { followServer } from "./following.js";
 import { fontSizes } from "./font.js";
 import { listenToKeys } from "./keyboard.js";
 import { listenToMouse } from "./mouse.js";
+import { followReviews } from "./proposals.js";
 import { board, byId, shown } from "./state.js";
 import { listenToTools } from "./tools.js";
 import { showBox } from "./viewport.js";
@@ -20,4 +21,5 @@ followServer();
 board.readAbout().then(() => {
   document.body.classList.toggle("looking", !board.about.edits);
   byId("tabs").querySelector('[data-tab="history"]').hidden = board.about.kind === "folder";
+  if (board.about.reviews) followReviews();
 }, () => {});

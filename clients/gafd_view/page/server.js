@@ -26,6 +26,9 @@ export const askBoard = (path) => request(`board/${path}`);
 /** A report of the board as it was after so many edits. */
 export const askPast = (front) => (path) => request(`at/${front}/${path}`);
 
+/** A report of the board with a proposal that was put to it after so many edits. */
+export const askProposed = (name, front) => (path) => request(`proposed/${name}@${front}/${path}`);
+
 /** What a route of gafd_view tells, or null where there is none, as behind a plain web server. */
 export async function askView(path) {
   const { status, text } = await request(path);

@@ -1,0 +1,125 @@
+#!/usr/bin/env python3
+"""Drives proposals and notes on the page of gafd_view in Chromium, over a `gafd serve` of its own,
+which GAFD names; proposals are made and accepted by gafd_sync.
+
+It wants the packages chromium, chromium-driver and python3-selenium, and the repository's examples.
+Where one is missing it says so, and its status is 0; so it is where no program is built. PICTURES
+names a folder into which pictures of the page are put.
+"""
+import os
+import pathlib
+import sys
+import unittest
+
+from boards import LONGEST, Case, served
+from browsers import Page, missing
+from laboratory import asked
+
+
+class ReviewCase(Case):
+    """A board with reviews, and folders of two people."""
+
+    def setUp(self):
+        super().setUp()
+        self.reviews = self.folder / "reviews"
+        self.view = self.viewed("--store", self.store, "--reviews", self.reviews, self.server.url)
+        for name in ("ann", "bob"):
+            (self.folder / name).mkdir()
+            self.client(name, "pull")
+
+    def client(self, name, *words):
+        words = ["--server", self.server.url, "--reviews", str(self.reviews), "--session", name,
+                 *words]
+        status, said = asked(self.folder / name, *words)
+        self.assertEqual(status, 0, said)
+        return said
+
+    def draws(self, name, old, new, sheet="stereo.sch"):
+        path = self.folder / name / sheet
+        text = path.read_text()
+        self.assertEqual(text.count(old), 1)
+        path.write_text(text.replace(old, new))
+
+    def page(self, where=""):
+        page = Page(self.view.url + where)
+        self.addCleanup(page.close)
+        page.until(lambda: page.one('[data-tab="reviews"]').is_displayed())
+        page.tab("reviews")
+        return page
+
+    def looks(self, page, name):
+        page.until(lambda: name in page.text("list"))
+        page.script(f"document.querySelector('[data-proposal=\"{name}\"]').click()")
+        page.until(lambda: page.all("#end-comparison"))
+
+    def pictured(self, page, name):
+        if os.environ.get("PICTURES"):
+            page.driver.save_screenshot(str(pathlib.Path(os.environ["PICTURES"], name + ".png")))
+
+
+class Reviews(ReviewCase):
+    def test_a_proposal_is_looked_at_and_accepted(self):
+        c1, c2 = (self.ann.id_of("stereo.sch", it) for it in ("C1", "C2"))
+        text = (self.folder / "ann/stereo.sch").read_text()
+        [part] = [it.text for it in self.ann.objects("stereo.sch")
+                  if "C2" in it.values("refdes")]
+        self.assertIn(part, text)
+        self.draws("ann", part, "N 44000 42000 45000 42000 4\n")
+        self.draws("ann", "refdes=C1\n", "refdes=C9\n")
+        self.client("ann", "propose", "fewer", "-m", "C2 is not needed\n<b>is it?</b>")
+        page = self.page()
+        page.until(lambda: "fewer" in page.text("list"))
+        self.assertIn("reviews 1", page.text("tabs"))
+        self.assertIn("C2 is not needed\n<b>is it?</b>", page.text("list"))
+        self.pictured(page, "list")
+        front = self.ann.front()
+        self.looks(page, "fewer")
+        kinds = ("is-added", "is-gone", "is-changed")
+        self.assertEqual([len(page.all(f"#past .{it}")) for it in kinds], [1, 1, 1])
+        self.pictured(page, "look")
+        for line in ("fewer open, by ann", "added a wire", "gone C2", "refdes=C9",
+                     "net +12V +C9-2 -C1-2 -C2-2"):
+            self.assertIn(line, page.text("list"))
+        self.assertEqual(self.ann.front(), front)
+        page.keys("\ue00c")
+        page.until(lambda: not page.all("#past *"))
+        self.client("bob", "accept", "fewer")
+        page.until(lambda: "accepted by bob, proposed by ann" in page.text("list"))
+        page.until(lambda: not page.all(f'#drawn [data-id="{c2}"]'))
+        self.assertIn("C9", page.drawn(c1).text)
+        self.assertEqual(page.faults(), [])
+
+    def test_one_that_went_stale_is_shown_as_it_was_meant(self):
+        self.draws("ann", "refdes=C1\n", "refdes=C9\n")
+        self.client("ann", "propose", "other", "-m", "C1 is taken")
+        page = self.page()
+        page.until(lambda: "open by ann" in page.text("list"))
+        c1 = self.ann.id_of("stereo.sch", "C1")
+        self.bob().edit(kind="set_attr", id=c1, name="value", value="1u")
+        page.until(lambda: "stale by ann" in page.text("list"))
+        self.assertIn("stereo.sch: changed since: ", page.text("list"))
+        self.looks(page, "other")
+        self.assertIn("as it was meant, on the board after 12 edits", page.text("list"))
+        self.assertEqual([len(page.all(f"#past .{it}")) for it in ("was", "is-changed", "is-gone")],
+                         [1, 1, 0])
+        self.assertIn("C9", page.one("#past .is-changed").text)
+        self.pictured(page, "stale")
+
+    def test_a_note_leads_to_its_part(self):
+        self.client("bob", "note", "part:C1", "why so small?")
+        self.client("bob", "note", "part:C2", "is it needed?")
+        self.client("ann", "resolve", "2")
+        page = self.page("#channel.sch@LEFT")
+        page.until(lambda: "why so small?" in page.text("list"))
+        self.assertNotIn("needed", page.text("list"))
+        page.follow("part:C1")
+        page.until(lambda: page.text("trail") == "stereo.sch")
+        self.assertEqual(len(page.all("#drawn .chosen")), 1)
+
+
+if __name__ == "__main__":
+    if missing() or served.program() is None:
+        print(f"{missing() or 'the program'} is missing, so proposals are not tried on the page")
+        sys.exit(0)
+    served.bounded(LONGEST)
+    unittest.main()
