@@ -5,3 +5,4 @@ mod Lengths
 pub mod Cutting
 pub mod Once
 mod Nexts
+pub mod MessageSizes

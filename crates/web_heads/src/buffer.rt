@@ -52,6 +52,13 @@ impl Buffer {
         Ok(Buffer { bytes, have: 0 })
     }
 
+    /// Drops all bytes. It takes no memory.
+    pub fn clear(&mut self)
+        ensures { self.new ≡ [] }
+    {
+        self.have = 0;
+    }
+
     /// The bytes.
     pub(crate) fn bytes(&self) -> &[u8]
         ensures bytes { result.now ≡ self.now }

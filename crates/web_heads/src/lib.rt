@@ -17,6 +17,7 @@ mod link;
 mod memory_link;
 mod message;
 mod next;
+mod sizes;
 
 pub use buffer::Buffer;
 pub use cut_end::CutEnd;
@@ -26,3 +27,4 @@ pub use link::{Link, LinkFault, Part};
 pub use memory_link::MemoryLink;
 pub use message::Message;
 pub use next::{Next, next_message};
+pub use sizes::{MessageFront, MessageSize, message_front};
