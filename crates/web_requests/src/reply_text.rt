@@ -40,6 +40,14 @@ impl ReplyText {
         })
     }
 
+    /// Takes all of it away, and lets go what is shared.
+    pub fn clear(&mut self)
+        ensures { self.new ≡ [] }
+    {
+        self.shared = None;
+        self.written.clear();
+    }
+
     /// Its bytes. It takes no memory.
     pub fn as_slice(&self) -> &[u8]
         ensures { result.now ≡ self.now }
