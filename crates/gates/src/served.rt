@@ -1,20 +1,15 @@
-// A TCP connection while a worker serves it.
-ghost use Rattle.std.specs.Prelude.{◌≡◌};
-ghost use Rattle.std.specs.Io.{ReadsAtMost};
-ghost use Rattle.gates.specs.Fates.{GoesBackBetween};
+// A connection while a worker serves it.
+ghost use Rattle.std.specs.Prelude.{◌≡◌, ◌≤◌, length};
+ghost use Rattle.gates.specs.steps.Fates.{GoesBackBetween};
 
-use crate::accepting::now;
-use crate::patience::{Patience, Transfer};
+use crate::poller::now;
 use crate::shared::Shared;
+use crate::stream::Stream;
+use connection_flow::{Connection, Lent, is_to_try_again, is_to_wait};
 use std::io;
-use std::io::{Read, Write};
-use std::net::TcpStream;
 use std::sync::{Arc, Wait};
 use std::time::Clock;
 use web_heads::Part;
-
-/// How often one call waits for the client.
-const MOST_WAITS: u32 = 1_000_000;
 
 /// After so many replies a worker looks whether others wait, to whom it then turns. Where others
 /// waited when it came to this connection it looks sooner.
@@ -28,9 +23,10 @@ const BYTES_OF_ONE: usize = 16 * 1024;
 /// What becomes of a connection when its link is dropped.
 #[derive(Clone, Copy, Debug, PartialEq, Eq)]
 enum Fate {
-    /// It is closed at once: nothing was read, the client has ended it, or it failed.
+    /// It is closed at once: a request was read and not answered, the client has ended it, or it
+    /// failed.
     Close,
-    /// It waits for its next request.
+    /// Its next request is waited for.
     Wait,
     /// It is closed in stages, since all was written.
     End,
@@ -41,11 +37,13 @@ enum Fate {
 pub struct Served<'a, R: Clock + Wait> {
     rt: &'a R,
     shared: Arc<Shared>,
-    stream: TcpStream,
-    fate: Fate,
-    patience: Option<Patience>,
+    place: usize,
+    connection: Connection<Stream>,
+    is_post: bool,
     part: Part,
+    fate: Fate,
     left_of_turn: usize,
+    is_staying: bool,
 }
 
 impl<R: Clock + Wait> Drop for Served<'_, R> {
@@ -53,112 +51,60 @@ impl<R: Clock + Wait> Drop for Served<'_, R> {
         let Served {
             rt,
             shared,
-            stream,
-            fate,
-            patience: _,
+            place,
+            connection,
+            is_post,
             part: _,
+            fate,
             left_of_turn: _,
+            is_staying,
         } = self;
-        match fate {
-            Fate::Close => {}
-            Fate::Wait => shared.put_silent(rt, stream),
-            Fate::End => shared.end(rt, stream),
-        }
+        let handed_back = handed_back(rt, &shared, place, connection, fate, is_staying);
+        shared.take_back(rt, place, is_post, handed_back);
     }
 }
 
-/// Whether a call is to be made again.
-fn is_to_wait(fault: &io::Error) -> bool {
-    matches!(
-        fault.kind(),
-        io::ErrorKind::WouldBlock | io::ErrorKind::Interrupted
-    )
+/// A connection with this fate, as it goes back to those that wait. None where it is closed.
+fn handed_back<R: Clock>(
+    rt: &R,
+    shared: &Shared,
+    place: usize,
+    connection: Connection<Stream>,
+    fate: Fate,
+    is_staying: bool,
+) -> Option<Connection<Stream>> {
+    let mut connection = connection;
+    if fate == Fate::Close {
+        return None;
+    }
+    if is_staying {
+        connection.socket().leave(shared.registry(), place).ok()?;
+        connection.is_told(false);
+    }
+    connection.is_served(fate == Fate::End, now(rt));
+    Some(connection)
 }
 
 impl<'a, R: Clock + Wait> Served<'a, R> {
-    /// A connection that a worker begins to serve, while so many others wait for one.
-    pub fn new(rt: &'a R, shared: Arc<Shared>, stream: TcpStream, others: usize) -> Served<'a, R> {
+    /// A connection that a worker begins to serve.
+    pub fn new(rt: &'a R, shared: Arc<Shared>, lent: Lent<Stream>) -> Served<'a, R> {
+        let Lent {
+            place,
+            connection,
+            is_post,
+            others,
+        } = lent;
         Served {
             rt,
             shared,
-            stream,
-            fate: Fate::Close,
-            patience: None,
+            place,
+            connection,
+            is_post,
             part: Part::Head,
+            fate: Fate::Close,
             left_of_turn: if others > 0 { SHORT_TURN } else { LONG_TURN },
+            is_staying: false,
         }
-    }
-
-    // Whether it is to make way for others.
-    fn has_had_its_turn(&mut self) -> bool {
-        if self.left_of_turn > 0 {
-            return false;
-        }
-        self.left_of_turn = LONG_TURN;
-        self.shared.others(self.rt) > 0
-    }
-
-    // Whether the client has taken too long.
-    fn is_over(&mut self, transfer: Transfer) -> bool
-        ensures fate { self.new.fate ≡ self.old.fate }
-    {
-        let now = now(self.rt);
-        match self.patience {
-            None => {
-                self.patience = Some(Patience::new(now));
-                false
-            }
-            Some(patience) => patience.is_over(transfer, self.shared.others(self.rt), now),
-        }
-    }
-
-    // So many bytes moved of what is waited for.
-    fn has_moved(&mut self, count: usize)
-        ensures fate { self.new.fate ≡ self.old.fate }
-    {
-        if let Some(patience) = &mut self.patience {
-            patience.moved(count, now(self.rt));
-        }
-    }
-
-    // Reads where no byte of a request was read yet. Where none has come, the connection waits.
-    fn read_first(&mut self, room: &mut [u8]) -> io::Result<usize>
-        ensures { ReadsAtMost result room.new }
-    {
-        if self.has_had_its_turn() {
-            self.fate = Fate::Wait;
-            return Ok(0);
-        }
-        match self.stream.read(room) {
-            Ok(count) => {
-                self.part = Part::Head;
-                self.patience = None;
-                Ok(count)
-            }
-            Err(fault) if is_to_wait(&fault) => {
-                self.fate = Fate::Wait;
-                Ok(0)
-            }
-            Err(fault) => Err(fault),
-        }
-    }
-
-    // Reads on within a request.
-    fn read_on(&mut self, room: &mut [u8], transfer: Transfer) -> io::Result<usize>
-        ensures count { ReadsAtMost result room.new }
-        ensures fate { self.new.fate ≡ self.old.fate }
-    {
-        for _ in 0..MOST_WAITS {
-            match self.stream.read(room) {
-                Err(fault) if is_to_wait(&fault) && !self.is_over(transfer) => {}
-                Err(fault) => return Err(fault),
-                Ok(count) => {
-                    self.has_moved(count);
-                    return Ok(count);
-                }
-            }
-        }
-        Err(io::Error::from(io::ErrorKind::TimedOut))
     }
 
     /// The next reads are for this part of a message.
@@ -169,65 +115,81 @@ impl<'a, R: Clock + Wait> Served<'a, R> {
         self.part = part;
     }
 
-    // Reads as it is fit for the part that was told last.
-    fn read_part(&mut self, room: &mut [u8]) -> io::Result<usize>
-        ensures count { ReadsAtMost result room.new }
+    // Whether others wait for a worker.
+    fn has_others(&self) -> bool {
+        self.shared.others(self.rt) > 0
+    }
+
+    // Whether it is to make way for others.
+    fn has_had_its_turn(&mut self) -> bool {
+        if self.left_of_turn > 0 {
+            return false;
+        }
+        self.left_of_turn = LONG_TURN;
+        self.has_others()
+    }
+
+    // Whether the worker stays with its client, which it does only while nobody waits for one.
+    fn stays(&mut self) -> bool {
+        if !self.connection.is_silent() {
+            return false;
+        }
+        if !self.is_staying && !self.has_others() {
+            self.is_staying = self
+                .connection
+                .socket()
+                .stay(self.shared.registry())
+                .is_ok();
+        }
+        self.is_staying
+    }
+
+    // What becomes of the connection behind a request that was answered: it waits, or is closed.
+    // None where the next request is whole, and is served at once, which is so for readers alone.
+    fn go_on(&mut self, room: &mut [u8]) -> Option<Fate> {
+        self.connection.is_answered();
+        if self.is_post || self.has_had_its_turn() {
+            return Some(Fate::Wait);
+        }
+        if self.stays() {
+            match self.connection.read_on(room) {
+                Ok(0) => return Some(Fate::Close),
+                Ok(_) => {}
+                Err(fault) if is_to_wait(&fault) || is_to_try_again(&fault) => {}
+                Err(_) => return Some(Fate::Close),
+            }
+        }
+        if !self.connection.has_next() {
+            return Some(Fate::Wait);
+        }
+        self.connection.begin();
+        None
+    }
+
+    /// Takes bytes of requests that are whole. 0 comes behind the last request that this link has:
+    /// the client has ended it, or the connection goes back to those that wait, which is so between
+    /// two requests alone. Where nobody else waits for a worker it waits a few milliseconds for the
+    /// next request.
+    pub fn read(&mut self, room: &mut [u8]) -> usize
+        ensures count { result ≤ length room.old }
         ensures goes_back { GoesBackBetween self.old.part self.old.fate self.new.fate }
     {
-        match self.part {
-            Part::Message => self.read_first(room),
-            Part::Head => self.read_on(room, Transfer::Head),
-            Part::Body => self.read_on(room, Transfer::Body),
-        }
-    }
-
-    // Writes all bytes of a piece.
-    fn write_whole(&mut self, piece: &[u8]) -> io::Result<()> {
-        let mut rest = piece;
-        for _ in 0..MOST_WAITS {
-            if rest.is_empty() {
-                return Ok(());
-            }
-            match self.stream.write(rest) {
-                Ok(count) => {
-                    rest = &rest[count..];
-                    self.has_moved(count);
-                }
-                Err(fault) if is_to_wait(&fault) => {}
-                Err(fault) => return Err(fault),
-            }
-            if !rest.is_empty() && self.is_over(Transfer::Body) {
-                break;
+        if self.part == Part::Message && self.fate == Fate::End {
+            if let Some(fate) = self.go_on(room) {
+                self.fate = fate;
+                return 0;
             }
         }
-        Err(io::Error::from(io::ErrorKind::TimedOut))
+        self.fate = Fate::Close;
+        self.connection.take(room)
     }
 
-    /// Takes bytes that have come, or waits for some. 0 comes at the end of the input, and also
-    /// where the connection goes back to those that wait, which is so between two requests alone.
-    pub fn read(&mut self, room: &mut [u8]) -> io::Result<usize>
-        ensures count { ReadsAtMost result room.new }
-        ensures goes_back { GoesBackBetween self.old.part self.old.fate self.new.fate }
-    {
-        let read = self.read_part(room);
-        let goes_on = match &read {
-            Ok(count) => *count > 0 || self.fate == Fate::Wait,
-            Err(_) => false,
-        };
-        if !goes_on {
-            self.fate = Fate::Close;
-        }
-        read
-    }
-
-    /// Writes a reply.
+    /// Writes a reply: what does not go out at once is sent beside.
     pub fn write(&mut self, piece: &[u8]) -> io::Result<()> {
         let cost = piece.len() / BYTES_OF_ONE;
         self.left_of_turn = self.left_of_turn.saturating_sub(1).saturating_sub(cost);
-        self.patience = None;
         self.fate = Fate::Close;
-        self.write_whole(piece)?;
-        self.patience = None;
+        self.connection.send(piece)?;
         self.fate = Fate::End;
         Ok(())
     }

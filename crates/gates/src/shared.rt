@@ -1,73 +1,114 @@
-// What the workers of a TCP gate share.
-use crate::accepting::{Acceptor, now};
-use crate::waiting::{Waiting, WaitingSet};
+// What the workers of a gate share.
+use crate::listener::Listener;
+use crate::poller::{Poller, WAKER, now};
+use crate::stream::Stream;
+use connection_flow::{Connection, Connections, Lent};
+use mio::{Registry, Waker};
 use std::alloc::Global;
 use std::io;
-use std::net::{Net, Shutdown, TcpListener, TcpStream};
+use std::net::Net;
 use std::sync::{Mutex, Wait, WaitMethods};
 use std::time::{Clock, Duration};
 
-/// How long the worker that looks for connections waits at once.
+/// How long the worker that waits for what the system tells waits at once.
 const LONGEST_WAIT_SECONDS: u64 = 1;
 
-/// A listener, the connections that were taken from it, and those that wait for their client. The
-/// one lock is held by the worker that looks for connections, so that it is free while all work.
+/// A listener, and its connections. The lock of the poller is held by the worker that waits for
+/// what the system tells, and the lock of the connections for as long as it takes to go on with
+/// one: no call under it waits.
 #[derive(Drop)]
 pub struct Shared {
-    waiting: WaitingSet,
-    acceptor: Mutex<Acceptor>,
+    connections: Mutex<Connections<Stream>>,
+    poller: Mutex<Poller>,
+    registry: Registry,
+    waker: Waker,
 }
 
 impl Shared {
     /// A listener from which nothing was taken yet.
-    pub fn new<R: Net>(rt: &R, alloc: Global, listener: TcpListener) -> io::Result<Shared> {
-        let acceptor = Acceptor::new(rt, alloc, listener)?;
-        let waiting = WaitingSet::new(alloc, acceptor.poll())?;
+    pub fn new<R: Net>(rt: &R, alloc: Global, listener: Listener) -> io::Result<Shared> {
+        let poller = Poller::new(rt, alloc, listener)?;
+        let registry = poller.registry().try_clone()?;
+        let waker = Waker::new(&registry, WAKER)?;
         Ok(Shared {
-            waiting,
-            acceptor: Mutex::new(acceptor),
+            connections: Mutex::new(Connections::new(alloc)?),
+            poller: Mutex::new(poller),
+            registry,
+            waker,
         })
     }
 
-    /// Waits for a connection that can be served at once, and tells how many others there are.
-    /// `None` after 1,000 failures in a row.
-    pub fn next<R: Clock + Wait>(&self, rt: &R) -> Option<(TcpStream, usize)> {
-        let mut acceptor = self.acceptor.lock(rt);
-        for _ in rt.forever() {
-            if let Some(stream) = acceptor.take_ready() {
-                return Some((stream, acceptor.ready_count()));
+    /// What sockets are made known to.
+    pub fn registry(&self) -> &Registry {
+        &self.registry
+    }
+
+    // Sees to what the system tells, where it was not asked for a while and nobody else does.
+    fn look<R: Clock + Wait>(&self, rt: &R) {
+        if let Some(mut poller) = self.poller.try_lock() {
+            if poller.is_due(now(rt)) {
+                poller.wait(rt, &self.connections, Duration::ZERO);
             }
-            if acceptor.has_failed() {
+        }
+    }
+
+    // The next request that is whole.
+    fn lend<R: Wait>(&self, rt: &R) -> Option<Lent<Stream>> {
+        self.connections.lock(rt).lend()
+    }
+
+    // Waits for a request that is whole, as one of those that rest.
+    fn rest<R: Clock + Wait>(&self, rt: &R) -> Option<Lent<Stream>> {
+        let mut poller = self.poller.lock(rt);
+        for _ in rt.forever() {
+            if let Some(lent) = self.lend(rt) {
+                return Some(lent);
+            }
+            if poller.has_failed() {
                 return None;
             }
-            acceptor.wait(rt, &self.waiting, Duration::from_secs(LONGEST_WAIT_SECONDS));
+            poller.wait(
+                rt,
+                &self.connections,
+                Duration::from_secs(LONGEST_WAIT_SECONDS),
+            );
         }
         None
     }
 
-    /// How many connections could be served at once, if there were a worker.
-    pub fn others<R: Clock + Wait>(&self, rt: &R) -> usize {
-        match self.acceptor.try_lock() {
-            Some(mut acceptor) => {
-                acceptor.wait(rt, &self.waiting, Duration::ZERO);
-                acceptor.ready_count()
-            }
-            // A worker looks for connections, so none waits for one.
-            None => 0,
+    /// Waits for a connection whose next request is whole. `None` after 1,000 failures in a row.
+    pub fn next<R: Clock + Wait>(&self, rt: &R) -> Option<Lent<Stream>> {
+        self.look(rt);
+        if let Some(lent) = self.lend(rt) {
+            return Some(lent);
         }
+        self.connections.lock(rt).rests(true);
+        let found = self.rest(rt);
+        self.connections.lock(rt).rests(false);
+        found
     }
 
-    /// Takes back a connection whose next request has not come.
-    pub fn put_silent<R: Clock + Wait>(&self, rt: &R, stream: TcpStream) {
-        self.waiting.add(rt, Waiting::silent(stream, now(rt)));
+    /// How many requests could be served at once, if there were a worker.
+    pub fn others<R: Clock + Wait>(&self, rt: &R) -> usize {
+        self.look(rt);
+        self.connections.lock(rt).ready_count()
     }
 
-    /// Closes a connection to which all was written, in stages: what the client still sends is
-    /// dropped until it has seen the end, since a connection that is closed over bytes that were
-    /// not read is reset, which may take along what was written.
-    pub fn end<R: Clock + Wait>(&self, rt: &R, stream: TcpStream) {
-        if stream.shutdown(Shutdown::Write).is_ok() {
-            self.waiting.add(rt, Waiting::ended(stream, now(rt)));
+    /// A worker is done with a connection, and hands it back if it is to go on. Where more requests
+    /// wait than the one that this worker takes next, another one is woken.
+    pub fn take_back<R: Clock + Wait>(
+        &self,
+        rt: &R,
+        place: usize,
+        is_post: bool,
+        connection: Option<Connection<Stream>>,
+    ) {
+        let now = now(rt);
+        let mut connections = self.connections.lock(rt);
+        connections.take_back(place, is_post, connection, now);
+        if connections.wants_one_more() {
+            // Without it they wait for the next event, or a second.
+            let _woken = self.waker.wake();
         }
     }
 }

@@ -1,21 +1,25 @@
-// A TCP listener.
+// A listener of sockets.
 use crate::gate::{Gate, GateFault};
+use crate::listener::Listener;
 use crate::shared::Shared;
 use crate::tcp_link::TcpLink;
+use std::fs::Files;
 use std::io;
 use std::net::{Net, TcpListener, TcpStream};
 use std::sync::{Arc, Wait};
 use std::time::Clock;
 
-/// A TCP listener, which waits for clients.
+/// A listener of TCP or of the Unix domain, which waits for clients.
 ///
-/// A connection is given out when the head of a request is there, or the end of its input, and is
-/// taken back between two requests where the client is silent or others wait for a worker: it may
-/// be several links, one after the other.
+/// A connection is given out when a request is whole, head and body, or can be none, and is taken
+/// back when that was answered: it is several links, one after the other. Requests are gathered
+/// beside, and what does not go out at once of a reply is sent beside. Where room or memory is
+/// wanted, the connection that has waited the longest since it came or had its last reply is
+/// closed. At most six links of requests that may be edits are out at once.
 #[derive(Drop)]
 pub struct TcpGate<
     'a,
-    R: Net<Listener = TcpListener, Stream = TcpStream> + Clock + Wait + AllocGlobal,
+    R: Net<Listener = TcpListener, Stream = TcpStream> + Files + Clock + Wait + AllocGlobal,
 > {
     rt: &'a R,
     shared: Option<Arc<Shared>>,
@@ -23,19 +27,19 @@ pub struct TcpGate<
 }
 
 /// Listens at an address.
-fn listen<R: Net<Listener = TcpListener, Stream = TcpStream> + AllocGlobal>(
+fn listen<R: Net<Listener = TcpListener, Stream = TcpStream> + Files + AllocGlobal>(
     rt: &R,
     address: &str,
 ) -> io::Result<Arc<Shared>> {
-    let listener = TcpListener::bind(rt, address)?;
+    let listener = Listener::bind(rt, address)?;
     let shared = Shared::new(rt, rt.alloc(), listener)?;
     Ok(Arc::new(rt.alloc(), shared)?)
 }
 
-impl<'a, R: Net<Listener = TcpListener, Stream = TcpStream> + Clock + Wait + AllocGlobal> TcpGate<
+impl<
     'a,
-    R,
-> {
+    R: Net<Listener = TcpListener, Stream = TcpStream> + Files + Clock + Wait + AllocGlobal,
+> TcpGate<'a, R> {
     ghost use Rattle.std.specs.Prelude.{◌≡◌};
 
     /// A listener that is not bound yet.
@@ -52,13 +56,14 @@ impl<'a, R: Net<Listener = TcpListener, Stream = TcpStream> + Clock + Wait + All
 
 impl<
     'a,
-    R: Net<Listener = TcpListener, Stream = TcpStream> + Clock + Wait + AllocGlobal + Sync,
+    R: Net<Listener = TcpListener, Stream = TcpStream> + Files + Clock + Wait + AllocGlobal + Sync,
 > Gate for TcpGate<'a, R> {
     type Link = TcpLink<'a, R>;
 
     ghost faults = { λ g. g.faults };
 
-    /// Listens at this address: an IP address or the name of a host, `:` and a port.
+    /// Listens at this address: an IP address or the name of a host, `:` and a port; or `unix:` and
+    /// a path.
     fn bind(&mut self, address: &str) -> Result<(), GateFault> {
         match listen(self.rt, address) {
             Ok(shared) => {
@@ -76,8 +81,8 @@ impl<
     /// the next one is waited for. `None` after 1,000 such failures in a row, and before a bind.
     fn next(&self) -> Option<TcpLink<'a, R>> {
         let shared = self.shared.as_ref()?;
-        let (stream, others) = shared.next(self.rt)?;
-        let shared = Arc::try_clone(shared).ok()?;
-        Some(TcpLink::new(self.rt, shared, stream, others))
+        let shared_too = Arc::try_clone(shared).ok()?;
+        let lent = shared.next(self.rt)?;
+        Some(TcpLink::new(self.rt, shared_too, lent))
     }
 }

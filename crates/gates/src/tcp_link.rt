@@ -1,17 +1,16 @@
-// A TCP connection. It tells no contents.
+// Requests of a client. It tells no contents.
 ghost use Rattle.std.specs.Prelude.{None};
 
 use crate::served::Served;
 use crate::shared::Shared;
-use std::net::TcpStream;
+use crate::stream::Stream;
+use connection_flow::Lent;
 use std::sync::{Arc, Wait};
 use std::time::Clock;
 use web_heads::{Link, LinkFault, Part};
 
-/// A TCP connection for as long as a worker serves it. What is written goes out at once. It ends
-/// where the client is silent between two requests, so that no worker waits for it. Within a
-/// request or a reply a client that takes too long is given up: a head has 20 seconds, a body or a
-/// reply 60 seconds and one for each 64 KiB, and less while others wait for a worker.
+/// Requests of a client that are whole, for as long as a worker answers them: its input ends behind
+/// the last of them. A connection is one such link after the other.
 #[derive(Drop)]
 pub struct TcpLink<'a, R: Clock + Wait> {
     served: Served<'a, R>,
@@ -22,18 +21,13 @@ pub struct TcpLink<'a, R: Clock + Wait> {
 impl<'a, R: Clock + Wait> TcpLink<'a, R> {
     ghost use Rattle.std.specs.Prelude.{◌≡◌};
 
-    /// The link of a connection that a worker begins to serve, while so many others wait for one.
-    pub(crate) fn new(
-        rt: &'a R,
-        shared: Arc<Shared>,
-        stream: TcpStream,
-        others: usize,
-    ) -> TcpLink<'a, R>
+    /// The link of a connection that a worker begins to serve.
+    pub(crate) fn new(rt: &'a R, shared: Arc<Shared>, lent: Lent<Stream>) -> TcpLink<'a, R>
         ensures read_faults { result.read_faults ≡ 0 }
         ensures write_faults { result.write_faults ≡ 0 }
     {
         TcpLink {
-            served: Served::new(rt, shared, stream, others),
+            served: Served::new(rt, shared, lent),
             read_faults: 0,
             write_faults: 0,
         }
@@ -53,15 +47,9 @@ impl<R: Clock + Wait> Link for TcpLink<'_, R> {
         self.served.begin(part);
     }
 
-    /// 0 comes also where the connection is taken back, which is so between two requests alone.
+    /// It never fails.
     fn read(&mut self, room: &mut [u8]) -> Result<usize, LinkFault> {
-        match self.served.read(room) {
-            Ok(count) => Ok(count),
-            Err(_) => {
-                self.read_faults = self.read_faults.saturating_add(1);
-                Err(LinkFault::Failed)
-            }
-        }
+        Ok(self.served.read(room))
     }
 
     fn write(&mut self, piece: &[u8]) -> Result<(), LinkFault> {

@@ -1,5 +1,5 @@
 // A connection of a hall.
-ghost use Rattle.std.specs.Prelude.{◌≡◌};
+ghost use Rattle.std.specs.Prelude.{◌≡◌, ◌≢◌};
 ghost use Rattle.geda_defs.specs.Causes.{HasRisen};
 ghost use Rattle.edit_rules.specs.Verdicts.{Legal};
 ghost use Rattle.hall_server.specs.Completeness.{CompletesConnection};
@@ -8,7 +8,7 @@ ghost use Rattle.hall_server.specs.Stands.{stand_of};
 
 use crate::kept_reports::KeptReports;
 use crate::link_end::LinkEnd;
-use crate::messages::serve_requests;
+use crate::messages::{LinkMemory, serve_requests_with};
 use crate::seat_service::SeatService;
 use hall_core::{Hall, HallName, Seat, ShowsBoard};
 use keeper_core::Keeper;
@@ -49,11 +49,24 @@ pub fn serve_link<W: Wait, K: Keeper, B: HallName, S: ShowsBoard<B>, R: Wait + D
         (L.write_faults link.old) (L.write_faults link.new)
         (L.input link.old) (L.output link.old) (L.output link.new) result }
 {
-    serve_link_with(rt, alloc, hall, seat, &KeptReports::new(), link)
+    // The call shows the proof that what was seen is legal.
+    let _history = seat.front();
+    let Ok(mut memory) = LinkMemory::new(alloc) else {
+        return LinkEnd::NoMemory;
+    };
+    serve_link_with(
+        rt,
+        alloc,
+        hall,
+        seat,
+        &KeptReports::new(),
+        &mut memory,
+        link,
+    )
 }
 
 /// Answers the requests of a link as `serve_link` does, with the texts of reports that all workers
-/// share.
+/// share, and in memory that there is.
 pub(crate) fn serve_link_with<
     W: Wait,
     K: Keeper,
@@ -67,6 +80,7 @@ pub(crate) fn serve_link_with<
     hall: &Hall<K, B, S, R>,
     seat: &mut Seat<B, S>,
     reports: &KeptReports<B>,
+    memory: &mut LinkMemory,
     link: &mut L,
 ) -> LinkEnd
     // what was answered, and how it ended
@@ -78,7 +92,7 @@ pub(crate) fn serve_link_with<
         HasRisen (L.read_faults link.old) (L.read_faults link.new) }
     ensures write_cause { result ≡ LinkEnd.WriteFault →
         HasRisen (L.write_faults link.old) (L.write_faults link.new) }
-    ensures no_memory { result ≡ LinkEnd.NoMemory → seat.new.seen ≡ seat.old.seen }
+    ensures no_memory { result ≢ LinkEnd.NoMemory }
     // all was answered where nothing failed
     ensures complete { CompletesConnection (stand_of seat.old) (stand_of seat.new)
         (L.read_faults link.old) (L.read_faults link.new)
@@ -93,5 +107,5 @@ pub(crate) fn serve_link_with<
         seat,
         reports,
     };
-    serve_requests(alloc, &mut service, link)
+    serve_requests_with(alloc, &mut service, memory, link)
 }

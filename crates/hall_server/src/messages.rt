@@ -10,7 +10,7 @@ ghost use Rattle.hall_server.specs.steps.Responding.{EndWrites};
 use crate::link_end::LinkEnd;
 use crate::respond::{piece, respond};
 use crate::service::Service;
-use std::alloc::Global;
+use std::alloc::{AllocError, Global};
 use web_heads::{Buffer, CutEnd, Link, Message, Next, next_message};
 use web_requests::{ReplyText, Routes};
 
@@ -122,6 +122,69 @@ fn serve_messages<S: Service, L: Link>(
     LinkEnd::Spent
 }
 
+/// Memory that links are served in, one after the other.
+#[derive(Drop)]
+pub(crate) struct LinkMemory {
+    routes: Routes,
+    buffer: Buffer,
+    message: Message,
+    text: ReplyText,
+}
+
+impl LinkMemory {
+    /// Memory for one link at a time.
+    pub fn new(alloc: Global) -> Result<LinkMemory, AllocError> {
+        Ok(LinkMemory {
+            routes: Routes::new(alloc)?,
+            buffer: Buffer::new(alloc)?,
+            message: Message::new(alloc)?,
+            text: ReplyText::new(alloc)?,
+        })
+    }
+}
+
+/// Answers the messages of a link as `serve_requests` does, in memory that there is.
+pub(crate) fn serve_requests_with<S: Service, L: Link>(
+    alloc: Global,
+    service: &mut S,
+    memory: &mut LinkMemory,
+    link: &mut L,
+) -> LinkEnd
+    // what was answered, and how it ended
+    ensures serves { Serves
+        (stand (S.seen service.old) (S.losses service.old) (S.refusals service.old))
+        (stand (S.seen service.new) (S.losses service.new) (S.refusals service.new))
+        (L.input link.old) (L.input link.new) (L.output link.old) (L.output link.new) result }
+    // the causes of the ends that are none of the input
+    ensures read_cause { result ≡ LinkEnd.ReadFault →
+        HasRisen (L.read_faults link.old) (L.read_faults link.new) }
+    ensures write_cause { result ≡ LinkEnd.WriteFault →
+        HasRisen (L.write_faults link.old) (L.write_faults link.new) }
+    ensures no_memory { result ≢ LinkEnd.NoMemory }
+    // what was lent to the service is what was served
+    ensures same_reference { S.reference service.new ≡ S.reference service.old }
+    // all was answered where nothing failed
+    ensures complete { CompletesConnection
+        (stand (S.seen service.old) (S.losses service.old) (S.refusals service.old))
+        (stand (S.seen service.new) (S.losses service.new) (S.refusals service.new))
+        (L.read_faults link.old) (L.read_faults link.new)
+        (L.write_faults link.old) (L.write_faults link.new)
+        (L.input link.old) (L.output link.old) (L.output link.new) result }
+{
+    memory.buffer.clear();
+    let end = serve_messages(
+        alloc,
+        service,
+        link,
+        &memory.routes,
+        &mut memory.buffer,
+        &mut memory.message,
+        &mut memory.text,
+    );
+    memory.text.clear();
+    end
+}
+
 /// Answers the messages of a link in order until it ends, at most 10,000 (docs/RULES.md,
 /// "Transcripts" and "Ends of connections"). It waits for the link.
 ///
@@ -150,25 +213,8 @@ pub fn serve_requests<S: Service, L: Link>(alloc: Global, service: &mut S, link:
         (L.write_faults link.old) (L.write_faults link.new)
         (L.input link.old) (L.output link.old) (L.output link.new) result }
 {
-    let Ok(mut buffer) = Buffer::new(alloc) else {
+    let Ok(mut memory) = LinkMemory::new(alloc) else {
         return LinkEnd::NoMemory;
     };
-    let Ok(mut message) = Message::new(alloc) else {
-        return LinkEnd::NoMemory;
-    };
-    let Ok(mut text) = ReplyText::new(alloc) else {
-        return LinkEnd::NoMemory;
-    };
-    let Ok(routes) = Routes::new(alloc) else {
-        return LinkEnd::NoMemory;
-    };
-    serve_messages(
-        alloc,
-        service,
-        link,
-        &routes,
-        &mut buffer,
-        &mut message,
-        &mut text,
-    )
+    serve_requests_with(alloc, service, &mut memory, link)
 }

@@ -3,6 +3,7 @@ ghost use Rattle.std.specs.Prelude.{◌≡◌, IfOk, length};
 
 use crate::connection::serve_link_with;
 use crate::kept_reports::KeptReports;
+use crate::messages::LinkMemory;
 use gates::Gate;
 use hall_core::{BoardHall, BoardSeat, Hall, HallName, Seat, ShowsBoard};
 use keeper_core::Keeper;
@@ -42,12 +43,15 @@ impl<W: Wait, K: Keeper, B: HallName, S: ShowsBoard<B>, R: Wait + Drop, G: Gate>
     for LinkWork<'_, W, K, B, S, R, G> {
     fn work_with(&self, with: Seat<B, S>) -> Seat<B, S> {
         let mut seat = with;
+        let Ok(mut memory) = LinkMemory::new(self.alloc) else {
+            return seat;
+        };
         for _ in 0..u64::MAX {
             let Some(mut link) = self.gate.next() else {
                 break;
             };
-            let (hall, reports) = (self.hall, self.reports);
-            let _end = serve_link_with(self.rt, self.alloc, hall, &mut seat, reports, &mut link);
+            let (rt, alloc, hall, reports) = (self.rt, self.alloc, self.hall, self.reports);
+            let _end = serve_link_with(rt, alloc, hall, &mut seat, reports, &mut memory, &mut link);
         }
         seat
     }
@@ -60,7 +64,7 @@ impl<W: Wait, K: Keeper, B: HallName, S: ShowsBoard<B>, R: Wait + Drop, G: Gate>
 ///
 /// It waits for the gate, for links, and for the hall's lock; a net list or a check waits while
 /// another worker makes one of its kind. Where no thread can be made, one worker begins when
-/// another has ended.
+/// another has ended; where there is no memory for the links of one, it ends at once.
 pub fn serve_all<
     W: Threads + Wait + Sync,
     K: Keeper + Send,

@@ -1,12 +1,12 @@
-// Taking the connections that come. One worker at a time looks for them, for all.
-use crate::waiting::WaitingSet;
+// Waiting for what the system tells. One worker at a time does so, for all.
+use crate::listener::Listener;
+use crate::stream::Stream;
+use connection_flow::{Connection, Connections, is_to_wait};
 use mio::unix::SourceFd;
-use mio::{Events, Interest, Poll, Token};
+use mio::{Events, Interest, Poll, Registry, Token};
 use std::alloc::Global;
-use std::collections::VecDeque;
-use std::net::{Net, TcpListener, TcpStream};
-use std::os::fd::AsRawFd;
-use std::sync::Wait;
+use std::net::Net;
+use std::sync::{Mutex, Wait};
 use std::time::{Clock, Duration};
 use std::{io, thread};
 
@@ -24,30 +24,33 @@ const LONGEST_PAUSE_SECONDS: u64 = 1;
 /// How often connections whose time is up are looked for.
 const SWEEP_MILLISECONDS: u64 = 500;
 
+/// How often the system is asked at most while requests wait for a worker.
+const ASK_MILLISECONDS: u64 = 1;
+
 /// How many events, and how many new connections, are taken at once.
-const MOST_EVENTS: usize = 64;
+const MOST_EVENTS: usize = 256;
 
 const MOST_ACCEPTED: u32 = 64;
 
-/// How many bytes are looked at at once.
-const ROOM: usize = 64 * 1024;
-
-/// The listener's name among the events. The others are places of the connections that wait.
+/// The listener's name among the events. The others are places of connections.
 const LISTENER: Token = Token(usize::MAX);
 
-/// A listener, and the connections that a worker can serve at once.
+/// The name of what ends a wait.
+pub const WAKER: Token = Token(usize::MAX - 1);
+
+/// A listener, and what the system tells of.
 #[derive(Drop)]
-pub struct Acceptor {
+pub struct Poller {
+    alloc: Global,
     poll: Poll,
+    registry: Registry,
     events: Events,
-    listener: TcpListener,
-    room: Vec<u8>,
-    ready: VecDeque<TcpStream>,
-    takes_newest: bool,
+    listener: Listener,
     is_called: bool,
     failures: u32,
     retry_at: Duration,
     sweep_at: Duration,
+    asked_at: Duration,
 }
 
 /// The time on a clock that never goes back.
@@ -66,54 +69,40 @@ fn pause_after(failures: u32) -> Duration {
     doubled.min(Duration::from_secs(LONGEST_PAUSE_SECONDS))
 }
 
-impl Acceptor {
+impl Poller {
     /// A listener from which nothing was taken yet, with memory for all that it needs.
-    pub fn new<R: Net>(rt: &R, alloc: Global, listener: TcpListener) -> io::Result<Acceptor> {
+    pub fn new<R: Net>(rt: &R, alloc: Global, listener: Listener) -> io::Result<Poller> {
         let poll = Poll::new(rt)?;
-        listener.set_nonblocking(true)?;
-        let descriptor = listener.as_raw_fd();
-        poll.registry()
-            .register(&mut SourceFd(&descriptor), LISTENER, Interest::READABLE)?;
-        let mut room = Vec::new(alloc);
-        room.resize(ROOM, 0)?;
-        Ok(Acceptor {
+        let descriptor = listener.descriptor();
+        let registry = poll.registry().try_clone()?;
+        registry.register(&mut SourceFd(&descriptor), LISTENER, Interest::READABLE)?;
+        Ok(Poller {
+            alloc,
             poll,
+            registry,
             events: Events::with_capacity(alloc, MOST_EVENTS)?,
             listener,
-            room,
-            ready: VecDeque::with_capacity(alloc, MOST_EVENTS)?,
-            takes_newest: false,
             is_called: false,
             failures: 0,
             retry_at: Duration::ZERO,
             sweep_at: Duration::ZERO,
+            asked_at: Duration::ZERO,
         })
     }
 
-    /// The poll.
-    pub fn poll(&self) -> &Poll {
-        &self.poll
-    }
-
-    /// The next connection that can be served at once: in turn the one that has waited the longest
-    /// and the newest. So one more client has its reply soon beside many slow ones, and those that
-    /// wait all come to their turn.
-    pub fn take_ready(&mut self) -> Option<TcpStream> {
-        self.takes_newest = !self.takes_newest;
-        if self.takes_newest {
-            return self.ready.pop_back();
-        }
-        self.ready.pop_front()
-    }
-
-    /// How many can be served at once.
-    pub fn ready_count(&self) -> usize {
-        self.ready.len()
+    /// What sockets are made known to.
+    pub fn registry(&self) -> &Registry {
+        &self.registry
     }
 
     /// Whether so many failures came in a row that no further connection comes.
     pub fn has_failed(&self) -> bool {
         self.failures >= MOST_FAILURES
+    }
+
+    /// Whether the system was not asked for a while.
+    pub fn is_due(&self, now: Duration) -> bool {
+        now.saturating_sub(self.asked_at) >= Duration::from_millis(ASK_MILLISECONDS)
     }
 
     // An accept failed: the next one comes later.
@@ -122,39 +111,48 @@ impl Acceptor {
         self.failures = self.failures.saturating_add(1);
     }
 
+    // Puts a new connection at a place. The system tells of it from then on.
+    fn begin(&self, connections: &mut Connections<Stream>, stream: Stream, now: Duration) {
+        let Some(index) = connections.place_for_one() else {
+            return;
+        };
+        match stream.register(&self.registry, index) {
+            Ok(()) => connections.begin(index, Connection::new(self.alloc, stream, now), now),
+            Err(_) => connections.give_back(index),
+        }
+    }
+
     // Takes the connections that have come to the listener.
-    fn accept_all<R: Wait>(&mut self, rt: &R, waiting: &WaitingSet, now: Duration) {
+    fn accept_all(&mut self, connections: &mut Connections<Stream>, now: Duration) {
         for _ in 0..MOST_ACCEPTED {
             match self.listener.accept() {
-                Ok((stream, _)) => {
+                Ok(stream) => {
                     self.failures = 0;
-                    waiting.begin(rt, stream, now);
+                    self.begin(connections, stream, now);
                 }
-                Err(fault) if fault.kind() == io::ErrorKind::WouldBlock => {
+                Err(fault) if is_to_wait(&fault) => {
                     self.is_called = false;
                     return;
                 }
                 Err(_) => {
                     self.put_off(now);
                     // A descriptor that is given back may be what it wants.
-                    waiting.close_longest_silent(rt);
+                    connections.close_longest_waiting();
                     return;
                 }
             }
         }
     }
 
-    // Sees to the connections of which the poll told.
-    fn see_to_events<R: Wait>(&mut self, rt: &R, waiting: &WaitingSet, now: Duration) {
+    // Sees to the connections of which the system told.
+    fn see_to_events(&mut self, connections: &mut Connections<Stream>, now: Duration) {
         for event in self.events.iter() {
-            if event.token() == LISTENER {
+            let token = event.token();
+            if token == LISTENER {
                 self.is_called = true;
-                continue;
-            }
-            let stream = waiting.go_on(rt, event, now, self.room.as_mut_slice());
-            if let Some(stream) = stream {
-                // Without memory the connection is closed.
-                let _kept = self.ready.push_back(stream);
+            } else if token != WAKER {
+                let Token(index) = token;
+                connections.is_told(index, event.is_read_closed(), now);
             }
         }
     }
@@ -168,18 +166,25 @@ impl Acceptor {
     }
 
     /// Waits so long at most until something happens, and sees to all that did.
-    pub fn wait<R: Clock + Wait>(&mut self, rt: &R, waiting: &WaitingSet, longest: Duration) {
+    pub fn wait<R: Clock + Wait>(
+        &mut self,
+        rt: &R,
+        connections: &Mutex<Connections<Stream>>,
+        longest: Duration,
+    ) {
         let timeout = self.longest_wait(longest, now(rt));
         if self.poll.poll(&mut self.events, Some(timeout)).is_err() {
             thread::sleep(rt, Duration::from_millis(SHORTEST_PAUSE_MILLISECONDS));
         }
         let now = now(rt);
-        self.see_to_events(rt, waiting, now);
+        self.asked_at = now;
+        let mut connections = connections.lock(rt);
+        self.see_to_events(&mut connections, now);
         if self.is_called && self.retry_at <= now {
-            self.accept_all(rt, waiting, now);
+            self.accept_all(&mut connections, now);
         }
         if self.sweep_at <= now {
-            waiting.close_late(rt, now);
+            connections.close_late(now);
             self.sweep_at = now.saturating_add(Duration::from_millis(SWEEP_MILLISECONDS));
         }
     }
