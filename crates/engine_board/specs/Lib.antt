@@ -1,0 +1,4 @@
+pub mod Holding
+pub mod Holds
+pub mod Openings
+pub mod steps
