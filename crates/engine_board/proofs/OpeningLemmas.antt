@@ -1,5 +1,5 @@
 -- A board that is taken, and one that is lost.
-use Rattle.std.proofs.Common.{◌≡◌, ◌∙◌, ◌+◌, ◌<◌, ◌≤◌, ◌++◌, ◌∷◌, ◌⊎◌, [], inl, inr, ℕ, List, Bool, true, false, Option, None, Some, Ok, Err, refl, sym, ap, subst, arith, length, take, slice_get, if◌then◌else◌}
+use Rattle.std.proofs.Common.{◌≡◌, ◌∙◌, ◌+◌, ◌<◌, ◌≤◌, ◌∷◌, ◌⊎◌, [], inl, inr, ℕ, List, Bool, true, false, Option, None, Some, Ok, Err, refl, sym, subst, arith, length, take, slice_get, if◌then◌else◌}
 use Rattle.std.specs.Prelude.{Result}
 use Rattle.std.proofs.lemmas.Bool.{cases_lt}
 use Rattle.engine_core.specs.Calls.{Asks, Elapses, TellsPut, TellsTaking, TellsOwner, take_txn}

@@ -1,5 +1,5 @@
 -- What the calls of an owner do to what it holds (own).
-use Rattle.std.specs.Prelude.{◌≡◌, ◌++◌, ◌∷◌, [], ℕ, ◌+◌, Bool, true, false, List, Option, Result, Ok, Err, IfOk, slice_get, take}
+use Rattle.std.specs.Prelude.{◌≡◌, ◌++◌, ◌∷◌, [], ℕ, ◌+◌, true, false, List, Option, Result, Ok, Err, IfOk, slice_get, take}
 use Rattle.engine_core.specs.Worlds.{World}
 use Rattle.engine_core.specs.declared.engine.EngineFault.{EngineFault}
 use Rattle.engine_board.specs.Holding.{IsHolding}
@@ -30,6 +30,8 @@ EndsPut old new body w v (Ok u) = AddsRow old new body w v
 EndsPut old new body w v (Err e) = KeepsRows old new w v
 
 -- a row that is vouched for, or none
-pub record ShowsRow (hold : Hold) (serial : ℕ) (result : Result (Option (List ℕ)) EngineFault) (w v : World) : Type 0 where
+pub record ShowsRow
+    (hold : Hold) (serial : ℕ) (result : Result (Option (List ℕ)) EngineFault) (w v : World) :
+    Type 0 where
   pub keeps : KeepsRows hold hold w v
   pub row : IfOk result (λ row. row ≡ slice_get (take hold.count w.rows) serial)

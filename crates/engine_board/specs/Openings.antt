@@ -1,5 +1,5 @@
 -- How a board is taken (own).
-use Rattle.std.specs.Prelude.{◌≡◌, ◌≤◌, Bool, false, Option, Some, None, Result, Ok, Err, length, take}
+use Rattle.std.specs.Prelude.{◌≡◌, ◌≤◌, false, Option, Some, None, Result, Ok, Err, length, take}
 use Rattle.engine_core.specs.Calls.{Elapses}
 use Rattle.engine_core.specs.Worlds.{World}
 use Rattle.engine_core.specs.declared.engine.EngineFault.{EngineFault}

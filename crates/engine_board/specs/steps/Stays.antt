@@ -4,8 +4,8 @@ use Rattle.std.specs.List.{AllByRecursion}
 use Rattle.engine_core.specs.Worlds.{World}
 use Rattle.engine_board.specs.Holding.{IsHolding}
 
--- the owner holds the board still, the rows that it vouches for are the same, and what it lost stays
--- lost
+-- the owner holds the board still, the rows that it vouches for are the same, and what it lost
+-- stays lost
 pub record Stays (under : ℕ) (doubt : Bool) (count : ℕ) (w v : World) : Type 0 where
   pub holding : IsHolding under doubt count v
   pub same : take count v.rows ≡ take count w.rows

@@ -1,5 +1,5 @@
 -- How a board is taken, in two calls.
-use Rattle.std.specs.Prelude.{◌≡◌, ◌≤◌, ℕ, Bool, false, Option, Some, None, Result, Ok, Err, length, take}
+use Rattle.std.specs.Prelude.{◌≡◌, ◌≤◌, ℕ, false, Option, Some, None, Result, Ok, Err, length, take}
 use Rattle.engine_core.specs.Calls.{Elapses}
 use Rattle.engine_core.specs.Worlds.{World}
 use Rattle.engine_core.specs.declared.engine.EngineFault.{EngineFault}
