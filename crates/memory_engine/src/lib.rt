@@ -1,4 +1,4 @@
-//! A store of rows in memory, in which others step, and calls go without an answer, as it is planned.
+//! A store of rows in memory, in which others step as it is planned, and calls go without an answer.
 //!
 //! The main type is `MemoryEngine`, an `Engine` of engine_core that tells its world, so what that
 //! trait promises can be kept. A `Turn` says what happens at a call. Rule: docs/RULES.md, "Boards

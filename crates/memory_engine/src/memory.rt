@@ -38,8 +38,8 @@ impl Model for MemoryEngine {
 }
 
 impl MemoryEngine {
-    /// A store over a board, with the turns of its calls, of which the last is the first. It takes no
-    /// memory.
+    /// A store over a board, with the turns of its calls, of which the last is the first. It takes
+    /// no memory.
     pub fn new(alloc: Global, board: MemoryWorld, turns: Vec<Turn>) -> MemoryEngine
         ensures { result ≡ board }
     {
