@@ -18,6 +18,11 @@ def named(y, net):
     return f"N 100 {y} 900 {y} 4\n{{\nT 200 {y} 5 10 1 1 0 0 1\nnetname={net}\n}}\n"
 
 
+def small(text):
+    """A part with a footprint."""
+    return text.replace("\n}\n", "\nT 0 0 5 10 0 1 0 0 1\nfootprint=0603\n}\n")
+
+
 class QuarrelLaboratory(Laboratory):
     def start(self, *texts):
         """A sheet of these objects is on the server, and both have it."""
@@ -39,6 +44,17 @@ class QuarrelLaboratory(Laboratory):
 
 
 class PairTest(QuarrelLaboratory):
+    def test_a_renamed_part_is_not_its_deleted_namesake_that_lay_far_away(self):
+        self.start(small(part(500, "R1")), part(29500, "R9", "100n"))
+        status, kinds, said = self.pushes(self.ann, small(part(600, "R9", "4k7")))
+        self.assertEqual((status, sorted(kinds)), (0, ["delete", "replace"]))
+        self.assertIn("replace 0, C R9 res.sym", said)
+
+    def test_a_part_that_went_far_and_was_changed_keeps_its_name(self):
+        self.start(small(part(500, "R1")), small(part(29500, "R9", "100n")))
+        _, _, said = self.pushes(self.ann, small(part(600, "R9", "4k7")))
+        self.assertIn("replace 1, C R9 res.sym", said)
+
     def test_what_has_nothing_in_common_went_and_came(self):
         gone = ["add_object", "delete"]
         cases = [
