@@ -4,6 +4,7 @@
   gafd_view [--port N] [--symbols FOLDER]... FOLDER
   gafd_view [--port N] [--symbols FOLDER]... FILE...
   gafd_view [--port N] [--store FOLDER] [--look] [--host NAME]... SERVER
+  gafd_view --pdf FILE [--symbols FOLDER]... SERVER|FOLDER|FILE...
   gafd_view [--reviews FOLDER] ...
 
 It prints the address of the page, and serves it on the loopback alone. Of a FOLDER it shows all
@@ -18,6 +19,9 @@ called, as behind a proxy.
 
 --reviews names the folder in which `gafd_sync` keeps the proposals and notes of the board; they are
 shown beside it, and a proposal's board beside the board now where the store is named too.
+
+--pdf writes all sheets of any of these into FILE, a page each, and serves nothing. It wants Chromium
+or Firefox.
 
 Nobody is asked who they are: let people in by ssh or by nginx. The program is that which GAFD
 names, else `gafd` on the PATH, else that beside this one.
@@ -34,6 +38,7 @@ from folder_board import FolderBoard
 from gafd_program import client, program, version
 from history import History
 from past_boards import PastBoards
+from printing import NoPdf, pdf_of
 from served_board import ServedBoard
 from web import View
 
@@ -53,6 +58,7 @@ def arguments():
     parser.add_argument("--look", action="store_true", help="hands on no edits")
     parser.add_argument("--host", action="append", default=[], metavar="NAME",
                         help="one more name under which the page is called")
+    parser.add_argument("--pdf", metavar="FILE", help="writes all sheets into it, and ends")
     parser.add_argument("shown", nargs="+", metavar="SERVER|FOLDER|FILE")
     return parser.parse_args()
 
@@ -104,13 +110,37 @@ def server_view(asked):
     return View(asked.port, board, history, past, reviews, is_look=asked.look, hosts=asked.host)
 
 
+def write_pdf(view, path):
+    """Writes the sheets of a board as a PDF."""
+    thread = threading.Thread(target=view.serve_forever)
+    thread.start()
+    try:
+        data, sheets = pdf_of(f"http://127.0.0.1:{view.server_port}/print.html")
+        pathlib.Path(path).write_bytes(data)
+    except NoPdf as error:
+        sys.exit(f"gafd_view: {error}")
+    except OSError as error:
+        sys.exit(f"gafd_view: {path}: {error.strerror}")
+    finally:
+        view.shutdown()
+        thread.join()
+    print(f"{path}: {sheets} sheets")
+
+
 def main():
     asked = arguments()
+    if asked.pdf:
+        asked.port = 0
     is_server = not any(pathlib.Path(it).exists() for it in asked.shown) and ":" in asked.shown[0]
     try:
         view = (server_view if is_server else folder_view)(asked)
     except OSError as error:
         sys.exit(f"gafd_view: 127.0.0.1:{asked.port}: {error.strerror}")
+    if asked.pdf:
+        try:
+            return write_pdf(view, asked.pdf)
+        finally:
+            view.close()
     # What a handler raises is lost where it comes amid another callback, so this one raises nothing.
     signal.signal(signal.SIGTERM, lambda *_: threading.Thread(target=view.shutdown).start())
     print(f"http://127.0.0.1:{view.server_port}/", flush=True)
@@ -120,6 +150,7 @@ def main():
         pass
     finally:
         view.close()
+    return None
 
 
 if __name__ == "__main__":

@@ -1,6 +1,7 @@
 // Two fronts beside each other: what was added to the shown sheet since an earlier front, what is
 // gone, and what changed, in three colours; and what the net lists differ in.
 
+import { keepAddress } from "./address.js";
 import { readSheetBy, symbolNames } from "./board.js";
 import { newCanvas } from "./canvas.js";
 import { changesOf, netListChanges } from "./changes.js";
@@ -10,7 +11,7 @@ import { readNetList } from "./nets.js";
 import { readObjects } from "./objects.js";
 import { elementOf } from "./picture.js";
 import { askPast, forEachAtOnce } from "./server.js";
-import { board, byId, instanceOf, notice, shown, shownObjects } from "./state.js";
+import { board, byId, fill, instanceOf, notice, shown, shownObjects } from "./state.js";
 import { escapeText, unbroken } from "./texts.js";
 import { changeWords, label } from "./words.js";
 
@@ -49,6 +50,7 @@ export async function compareWith(front) {
     if (shown.at.sheet !== sheet) return;
     const pastList = list.status === 200 ? readNetList(list.text) : null;
     shown.comparison = { front, sheet, objects, symbols, others, list: pastList };
+    keepAddress();
     showComparison();
     notice(`added, gone and changed since edit ${front}; Escape ends it`, 6);
   } catch (error) {
@@ -59,6 +61,7 @@ export async function compareWith(front) {
 /** Ends the comparison. */
 export function endComparison() {
   shown.comparison = null;
+  keepAddress();
   byId("past").innerHTML = "";
   for (const name of ["is-added", "is-changed"]) {
     for (const one of byId("drawn").querySelectorAll(`.${name}`)) one.classList.remove(name);
@@ -123,11 +126,11 @@ function listChanges({ front, sheet, list }, { changed, placed, added, gone }) {
     ...gone.map((it) => row("gone", label(it, at))),
   ];
   const lines = list ? netLines(netListChanges(list, board.list)) : [];
-  byId("list").innerHTML = `<p><b>${escapeText(sheet)}</b> since edit ${front} `
+  fill("list", `<p><b>${escapeText(sheet)}</b> since edit ${front} `
     + '<button id="end-comparison">end</button></p>'
     + `<p><button data-compare="${Math.max(0, front - STEP)}">one earlier</button> `
     + `<button data-compare="${front + STEP}">one later</button></p>`
     + `<table>${rows.join("") || "<tr><td>nothing changed on it</td></tr>"}</table>`
     + "<p>parts and nets of the board</p>"
-    + `<table>${lines.join("") || "<tr><td>nothing changed</td></tr>"}</table>`;
+    + `<table>${lines.join("") || "<tr><td>nothing changed</td></tr>"}</table>`);
 }

@@ -52,8 +52,7 @@ export function cuesOf(objects, symbols) {
 }
 
 /** The junctions and the open ends of a sheet as two paths. */
-export function drawCues(objects, symbols) {
-  const { junctions, open } = cuesOf(objects, symbols);
+export function drawCues({ junctions, open }) {
   const dots = junctions.map(([x, y, isBus]) => {
     const radius = isBus ? BUS_DOT : DOT;
     return `M${x} ${-y}m${-radius} 0${circlePath(radius)}`;

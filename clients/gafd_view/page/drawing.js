@@ -4,18 +4,20 @@
 import { attributeValue, slotNumbers, sourcesOf, splitAttribute,
   symbolParts } from "./attributes.js";
 import { EM, NAME_LOOK, DETACHED, guessedSizes, newCanvas, widenBox } from "./canvas.js";
-import { drawCues } from "./cues.js";
+import { cuesOf, drawCues } from "./cues.js";
 import { pinsOf, placedPart } from "./placing.js";
 import { drawShape } from "./shapes.js";
 import { drawText } from "./texts.js";
 
 /**
- * The drawing of a sheet: the SVG of each object by its id, of the cues, and the box around all.
+ * The drawing of a sheet: the SVG of each object by its id, of the cues, the box around all, and the
+ * open ends.
  */
 export function drawSheet(objects, symbols, sizes = guessedSizes) {
   const canvas = newCanvas(symbols, sizes);
   const drawn = new Map(objects.map((it) => [it.id, drawObject(it, canvas)]));
-  return { drawn, cues: drawCues(objects, symbols), box: canvas.box || [0, 0, 17000, 11000] };
+  const cues = cuesOf(objects, symbols);
+  return { drawn, cues: drawCues(cues), box: canvas.box || [0, 0, 17000, 11000], open: cues.open };
 }
 
 /** One object with its texts, as a group that has its id. */

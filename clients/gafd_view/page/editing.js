@@ -3,6 +3,7 @@
 import { redrawShown, refresh } from "./following.js";
 import { anchorOf } from "./placing.js";
 import { board, byId, entries, notice, objectOf, shown } from "./state.js";
+import { ownStand } from "./undoing.js";
 import { faultWords } from "./words.js";
 
 const GRID = 100;
@@ -95,19 +96,24 @@ export function renumber() {
   return send({ kind: "renumber" }, [], shownFront());
 }
 
-/**
- * Takes back one's own last edit that stands; of a page that was loaded anew the history tells it.
- */
+/** One's own rows: those of a page that was loaded anew the history tells. */
+function ownRows() {
+  const name = byId("session").value.trim();
+  const told = board.history.filter((it) => it.session === name);
+  const rows = new Map([...told, ...entries.own].map((it) => [it.serial, it]));
+  return [...rows.values()].sort((one, other) => one.serial - other.serial);
+}
+
+/** Takes back one's own last edit that stands. */
 export function undo() {
-  const serial = entries.own.length ? entries.own[entries.own.length - 1] : lastOwn();
+  const serial = ownStand(ownRows()).standing.at(-1);
   if (serial === undefined) return notice("there is nothing of yours to take back");
   return send({ kind: "undo", serial }, [], shownFront());
 }
 
-function lastOwn() {
-  const undone = new Set(board.history.filter((it) => it.edit.kind === "undo")
-    .map((it) => it.edit.serial));
-  return board.history.findLast(({ serial, session: by,
-    edit }) => by === byId("session").value.trim()
-    && edit.kind !== "undo" && !undone.has(serial))?.serial;
+/** Does again what one took back last, unless something else was edited since. */
+export function redo() {
+  const serial = ownStand(ownRows()).undone.at(-1);
+  if (serial === undefined) return notice("there is nothing of yours to do again");
+  return send({ kind: "undo", serial }, [], shownFront());
 }

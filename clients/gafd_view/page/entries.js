@@ -17,6 +17,7 @@ export class Entries {
   /** The next number is not known yet; one that is far too great is answered with the last. */
   begin() {
     this.number = GREATEST;
+    /** The rows that were made here. */
     this.own = [];
   }
 
@@ -35,8 +36,7 @@ export class Entries {
   noted(edit, answer) {
     if (answer.fault) return answer;
     this.number++;
-    if (edit.kind === "undo") this.own = this.own.filter((it) => it !== edit.serial);
-    else this.own.push(answer.serial);
+    this.own.push({ serial: answer.serial, edit });
     return answer;
   }
 

@@ -2,9 +2,11 @@
 
 import { compareWith, endComparison } from "./comparing.js";
 import * as editing from "./editing.js";
-import { showList, showTab } from "./lists.js";
-import { addressed, follow, open } from "./navigation.js";
-import { board, byId, entries, objectOf, shown } from "./state.js";
+import { showList, showTab, stepTab } from "./lists.js";
+import { addressed } from "./address.js";
+import { follow, goToAddress } from "./navigation.js";
+import { board, byId, entries, notice, objectOf, shown } from "./state.js";
+import { saveSvg } from "./saving.js";
 import { fit } from "./viewport.js";
 import { takeTool } from "./tools.js";
 
@@ -27,6 +29,16 @@ async function fieldChanged(field) {
   showList();
 }
 
+/** Copies the address of what is shown; where a browser does not let it, the address is told. */
+async function copyLink() {
+  try {
+    await navigator.clipboard.writeText(location.href);
+    notice(`copied: ${location.href}`);
+  } catch {
+    notice(`the link: ${location.href}`, 30);
+  }
+}
+
 /** The whole sheet, on a light ground. */
 function toPaper() {
   fit();
@@ -42,6 +54,9 @@ export function recall() {
 }
 
 function pressedSomething({ target }) {
+  const fold = target.closest("summary")?.parentElement;
+  // The browser folds it, or unfolds it, behind this.
+  if (fold?.dataset.rule) return shown.unfolded.set(fold.dataset.rule, !fold.open);
   const link = target.closest("[data-compare], [data-link]");
   if (link?.dataset.compare !== undefined) return compareWith(Number(link.dataset.compare));
   if (target.id === "end-comparison") return endComparison();
@@ -67,6 +82,11 @@ function listenToLists() {
     if (!target.dataset.tab) return;
     if (shown.comparison) endComparison();
     showTab(target.dataset.tab);
+  });
+  byId("tabs").addEventListener("keydown", (event) => {
+    if (!stepTab(event.key)) return;
+    event.preventDefault();
+    event.stopPropagation();
   });
   byId("search").addEventListener("input", () => {
     if (shown.comparison) endComparison();
@@ -94,14 +114,17 @@ export function listenToFields() {
   });
   byId("fit").addEventListener("click", fit);
   byId("print").addEventListener("click", () => print());
+  byId("svg").addEventListener("click", saveSvg);
+  byId("link").addEventListener("click", copyLink);
   byId("keys").addEventListener("click", () => byId("help").showModal());
   byId("undo").addEventListener("click", editing.undo);
+  byId("redo").addEventListener("click", editing.redo);
   byId("renumber").addEventListener("click", editing.renumber);
   byId("edit").addEventListener("click", toggleEditing);
   byId("dark").addEventListener("click", () => {
     localStorage.setItem("dark", document.body.classList.toggle("dark"));
   });
-  window.addEventListener("popstate", () => addressed() && open(addressed(), true));
+  window.addEventListener("popstate", () => shown.at && goToAddress(addressed()));
   window.addEventListener("beforeprint", toPaper);
   window.addEventListener("afterprint", recall);
 }

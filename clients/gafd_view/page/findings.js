@@ -37,8 +37,8 @@ export function findingText({ name, words }) {
  * The key of the first pin, or else wire, of each group of a net; of rails that meet, of each such
  * pin.
  */
-function keysOfNet(net, groups, finding, symbols) {
-  const conductors = groups.filter((it) => it.net === net).map((it) => it.conductors);
+function keysOfNet(net, byNet, finding, symbols) {
+  const conductors = byNet.get(net) || [];
   if (finding.name === "RailsMeet") {
     return conductors.flat().filter((it) => it.pin
       && globalNames(it.object, it.pin.number, symbols).length)
@@ -54,11 +54,11 @@ function spotsOfPlaces(places, instance) {
 }
 
 /** The spots of a finding on what is shown. */
-function spotsOf(finding, link, { instance, objects, places, groups, symbols }) {
+function spotsOf(finding, link, { instance, objects, places, byNet, symbols }) {
   const [kind, rest] = [link.slice(0, link.indexOf(":")), link.slice(link.indexOf(":") + 1)];
   if (kind === "part") return spotsOfPlaces(places.parts.get(rest), instance);
   if (kind === "pin") return spotsOfPlaces(places.pins.get(rest), instance);
-  if (kind === "net") return keysOfNet(rest, groups, finding, symbols);
+  if (kind === "net") return keysOfNet(rest, byNet, finding, symbols);
   const [sheet, name] = [rest.slice(0, rest.indexOf(":")), rest.slice(rest.indexOf(":") + 1)];
   if (sheet !== instance.sheet) return [];
   if (kind === "id") return [name];
@@ -69,9 +69,13 @@ function spotsOf(finding, link, { instance, objects, places, groups, symbols }) 
  * The findings of what is shown by their spots: `ID` for an object, `ID.PLACE` for a pin or a wire.
  */
 export function findingsAt(findings, netNames, shown) {
-  const found = new Map();
+  const [found, byNet] = [new Map(), new Map()];
+  for (const { net, conductors } of shown.groups) {
+    if (byNet.has(net)) byNet.get(net).push(conductors);
+    else byNet.set(net, [conductors]);
+  }
   for (const finding of findings) {
-    for (const spot of spotsOf(finding, linkOf(finding, netNames), shown)) {
+    for (const spot of spotsOf(finding, linkOf(finding, netNames), { ...shown, byNet })) {
       found.set(spot, [...(found.get(spot) || []), finding]);
     }
   }

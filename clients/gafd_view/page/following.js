@@ -3,7 +3,8 @@
 import { addRails, railsThatMeet } from "./findings.js";
 import { showList, showTrail } from "./lists.js";
 import { netsIn } from "./nets.js";
-import { addressed, open } from "./navigation.js";
+import { addressed } from "./address.js";
+import { goToAddress, open } from "./navigation.js";
 import { boxesOf, drawAll, drawChanges, drawFindings, frame, light,
   markLooseEnds } from "./picture.js";
 import { symbolNames } from "./board.js";
@@ -22,6 +23,7 @@ const LONGEST_FRAME = 3000;
 
 const pause = (milliseconds) => new Promise((resolve) => setTimeout(resolve, milliseconds));
 
+const called = addressed();
 let reading = null;
 let isAskedAgain = false;
 
@@ -106,7 +108,16 @@ async function readBoard() {
   showNets();
   showTrail();
   isRestRead = false;
-  return readRest();
+  readRest();
+  if (isFirst) followAddress();
+}
+
+/** Goes to what the page's address named when it was called, which may be on any sheet. */
+async function followAddress() {
+  const { parts, pins } = board.places;
+  const isKnown = (link) => [parts, pins].some((it) => it.has(link.slice(link.indexOf(":") + 1)));
+  if (!called.links.every(isKnown)) await restReading;
+  await goToAddress({ ...called, at: null });
 }
 
 let isRestRead = false;
@@ -146,8 +157,8 @@ async function readSymbolsAnew() {
  * it is known which one is on top.
  */
 function firstSheet() {
-  const asked = addressed();
-  if (asked && board.counts.has(asked.sheet)) return asked;
+  const { at } = called;
+  if (at && board.counts.has(at.sheet)) return at;
   const { size } = board.counts;
   return size ? { sheet: board.names[0], path: "", isGuess: size > 1 && size <= MOST_WAITED_FOR }
     : null;

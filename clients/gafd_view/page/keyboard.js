@@ -4,7 +4,7 @@ import * as editing from "./editing.js";
 import { showTab } from "./lists.js";
 import { endComparison } from "./comparing.js";
 import { enter } from "./mouse.js";
-import { choose, open, setNet } from "./navigation.js";
+import { choose, chooseWithin, open, setNet } from "./navigation.js";
 import { showObjects } from "./picture.js";
 import { byId, isEditing, shown, shownInstance, shownObjects } from "./state.js";
 import { takeTool, toolClicked, toolStepped } from "./tools.js";
@@ -23,6 +23,7 @@ const KEYS = {
   ArrowDown: () => panBy(0, 0.1),
   n: () => chooseNext(1),
   p: () => chooseNext(-1),
+  a: () => chooseWithin(shown.box),
   Enter: () => chosenOne() !== null && enter(chosenOne()),
   Escape: () => (shown.comparison ? endComparison() : chooseNothing()),
   Backspace: () => shownInstance().parent && open(shownInstance().parent),
@@ -37,8 +38,9 @@ const EDIT_KEYS = {
   c: () => takeTool("component"),
   t: () => takeTool("text"),
   Delete: editing.remove,
-  z: (event) => (event.ctrlKey ? editing.undo() : null),
 };
+
+const CTRL_KEYS = { z: editing.undo, y: editing.redo, Z: editing.redo };
 
 const MOVES = {
   ArrowLeft: [-GRID, 0], ArrowRight: [GRID, 0], ArrowUp: [0, GRID], ArrowDown: [0, -GRID],
@@ -47,6 +49,10 @@ const MOVES = {
 function chooseNothing() {
   setNet(null);
   choose([], false);
+}
+
+function chooseAll() {
+  choose(shownObjects().map((it) => it.id), false);
 }
 
 function chosenOne() {
@@ -77,20 +83,21 @@ function actionOf(event) {
   if (isEditing() && event.shiftKey && MOVES[event.key] && shown.chosen.size) {
     return () => editing.move(...MOVES[event.key]);
   }
-  if (event.ctrlKey) return event.key === "z" && isEditing() ? EDIT_KEYS.z : undefined;
+  if (event.ctrlKey) return event.key === "a" ? chooseAll : isEditing() && CTRL_KEYS[event.key];
   if (/^[1-6]$/.test(event.key)) return () => showTab(TABS[event.key - 1]);
-  return (isEditing() && event.key !== "z" && EDIT_KEYS[event.key]) || KEYS[event.key];
+  return (isEditing() && EDIT_KEYS[event.key]) || KEYS[event.key];
 }
 
 function pressed(event) {
   const { target } = event;
   if (/INPUT|SELECT|TEXTAREA|DIALOG/.test(target.tagName) || event.altKey || event.metaKey
     || !shown.at) return;
-  if (event.key === "Enter" && target.closest("button, [data-link], [data-compare], [data-proposal]")) {
-    if (target.tagName !== "BUTTON") target.click();
+  const isOwn = /BUTTON|SUMMARY|^A$/.test(target.tagName) && !target.dataset.link;
+  if (event.key === "Enter" && (isOwn || target.closest("[data-link], [data-compare], [data-proposal]"))) {
+    if (!isOwn) target.click();
     return;
   }
-  if (event.key === " " && target.tagName === "BUTTON") return;
+  if (event.key === " " && isOwn) return;
   const does = shown.tool && !event.ctrlKey ? () => pressedForTool(event) : actionOf(event);
   if (!does) return;
   event.preventDefault();

@@ -6,12 +6,14 @@ import { findingText, linkOf } from "./findings.js";
 import { printed } from "./instances.js";
 import { pinsOf } from "./placing.js";
 import { openReviews, reviewTable } from "./proposals.js";
-import { board, byId, objectOf, shown, shownInstance, shownObjects } from "./state.js";
+import { RULES } from "./rules.js";
+import { board, byId, fill, objectOf, shown, shownInstance, shownObjects } from "./state.js";
 import { escapeText, unbroken } from "./texts.js";
 import { editWords, label } from "./words.js";
 
 const MOST_ROWS = 500;
 const MOST_MEMBERS = 30;
+const MOST_UNFOLDED = 5;
 
 function table(list, row) {
   const more = list.length > MOST_ROWS
@@ -59,7 +61,21 @@ function findingTable() {
     odd.push("the drawing and the net list disagree:", ...shown.nets.disagreements);
   }
   const told = odd.length ? `<div class="odd">${odd.map(escapeText).join("<br>")}</div>` : "";
-  return told + table([...shown.rails, ...board.findings], findingRow);
+  const byRule = new Map();
+  for (const it of [...shown.rails, ...board.findings]) {
+    byRule.set(it.name, [...(byRule.get(it.name) || []), it]);
+  }
+  return told + [...byRule].map(([name, found]) => foldedRule(name, found)).join("");
+}
+
+/** The findings of one rule, folded where they are many and none of them is what is looked at. */
+function foldedRule(name, found) {
+  const isTold = found.some((it) => findingText(it) === shown.finding);
+  const isOpen = isTold || (shown.unfolded.get(name) ?? found.length <= MOST_UNFOLDED);
+  const sentence = RULES[name] ? ` <small>${escapeText(RULES[name])}</small>` : "";
+  return `<details data-rule="${escapeText(name)}"${isOpen ? " open" : ""}><summary>`
+    + `<b>${escapeText(name)}</b> ${found.length}${sentence}</summary>`
+    + `${table(found, findingRow)}</details>`;
 }
 
 /** The chosen object with its attributes, of which the attached ones can be changed. */
@@ -163,7 +179,7 @@ export function showList() {
   const scrolled = byId("list").scrollTop;
   const focused = byId("list").contains(document.activeElement)
     && document.activeElement.dataset.link;
-  byId("list").innerHTML = asked ? found(asked) : TABS[shown.tab]();
+  fill("list", asked ? found(asked) : TABS[shown.tab]());
   byId("list").scrollTop = scrolled;
   // Who goes through a list by keyboard stays at the row.
   if (focused) byId("list").querySelector(`[data-link="${CSS.escape(focused)}"]`)?.focus();
@@ -182,7 +198,25 @@ function showTabs() {
     const isOn = name === shown.tab && !isSearch && !shown.comparison;
     tab.classList.toggle("on", isOn);
     tab.setAttribute("aria-selected", isOn);
+    // One of the tabs is reached by Tab, and the others from there by the arrows.
+    tab.tabIndex = name === shown.tab ? 0 : -1;
+    tab.id ||= `tab-${name}`;
+    tab.setAttribute("aria-controls", "list");
+    if (isOn) byId("list").setAttribute("aria-labelledby", tab.id);
   }
+  if (isSearch || shown.comparison) byId("list").removeAttribute("aria-labelledby");
+}
+
+/** Shows the tab beside the one with the focus, or the first or the last one. */
+export function stepTab(key) {
+  const tabs = [...byId("tabs").children].filter((it) => !it.hidden);
+  const at = tabs.indexOf(document.activeElement);
+  const places = { ArrowRight: (at + 1) % tabs.length, ArrowLeft: (at + tabs.length - 1) % tabs.length,
+    Home: 0, End: tabs.length - 1 };
+  if (at < 0 || places[key] === undefined) return false;
+  showTab(tabs[places[key]].dataset.tab);
+  tabs[places[key]].focus();
+  return true;
 }
 
 /** Shows a tab, in place of a search. */
@@ -200,13 +234,12 @@ export function showTrail() {
   const unreached = board.names.filter((it) => !reached.has(it));
   options.push(...unreached.map((it) => [it, { sheet: it, path: "" }]));
   const isHere = (it) => it.sheet === shown.at.sheet && it.path === shown.at.path;
-  byId("sheets").innerHTML = options
+  fill("sheets", options
     .map(([text, it]) => `<option value="${escapeText(`${it.sheet}@${it.path}`)}"`
-    + `${isHere(it) ? " selected" : ""}>${escapeText(text)}</option>`).join("");
+    + `${isHere(it) ? " selected" : ""}>${escapeText(text)}</option>`).join(""));
   const trail = [];
   for (let it = shownInstance(); it; it = it.parent) trail.unshift(it);
   const name = (it) => (it.path ? printed(it.path.split("/").pop()) : it.sheet);
-  byId("trail").innerHTML = trail.map((it) => anchor(`at:${it.sheet}@${it.path}`, name(it)))
-    .join(" / ");
+  fill("trail", trail.map((it) => anchor(`at:${it.sheet}@${it.path}`, name(it))).join(" / "));
   document.title = `${shown.at.path || shown.at.sheet} - gafd`;
 }

@@ -2,8 +2,8 @@
 
 import * as editing from "./editing.js";
 import { showList, showTab } from "./lists.js";
-import { choose, open, setNet } from "./navigation.js";
-import { frameDragged, light } from "./picture.js";
+import { choose, chooseWithin, open, setNet } from "./navigation.js";
+import { frameArea, frameDragged, light } from "./picture.js";
 import { board, byId, isEditing, notice, shown, shownInstance } from "./state.js";
 import { pan, placeOf, zoom } from "./viewport.js";
 import { toolClicked, toolMoved } from "./tools.js";
@@ -43,7 +43,10 @@ function pressed(event) {
   const isText = !isEditing() && !isMiddle && event.pointerType === "mouse"
     && event.target.closest("text");
   const base = shown.at && editing.shownFront();
-  drag = { x: event.clientX, y: event.clientY, from: placeOf(event), isMove, isText, base };
+  const isArea = event.shiftKey && !isMove && !isText && !isMiddle && !shown.tool;
+  drag = { x: event.clientX, y: event.clientY, from: placeOf(event), isMove, isText, isArea, base };
+  // No text is marked by what draws up a rectangle.
+  document.body.classList.toggle("framing", isArea);
   if (!isText) byId("sheet").setPointerCapture(event.pointerId);
 }
 
@@ -66,9 +69,18 @@ function dragged(event) {
   drag.isFar ||= Math.hypot(event.clientX - drag.x, event.clientY - drag.y) > FAR;
   if (drag.isText || !drag.isFar) return undefined;
   const [x, y] = placeOf(event);
+  if (drag.isArea) {
+    drag.area = boxBetween(drag.from, [x, y]);
+    return frameArea(drag.area);
+  }
   if (!drag.isMove) return pan(drag.from[0] - x, drag.from[1] - y);
   drag.by = [editing.onGrid(x - drag.from[0]), editing.onGrid(y - drag.from[1])];
   return frameDragged(...drag.by);
+}
+
+/** The box between two corners. */
+function boxBetween([x1, y1], [x2, y2]) {
+  return [Math.min(x1, x2), Math.min(y1, y2), Math.abs(x1 - x2), Math.abs(y1 - y2)];
 }
 
 async function released(event) {
@@ -79,6 +91,11 @@ async function released(event) {
   if (!done.isFar) {
     clicked(event);
     return;
+  }
+  document.body.classList.remove("framing");
+  if (done.area) {
+    byId("marks").innerHTML = "";
+    chooseWithin(done.area);
   }
   if (!done.isMove) return;
   await editing.move(done.by[0], -done.by[1], done.base);
@@ -139,5 +156,6 @@ export function listenToMouse() {
     drag = null;
   });
   sheet.addEventListener("dblclick", doubleClicked);
-  sheet.addEventListener("wheel", turnedWheel, { passive: false });
+  // Around a sheet that is shrunk for the moment too.
+  byId("window").addEventListener("wheel", turnedWheel, { passive: false });
 }

@@ -1,19 +1,12 @@
-// Opening instances, and leading to what a list names: `net:GND`, `part:R4`, `pin:R4-1`,
-// `id:SHEET:12`, `symbol:SHEET:res.sym`, `sheet:SHEET` or `at:SHEET@PATH`.
+// Opening instances, and leading to what a list or the address names: `net:GND`, `part:R4`,
+// `pin:R4-1`, `id:SHEET:12`, `symbol:SHEET:res.sym`, `sheet:SHEET` or `at:SHEET@PATH`.
 
+import { keepAddress, namedInstance } from "./address.js";
+import { compareWith, endComparison } from "./comparing.js";
 import { freshen, showNets } from "./following.js";
 import { showList, showTrail } from "./lists.js";
-import { drawAll, light, showObjects } from "./picture.js";
+import { drawAll, elementOf, light, showObjects } from "./picture.js";
 import { board, byId, instanceOf, notice, sheetOf, shown, shownObjects } from "./state.js";
-
-/** The instance that SHEET@PATH names, or null. */
-function namedInstance(text) {
-  const [sheet, ...path] = text.split("@");
-  return sheet ? { sheet, path: path.join("@") } : null;
-}
-
-/** The instance that the address of the page names, or null. */
-export const addressed = () => namedInstance(decodeURIComponent(location.hash.slice(1)));
 
 /** Opens an instance. */
 export async function open(at, isBack = false) {
@@ -21,8 +14,7 @@ export async function open(at, isBack = false) {
   shown.chosen.clear();
   shown.group = null;
   for (const name of ["marks", "findings"]) byId(name).innerHTML = "";
-  if (!isBack) history.pushState(null, "",
-    `#${encodeURIComponent(`${shown.at.sheet}@${shown.at.path}`)}`);
+  if (!isBack) keepAddress(true);
   drawAll(true);
   showNets();
   showTrail();
@@ -40,6 +32,7 @@ function lightNet(name) {
 export function setNet(net, group = null) {
   shown.net = net || null;
   shown.group = net ? null : group;
+  keepAddress();
 }
 
 /** Goes to the first of these places that is on the shown sheet, else to the first. */
@@ -59,8 +52,23 @@ export function choose(ids, isMore) {
     if (isMore && shown.chosen.has(id)) shown.chosen.delete(id);
     else shown.chosen.add(id);
   }
+  keepAddress();
   light();
   showList();
+}
+
+/** Chooses the objects that lie in a box of mils with y down, with those that are chosen. */
+export function chooseWithin([x, y, width, height]) {
+  const ids = shownObjects().map((it) => it.id).filter((id) => {
+    const element = elementOf(id);
+    // What is there to be seen alone is not chosen: a frame, or a title block.
+    if (!element || element.matches(".fixed, .picture")) return false;
+    const box = element.getBBox();
+    return box.x >= x && box.y >= y && box.x + box.width <= x + width
+      && box.y + box.height <= y + height;
+  });
+  choose([...new Set([...shown.chosen, ...ids])], false);
+  notice(`${shown.chosen.size} objects are chosen`, 3);
 }
 
 async function goToId(text) {
@@ -93,6 +101,26 @@ const LINKS = {
   id: goToId,
   symbol: goToSymbol,
 };
+
+/** Lights a net, and goes to where it is: on the shown sheet, else at its first pin. */
+async function goToNet(name) {
+  if (shown.net !== name) lightNet(name);
+  if (byId("drawn").querySelector(".lit")) return undefined;
+  const net = board.list.nets.find((it) => it.name === name);
+  return net ? goToPrinted("pins", net.members[0]) : notice(`there is no net ${name}`);
+}
+
+/** Goes to what an address names. */
+export async function goToAddress({ at, links, compare }) {
+  const isHere = !at || (at.sheet === shown.at.sheet && at.path === shown.at.path);
+  if (!isHere && board.counts.has(at.sheet)) await open(at, true);
+  for (const link of links) {
+    if (link.startsWith("net:")) await goToNet(link.slice("net:".length));
+    else await follow(link);
+  }
+  if (compare === null && shown.comparison) endComparison();
+  else if (compare !== null && shown.comparison?.front !== compare) await compareWith(compare);
+}
 
 /** Follows a link of a list. */
 export function follow(link) {

@@ -5,7 +5,7 @@ import { drawObject, drawSheet } from "./drawing.js";
 import { findingText, findingsAt } from "./findings.js";
 import { newCanvas } from "./canvas.js";
 import { placesOf } from "./instances.js";
-import { board, byId, shown, shownInstance, shownObjects } from "./state.js";
+import { board, byId, fill, shown, shownInstance, shownObjects } from "./state.js";
 import { escapeText } from "./texts.js";
 import { conductorsOf } from "./touching.js";
 import { bringIn, fit } from "./viewport.js";
@@ -14,7 +14,8 @@ const MOST_PATCHED = 200;
 const FRAME = 60;
 const FLAG = 110;
 const MOST_FLAGS = 500;
-let openEnds = null;
+const JOINING = "NUPC";
+let [openNow, openEnds] = [[], null];
 
 /** Draws the whole sheet. */
 export function drawAll(isFit = false) {
@@ -23,7 +24,7 @@ export function drawAll(isFit = false) {
   if (isFit) fit();
   byId("drawn").innerHTML = [...drawing.drawn.values()].join("");
   byId("cues").innerHTML = drawing.cues;
-  openEnds = null;
+  [openNow, openEnds] = [drawing.open, null];
   light();
 }
 
@@ -36,8 +37,20 @@ export function drawChanges({ changed, added, gone, isNew, hasSymbols }) {
   for (const object of gone) elementOf(object.id)?.remove();
   for (const [, object] of changed) elementOf(object.id).outerHTML = drawObject(object, canvas);
   byId("drawn").insertAdjacentHTML("beforeend", added.map((it) => drawObject(it, canvas)).join(""));
-  byId("cues").innerHTML = drawCues(shownObjects(), board.symbols);
+  if (mayJoin({ changed, added, gone })) {
+    const cues = cuesOf(shownObjects(), board.symbols);
+    byId("cues").innerHTML = drawCues(cues);
+    openNow = cues.open;
+  }
   return light();
+}
+
+/** Whether changes may join or part wires and pins: not where but attached texts changed. */
+function mayJoin({ changed, added, gone }) {
+  const joins = (it) => JOINING.includes(it.letter);
+  const line = (it) => it.text.slice(0, it.text.indexOf("\n"));
+  return [...added, ...gone].some(joins)
+    || changed.some(([was, is]) => joins(is) && (is.parts || line(was) !== line(is)));
 }
 
 /** The drawing of an object, or null. */
@@ -82,6 +95,11 @@ export function frameDragged(dx, dy) {
   byId("marks").innerHTML = paths.join("");
 }
 
+/** The frame of a box, as x, y, width and height, that is drawn up. */
+export function frameArea([x, y, width, height]) {
+  byId("marks").innerHTML = `<path class="area" d="M${x} ${y}h${width}v${height}h${-width}z"/>`;
+}
+
 /** Brings objects into the middle, and frames them for a while. */
 export function showObjects(ids) {
   const boxes = boxesOf(ids);
@@ -92,7 +110,7 @@ export function showObjects(ids) {
 
 /** Rings round the ends that have come loose since the ends were looked at last. */
 export function markLooseEnds() {
-  const open = new Map(cuesOf(shownObjects(), board.symbols).open.map((it) => [it.join(), it]));
+  const open = new Map(openNow.map((it) => [it.join(), it]));
   const loose = openEnds ? [...open].filter(([key]) => !openEnds.has(key)).map(([, it]) => it) : [];
   openEnds = open;
   const boxes = loose.map(([x, y]) => ({ x: x - FRAME, y: -y - FRAME, width: 2 * FRAME,
@@ -114,11 +132,11 @@ export function drawFindings() {
   const spots = findingsAt([...board.findings, ...shown.rails], board.list.names,
     { instance, objects, places, groups: shown.nets.groups, symbols: board.symbols });
   const points = pointsOfKeys();
-  byId("findings").innerHTML = [...spots].slice(0, MOST_FLAGS).map(([spot, found]) => {
+  fill("findings", [...spots].slice(0, MOST_FLAGS).map(([spot, found]) => {
     const box = points.has(spot) ? null : elementOf(spot)?.getBBox();
     const point = points.get(spot) || (box ? [box.x, box.y] : null);
     return point ? drawFlag(point, found) : "";
-  }).join("");
+  }).join(""));
 }
 
 function drawFlag([x, y], found) {

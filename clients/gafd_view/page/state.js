@@ -23,6 +23,8 @@ export const shown = {
   sizes: null,
   rails: [],
   comparison: null,
+  /** Whether the findings of a rule are unfolded, of each that somebody folded or unfolded. */
+  unfolded: new Map(),
 };
 
 /** An instance of a sheet that no other leads to. */
@@ -54,6 +56,18 @@ export function objectOf(id) {
 /** The sheet on which an object stands, or undefined. */
 export function sheetOf(id) {
   return [...board.sheets].find(([, objects]) => objects.some((it) => it.id === id))?.[0];
+}
+
+const filled = new WeakMap();
+
+/** Gives an element contents, unless these are what it was given last, and has still. */
+export function fill(name, markup) {
+  const element = byId(name);
+  const [last, first] = filled.get(element) || [];
+  // What was typed into a field goes with it.
+  if (last === markup && first === element.firstChild && !/<(input|textarea)/.test(markup)) return;
+  element.innerHTML = markup;
+  filled.set(element, [markup, element.firstChild]);
 }
 
 export const isEditing = () => document.body.classList.contains("editing");

@@ -9,18 +9,56 @@ const READABLE = 9000;
 const MANY = 1000;
 const LEAST_LETTER = 4;
 const LETTER = 10 * EM;
+// On one of so many a window glides.
+const SOME = 200;
+// So long after its last step a window that glides is drawn anew, and so much wider or narrower than
+// what is drawn it may become until then.
+const SETTLED = 150;
+const MOST_GLIDE = 4;
 let hair = 1;
+let [drawnBox, settling] = [null, 0];
 
 /** How many mils a pixel of the window on the sheet is. */
-function pixelSize() {
-  const { width, height } = byId("sheet").getBoundingClientRect();
-  return Math.max(shown.box[2] / (width || 1), shown.box[3] / (height || 1));
+function pixelSize([, , wide, high]) {
+  const { clientWidth, clientHeight } = byId("window");
+  return Math.max(wide / (clientWidth || 1), high / (clientHeight || 1));
+}
+
+/**
+ * Shows the sheet through a window that glides. A sheet of many objects takes long to draw: what is
+ * drawn is moved and stretched meanwhile, and drawn anew where the window stands still.
+ */
+function glideBox() {
+  const by = drawnBox ? drawnBox[2] / shown.box[2] : 0;
+  if (shownObjects().length <= SOME || by > MOST_GLIDE || by < 1 / MOST_GLIDE) return showBox();
+  stretch();
+  clearTimeout(settling);
+  settling = setTimeout(showBox, SETTLED);
+  return undefined;
+}
+
+/** Moves and stretches what is drawn. */
+function stretch() {
+  const { clientWidth, clientHeight } = byId("window");
+  const middleOf = ([x, y, wide, high]) => [x + wide / 2, y + high / 2];
+  const [pixel, [x, y], [toX, toY]] = [pixelSize(shown.box), middleOf(drawnBox), middleOf(shown.box)];
+  const by = pixelSize(drawnBox) / pixel;
+  const [dx, dy] = [(x - toX) / pixel, (y - toY) / pixel];
+  const { style } = byId("sheet");
+  style.willChange = "transform";
+  style.transformOrigin = `${clientWidth / 2}px ${clientHeight / 2}px`;
+  style.transform = `translate(${dx}px, ${dy}px) scale(${by})`;
 }
 
 /** Shows the sheet through the window. */
 export function showBox() {
+  clearTimeout(settling);
   // Before the window moves, since what is laid out has to be laid out anew behind it.
-  const pixel = pixelSize();
+  const pixel = pixelSize(shown.box);
+  drawnBox = shown.box;
+  for (const name of ["will-change", "transform", "transform-origin"]) {
+    byId("sheet").style.removeProperty(name);
+  }
   byId("sheet").setAttribute("viewBox", shown.box.map((it) => it.toFixed(1)).join(" "));
   const isFar = LETTER < LEAST_LETTER * pixel && shownObjects().length > MANY;
   byId("sheet").classList.toggle("far", isFar);
@@ -40,9 +78,9 @@ export function fit() {
 
 /** The place of the mouse in the sheet, in mils with y down. */
 export function placeOf({ clientX, clientY }) {
-  const { x, y } = new DOMPoint(clientX,
-    clientY).matrixTransform(byId("sheet").getScreenCTM().inverse());
-  return [x, y];
+  const { x, y, width, height } = byId("window").getBoundingClientRect();
+  const [pixel, [left, top]] = [pixelSize(shown.box), middle()];
+  return [left + pixel * (clientX - x - width / 2), top + pixel * (clientY - y - height / 2)];
 }
 
 /** The middle of the window. */
@@ -55,13 +93,13 @@ export function zoom(by, [x, y] = middle()) {
   const [left, top, width, height] = shown.box;
   if (width * by < NARROWEST || width * by > WIDEST) return;
   shown.box = [x + (left - x) * by, y + (top - y) * by, width * by, height * by];
-  showBox();
+  glideBox();
 }
 
 /** Moves the window. */
 export function pan(dx, dy) {
   shown.box = [shown.box[0] + dx, shown.box[1] + dy, shown.box[2], shown.box[3]];
-  showBox();
+  glideBox();
 }
 
 /** Moves the window by shares of its size. */

@@ -138,6 +138,10 @@ class Page:
         log = [it for it in self.driver.get_log("browser") if here in it["message"]]
         return [it for it in log if not any(one in it["message"] for one in expected)]
 
+    def address(self):
+        """What stands behind the address of the page."""
+        return self.script("return location.hash")
+
     def close(self):
         self.driver.close()
         self.shared.switch_to.window(self.shared.window_handles[0])

@@ -2,7 +2,9 @@
 // pictures that lepton-cli export makes of the same lines.
 
 import assert from "node:assert/strict";
+import { readFileSync } from "node:fs";
 import nodeTest from "node:test";
+import { readAddress, writeAddress } from "../page/address.js";
 import { changesOf, netListChanges } from "../page/changes.js";
 import { cuesOf } from "../page/cues.js";
 import { drawSheet } from "../page/drawing.js";
@@ -10,6 +12,9 @@ import { addRails, findingsAt, railsThatMeet, readFindings } from "../page/findi
 import { instancesOf, placesOf } from "../page/instances.js";
 import { globalNames, netsIn, readNetList } from "../page/nets.js";
 import { readObjects } from "../page/objects.js";
+import { RULES } from "../page/rules.js";
+import { svgFile } from "../page/saving.js";
+import { ownStand } from "../page/undoing.js";
 
 let [passed, failed] = [0, 0];
 process.on("exit", () => console.log(`${passed} passed, ${failed} failed`));
@@ -301,4 +306,75 @@ test("a net of a drawn name that both lists have is told with the pins that came
 test("open ends are those of wires and pins that nothing touches", () => {
   const { open } = cuesOf(sheetOf(part(0, "R1") + wire(300, 600)), PARTS);
   assert.deepEqual(open, [[0, 0], [600, 0]]);
+});
+
+test("an address names an instance, links and a comparison, and is written as it is read", () => {
+  const none = { at: null, links: [], compare: null };
+  const cases = [
+    ["", none],
+    ["#a.sch@", { ...none, at: { sheet: "a.sch", path: "" } }],
+    ["#a.sch%40U1%2FX", { ...none, at: { sheet: "a.sch", path: "U1/X" } }],
+    ["#part:R17", { ...none, links: ["part:R17"] }],
+    ["#a.sch@U1&net:A%26B&compare=12",
+      { at: { sheet: "a.sch", path: "U1" }, links: ["net:A&B"], compare: 12 }],
+    ["#net:%", { ...none, links: ["net:%"] }],
+  ];
+  for (const [hash, wanted] of cases) assert.deepEqual(readAddress(hash), wanted, hash);
+  const items = ["a.sch@U1/X", "net:A&B +5V", "compare=12"];
+  assert.equal(writeAddress(items), "#a.sch@U1/X&net:A%26B%20+5V&compare=12");
+  assert.deepEqual(readAddress(writeAddress(items)),
+    { at: { sheet: "a.sch", path: "U1/X" }, links: ["net:A&B +5V"], compare: 12 });
+});
+
+test("what was taken back can be done again, until something else is edited", () => {
+  const edit = (serial) => ({ serial, edit: { kind: "move" } });
+  const undo = (serial, of) => ({ serial, edit: { kind: "undo", serial: of } });
+  const cases = [
+    [[edit(1), edit(2)], [1, 2], []],
+    [[edit(1), edit(2), undo(3, 2)], [1], [3]],
+    [[edit(1), edit(2), undo(3, 2), undo(4, 1)], [], [3, 4]],
+    [[edit(1), edit(2), undo(3, 2), undo(4, 3)], [1, 4], []],
+    [[edit(1), undo(3, 1), undo(4, 3), undo(5, 4)], [], [5]],
+    [[edit(1), undo(3, 1), edit(4)], [4], []],
+    // Its edit was made before what is known.
+    [[undo(3, 1)], [], [3]],
+  ];
+  for (const [rows, standing, undone] of cases) {
+    assert.deepEqual(ownStand(rows), { standing, undone }, JSON.stringify(rows));
+  }
+});
+
+test("findings are told in the words of the manual", () => {
+  const manual = readFileSync(new URL("../../../docs/MANUAL.md", import.meta.url), "utf8");
+  for (const [name, words] of Object.entries(RULES)) {
+    if (name === "RailsMeet") continue;
+    const [, told] = new RegExp(`^\\| \`${name}\` \\| ([^|]+) \\|`, "m").exec(manual);
+    assert.equal(words, told.replaceAll("`", ""), name);
+  }
+});
+
+test("a sheet is an SVG file of its own size, with its colours", () => {
+  const drawing = drawSheet(sheetOf("N 0 0 1000 500 4\n"), SYMBOLS);
+  const text = svgFile(drawing, [".k4 { color: #0000ee }"]);
+  assert.match(text, /width="25.40mm" height="12.70mm" viewBox="0 -500 1000 500"/);
+  assert.match(text, /\.k4 \{ color: #0000ee \}\n<\/style>/);
+  assert.match(text, /<g class="o N" data-id="0"/);
+});
+
+test("nets and busses have a contrast of 4.5 at least on both grounds", () => {
+  const css = readFileSync(new URL("../page/colours.css", import.meta.url), "utf8");
+  const light = (hex) => [1, 3, 5].map((at) => Number.parseInt(hex.slice(at, at + 2), 16) / 255)
+    .map((it) => (it <= 0.03928 ? it / 12.92 : ((it + 0.055) / 1.055) ** 2.4))
+    .reduce((sum, it, at) => sum + it * [0.2126, 0.7152, 0.0722][at], 0);
+  for (const ground of ["", "\\.dark "]) {
+    const rule = (index) => {
+      const [, own, dark] = new RegExp(`^\\.k${index} \\{ color: (#\\w+) \\} \\.dark \\.k${index} `
+        + "\\{ color: (#\\w+) \\}", "m").exec(css);
+      return light(ground ? dark : own);
+    };
+    for (const index of [4, 10]) {
+      const [low, high] = [rule(0), rule(index)].sort((one, other) => one - other);
+      assert.ok((high + 0.05) / (low + 0.05) >= 4.5, `k${index} on ${ground || "the light ground"}`);
+    }
+  }
 });

@@ -5,13 +5,24 @@ It wants the package firefox-esr alone. Where that or a program is missing it sa
 status is 0. It takes half a minute.
 """
 import functools
+import re
 import sys
 import unittest
+import zlib
+from unittest import mock
 
 from boards import LONGEST, Case, served
 from firefoxes import Firefox, binary
+from printing import pdf_of
 
 firefox = functools.lru_cache(maxsize=1)(Firefox)
+
+
+def pages_of(pdf):
+    """How many pages a PDF has, of which the objects may be packed."""
+    packed = re.findall(rb"/ObjStm.*?stream\r?\n(.*?)\r?\nendstream", pdf, re.S)
+    texts = [pdf, *map(zlib.decompress, packed)]
+    return sum(len(re.findall(rb"/Type\s*/Page\b", it)) for it in texts)
 
 
 class FirefoxCase(Case):
@@ -50,6 +61,18 @@ class Looking(FirefoxCase):
         wide, window = self.page.script(
             "return [document.documentElement.scrollWidth, innerWidth]")
         self.assertLessEqual(wide, window)
+
+
+class Sharing(FirefoxCase):
+    def test_a_link_leads_to_a_part(self):
+        self.open("#part:LEFT/R2")
+        self.page.until(lambda: self.page.text("trail") == "stereo.sch / LEFT")
+        self.page.until(lambda: self.page.count("#drawn .chosen") == 1)
+
+    def test_all_sheets_are_printed_where_there_is_no_chromium(self):
+        with mock.patch("printing.CHROMIUMS", []):
+            data, sheets = pdf_of(self.view.url + "print.html")
+        self.assertEqual((sheets, pages_of(data)), (2, 2))
 
 
 class Editing(FirefoxCase):

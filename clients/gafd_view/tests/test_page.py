@@ -15,8 +15,9 @@ import subprocess
 import sys
 import time
 import unittest
+from xml.etree import ElementTree
 
-from boards import EXAMPLES, LONGEST, Case, FolderCase, served
+from boards import EXAMPLES, HERE, LONGEST, Case, FolderCase, ask, served
 from browsers import By, Keys, Page, missing
 
 WIRES = 5000
@@ -138,7 +139,141 @@ class Looking(SharedCase):
         self.assertIn("<img src=x", page.text("sheet"))
 
 
+def contrast(one, other):
+    """The contrast of two colours, each as three numbers up to 255."""
+
+    def brightness(colour):
+        shares = (it / 255 for it in colour)
+        lights = [it / 12.92 if it <= 0.03928 else ((it + 0.055) / 1.055) ** 2.4 for it in shares]
+        return 0.2126 * lights[0] + 0.7152 * lights[1] + 0.0722 * lights[2]
+
+    low, high = sorted(map(brightness, (one, other)))
+    return (high + 0.05) / (low + 0.05)
+
+
+class Sharing(SharedCase):
+    def test_a_link_leads_to_a_part_or_a_net_on_any_sheet(self):
+        page = self.page(where="#part:LEFT/R2")
+        page.until(lambda: page.text("trail") == "stereo.sch / LEFT")
+        page.until(lambda: len(page.all("#drawn .chosen")) == 1)
+        page.until(lambda: page.address() == "#channel.sch@LEFT&part:LEFT/R2")
+        page = self.page(where="#channel.sch@RIGHT&net:RIGHT/FB")
+        page.until(lambda: len(page.all("#drawn .lit")) == 7)
+        self.assertEqual(page.text("trail"), "stereo.sch / RIGHT")
+        page.script("location.hash = '#net:LEFT/FB'")
+        page.until(lambda: page.text("trail") == "stereo.sch / LEFT")
+        page.until(lambda: len(page.all("#drawn .lit")) == 7)
+        self.assertEqual(page.faults(), [])
+
+    def test_the_address_tells_what_is_shown(self):
+        page = self.page()
+        page.press(self.ann.id_of("stereo.sch", "C1"))
+        self.assertEqual(page.address(), "#stereo.sch@&part:C1")
+        page.one("#link").click()
+        page.until(lambda: page.text("notice").endswith("#stereo.sch@&part:C1"))
+        page.follow("net:GND")
+        self.assertEqual(page.address(), "#stereo.sch@&part:C1&net:GND")
+        page.keys(Keys.ESCAPE)
+        self.assertEqual(page.address(), "#stereo.sch@")
+
+    def test_a_link_leads_to_a_comparison(self):
+        page = self.page(where="#stereo.sch@&compare=12")
+        page.until(lambda: page.all(".comparing"), 240)
+        self.assertIn("since edit 12", page.text("list"))
+        page.keys(Keys.ESCAPE)
+        self.assertEqual(page.address(), "#stereo.sch@")
+
+    def test_what_lies_in_a_rectangle_is_chosen(self):
+        page = self.page()
+        c1 = self.ann.id_of("stereo.sch", "C1")
+        box = page.drawn(c1).rect
+        act = page.act().move_to_element_with_offset(page.drawn(c1), -box["width"] / 2 - 4,
+                                                     -box["height"] / 2 - 4)
+        act.key_down(Keys.SHIFT).click_and_hold()
+        act.move_by_offset(box["width"] / 2, box["height"] / 2)
+        act.move_by_offset(box["width"] / 2 + 8, box["height"] / 2 + 8).perform()
+        self.assertEqual(len(page.all("#marks .area")), 1)
+        self.assertEqual(page.script("return getSelection().toString()"), "")
+        page.act().release().key_up(Keys.SHIFT).perform()
+        chosen = [it.get_attribute("data-id") for it in page.all("#drawn .chosen")]
+        self.assertIn(str(c1), chosen)
+        self.assertLess(len(chosen), 6)
+        self.assertEqual(page.all("#marks .area"), [])
+        page.keys(Keys.ESCAPE, "a")
+        self.assertGreater(len(page.all("#drawn .chosen")), 40)
+
+    def test_tabs_are_told_and_walked(self):
+        page = self.page()
+        page.script("document.querySelector('[role=tab][aria-selected=true]').focus()")
+        page.act().send_keys(Keys.ARROW_RIGHT).perform()
+        now = """
+            const { dataset, id } = document.activeElement;
+            return [dataset.tab, id, document.getElementById('list').getAttribute('aria-labelledby'),
+              document.activeElement.getAttribute('aria-controls')];"""
+        self.assertEqual(page.script(now), ["findings", "tab-findings", "tab-findings", "list"])
+        page.act().send_keys(Keys.END).perform()
+        self.assertEqual(page.script(now)[0], page.all("#tabs [role=tab]")[-1].get_attribute(
+            "data-tab"))
+        self.assertEqual([it.get_attribute("tabindex") for it in page.all("#tabs [tabindex='0']")],
+                         ["0"])
+
+    def test_nets_and_busses_are_seen_on_both_grounds(self):
+        page = self.page()
+        script = """
+            document.body.classList.toggle('dark', arguments[0]);
+            const of = (name) => {
+              const made = document.createElement('i');
+              made.className = name;
+              document.body.append(made);
+              const { color } = getComputedStyle(made);
+              made.remove();
+              return color.match(/[0-9]+/g).slice(0, 3).map(Number);
+            };
+            return [of('k0'), of('k4'), of('k10')];"""
+        for is_dark in (True, False):
+            ground, *colours = page.driver.execute_script(script, is_dark)
+            for colour in colours:
+                self.assertGreaterEqual(contrast(ground, colour), 4.5, (is_dark, colour))
+
+    def test_a_sheet_is_saved_as_svg(self):
+        page = self.page()
+        text = page.driver.execute_async_script("""
+            const done = arguments[0];
+            URL.createObjectURL = (blob) => { blob.text().then(done); return 'data:,'; };
+            document.getElementById('svg').click();""")
+        svg = ElementTree.fromstring(text.encode())
+        self.assertEqual(svg.tag, "{http://www.w3.org/2000/svg}svg")
+        self.assertEqual(len(svg.findall("{*}g")), len(page.all("#drawn > .o")))
+        self.assertTrue(svg.get("width").endswith("mm"))
+
+    def test_all_sheets_are_printed_a_page_each(self):
+        page = self.page(where="print.html")
+        page.until(lambda: page.script("return document.body.dataset.sheets") == "2")
+        self.assertEqual([it.text.split()[0] for it in page.all("h2")],
+                         ["stereo.sch", "channel.sch"])
+        self.assertIn("LEFT, RIGHT", page.all("h2")[1].text)
+        path = self.board.folder / "board.pdf"
+        words = [sys.executable, str(HERE.parent), "--pdf", str(path), self.server.url]
+        told = subprocess.run(words, capture_output=True, text=True, timeout=600, check=False)
+        self.assertEqual((told.returncode, told.stdout), (0, f"{path}: 2 sheets\n"), told.stderr)
+        self.assertEqual(len(re.findall(rb"/Type\s*/Page\b", path.read_bytes())), 2)
+
+
 class Editing(PageCase):
+    def test_what_was_taken_back_is_done_again(self):
+        page = self.page("ann")
+        c1 = self.ann.id_of("stereo.sch", "C1")
+        page.press(c1)
+        page.act().key_down(Keys.SHIFT).send_keys(Keys.ARROW_RIGHT).key_up(Keys.SHIFT).perform()
+        page.until(lambda: page.text("status") == "13 edits")
+        moved = self.ann.sheet("stereo.sch")
+        for count, button in ((14, "undo"), (15, "redo"), (16, "undo"), (17, "redo")):
+            page.one(f"#{button}").click()
+            page.until(lambda count=count: page.text("status") == f"{count} edits")
+            self.assertEqual(self.ann.sheet("stereo.sch") == moved, button == "redo")
+        page.one("#redo").click()
+        self.assertIn("nothing of yours to do again", page.text("notice"))
+
     def test_one_edits_and_the_other_sees_it(self):
         [ann, bob] = [self.page("ann"), self.page()]
         c1 = self.ann.id_of("stereo.sch", "C1")
@@ -209,6 +344,23 @@ class Marking(PageCase):
                     "new MouseEvent('click', {bubbles: true}))")
         self.assertEqual(len(page.all("#list tr.on")), 1)
         self.assertIn("check 3", page.text("tabs"))
+        self.assertIn("UnconnectedPin 2 nothing is joined to the pin", page.text("list"))
+
+    def test_findings_of_a_rule_are_folded_where_they_are_many(self):
+        lone = "C 44000 4{0}000 1 0 0 res.sym\n{{\nT 0 0 5 10 1 1 0 0 1\nrefdes=R9{0}\n}}\n"
+        for at in range(3):
+            self.ann.edit(kind="add_object", sheet="stereo.sch", text=lone.format(at))
+        self.ann.edit(kind="add_object", sheet="stereo.sch", text="C 44000 45000 1 0 0 cap.sym\n")
+        page = self.page()
+        page.tab("findings")
+        fold = 'details[data-rule="UnconnectedPin"]'
+        page.until(lambda: "UnconnectedPin 8" in page.text("list"), 30)
+        self.assertIsNone(page.one(fold).get_attribute("open"))
+        self.assertIsNotNone(page.one('details[data-rule="Unnumbered"]').get_attribute("open"))
+        page.one(f"{fold} summary").click()
+        self.ann.edit(kind="add_object", sheet="stereo.sch", text="N 0 0 100 0 4\n")
+        page.until(lambda: page.text("status") == f"{self.ann.front()} edits")
+        self.assertIsNotNone(page.one(fold).get_attribute("open"))
 
     def test_rails_that_meet_are_told_and_marked(self):
         page = self.page()
@@ -511,7 +663,7 @@ class Large(PageCase):
         mils = page.script("return 1 / document.getElementById('sheet').getScreenCTM().a")
         self.assertEqual(page.script(script), "none" if 10 * 1300 / 72 < 4 * mils else "block")
         page.keys(*"+" * 12)
-        self.assertEqual(page.script(script), "block")
+        page.until(lambda: page.script(script) == "block")
 
     def test_a_board_of_many_sheets_is_quick(self):
         for at in range(SHEETS):

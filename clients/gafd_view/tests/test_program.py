@@ -7,13 +7,14 @@ import concurrent.futures
 import json
 import os
 import socket
+import subprocess
 import sys
 import threading
 import time
 import unittest
 from unittest import mock
 
-from boards import EXAMPLES, LONGEST, Case, FolderCase, ask, served
+from boards import EXAMPLES, HERE, LONGEST, PATIENCE, Case, FolderCase, ask, served
 from sheet_text import count_objects, read_objects
 
 EDIT = '{"session":"eve","number":1,"base":0,"edit":{"kind":"renumber"}}'
@@ -22,6 +23,18 @@ TYPE = {"Content-Type": "application/json"}
 
 def rows_of(text):
     return [json.loads(it) for it in text.splitlines()]
+
+
+class Printing(FolderCase):
+    def test_without_a_browser_no_pdf_is_written(self):
+        path = self.folder / "board.pdf"
+        words = [sys.executable, str(HERE.parent), "--pdf", str(path), str(self.folder)]
+        asked = {**os.environ, "GAFD": served.program(), "PATH": str(self.folder)}
+        told = subprocess.run(words, capture_output=True, text=True, timeout=PATIENCE, env=asked,
+                              check=False)
+        self.assertEqual(told.returncode, 1)
+        self.assertRegex(told.stderr, r"^gafd_view: a PDF wants a browser, and none of chromium .*\n$")
+        self.assertFalse(path.exists())
 
 
 class Safety(Case):
