@@ -53,6 +53,7 @@ FIGURES = (
     ("A server", "bench/group_times.py", "", "a wire that moves"),
     ("SERVER.md, memory", "bench/serving.py memory 1000 10000", "", "memory of a board"),
     ("The page", "clients/gafd_view/tests/test_page.py Large", "chromium", "pictures"),
+    ("The page", "bench/page_times.py", "chromium", "first picture, an edit, the wheel"),
     ("Edits at a hall", "bench/memory.py", "rt", "each allocation refused in turn"),
 )
 
