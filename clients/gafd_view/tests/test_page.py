@@ -212,8 +212,8 @@ class Sharing(SharedCase):
               document.activeElement.getAttribute('aria-controls')];"""
         self.assertEqual(page.script(now), ["findings", "tab-findings", "tab-findings", "list"])
         page.act().send_keys(Keys.END).perform()
-        self.assertEqual(page.script(now)[0], page.all("#tabs [role=tab]")[-1].get_attribute(
-            "data-tab"))
+        self.assertEqual(page.script(now)[0], page.all("#tabs [role=tab]:not([hidden])")[-1]
+                         .get_attribute("data-tab"))
         self.assertEqual([it.get_attribute("tabindex") for it in page.all("#tabs [tabindex='0']")],
                          ["0"])
 
