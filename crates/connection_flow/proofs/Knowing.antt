@@ -3,8 +3,7 @@ use Rattle.std.proofs.Common.{◌≡◌, ℕ, ◌+◌, ◌-◌, ◌≤◌, Bool,
 use Rattle.std.proofs.lemmas.List.{drop-append-le, length-append}
 use Rattle.connection_flow.specs.declared.gathered.Known.{Known}
 use Rattle.connection_flow.specs.declared.gathered.Known.TheVariants as knowns
-use Rattle.connection_flow.specs.Requests.{IsWholeMessage}
-use Rattle.connection_flow.specs.Knowns.{IsKnown}
+use Rattle.connection_flow.specs.Requests.{IsKnown, IsWholeMessage}
 use Rattle.web_heads.specs.declared.sizes.MessageSize.{MessageSize}
 use Rattle.web_heads.specs.Cuts.{MessageData, IsMessage}
 use Rattle.web_heads.proofs.Cutting.{Ends-append}

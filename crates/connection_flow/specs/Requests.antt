@@ -1,9 +1,12 @@
 -- The bytes of a client that have come, and how they are handed out (own).
 use Rattle.std.specs.Prelude.{◌≡◌, ℕ, ◌+◌, ◌-◌, ◌≤◌, ◌⊎◌, List, [], ◌++◌, length, take, drop}
+use Rattle.connection_flow.specs.declared.gathered.Known.{Known}
+use Rattle.connection_flow.specs.declared.gathered.Known.TheVariants as knowns
 use Rattle.connection_flow.specs.declared.gathered.Progress.{Progress}
 use Rattle.connection_flow.specs.declared.gathered.Progress.TheVariants as parts
 use Rattle.web_heads.specs.declared.cut_end.CutEnd.{CutEnd}
 use Rattle.web_heads.specs.Cuts.{MessageData, IsMessage, IsFinal, Ends}
+use Rattle.web_heads.specs.MessageFronts.{IsSized}
 
 -- the bytes that were not handed out yet, and how many of them belong to the request that is being
 -- handed out
@@ -22,6 +25,12 @@ pub record IsHopeless (bytes : List ℕ) : Type 0 where
   pub end : CutEnd
   pub final : IsFinal end
   pub ends : Ends bytes end
+
+-- what is known of the bytes at the front is so
+abbrev pub IsKnown : Known → List ℕ → Type 0
+IsKnown knowns.Nothing bytes = Unit {0}
+IsKnown (knowns.Size size) bytes = IsSized bytes size
+IsKnown knowns.Refused bytes = IsHopeless bytes
 
 -- so many bytes are handed out as one request: a whole message and nothing behind it; or all, since
 -- no message can come of them; or none

@@ -1,5 +1,5 @@
 // A connection: its socket, what has come of it, and what is to go out.
-ghost use Rattle.std.specs.Io.{ReadsAtMost};
+ghost use Rattle.std.specs.Io.{ReadsAtMost, WritesAtMost};
 ghost use Rattle.std.specs.Prelude.{◌≤◌, length};
 
 use crate::gathered::{Gathered, Progress};
@@ -97,11 +97,6 @@ impl<S: Socket + Drop> Connection<S> {
     /// Whether its first request may be an edit.
     pub fn is_post(&self) -> bool {
         self.gathered.is_post()
-    }
-
-    /// Whether the system may have told of something that was not looked at yet.
-    pub fn has_more(&self) -> bool {
-        self.has_more
     }
 
     /// Whether its client has taken too long.
@@ -256,32 +251,25 @@ impl<S: Socket + Drop> Connection<S> {
         self.gathered.take(room)
     }
 
-    /// Whether all of the request was handed out.
-    pub fn is_handed_out(&self) -> bool {
-        self.gathered.is_handed_out()
+    // How many bytes of a piece go out at once.
+    fn write(&mut self, piece: &[u8]) -> io::Result<usize>
+        ensures { WritesAtMost result piece.now }
+    {
+        match self.socket.write(piece) {
+            Err(fault) if is_to_wait(&fault) || is_to_try_again(&fault) => Ok(0),
+            written => written,
+        }
     }
 
     /// Sends a reply as far as it goes out at once, and keeps the rest.
     pub fn send(&mut self, piece: &[u8]) -> io::Result<()> {
-        let mut rest = piece;
-        for _ in 0..MOST_CALLS {
-            if rest.is_empty() || !self.unsent.is_empty() {
-                break;
-            }
-            match self.socket.write(rest) {
-                // What did not go out at once does not go out now.
-                Ok(count) if count < rest.len() => {
-                    rest = &rest[count..];
-                    break;
-                }
-                Ok(count) => rest = &rest[count..],
-                Err(fault) if is_to_wait(&fault) => break,
-                Err(fault) if is_to_try_again(&fault) => {}
-                Err(fault) => return Err(fault),
-            }
-        }
-        if !rest.is_empty() {
-            self.unsent.keep(rest)?;
+        let count = if self.unsent.is_empty() {
+            self.write(piece)?
+        } else {
+            0
+        };
+        if count < piece.len() {
+            self.unsent.keep(&piece[count..])?;
         }
         Ok(())
     }

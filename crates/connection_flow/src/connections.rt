@@ -25,7 +25,6 @@ const ROOM: usize = 64 * 1024;
 #[derive(Drop)]
 struct Place<S: Socket + Drop> {
     connection: Option<Connection<S>>,
-    is_lent: bool,
     is_told: bool,
     is_read_closed: bool,
 }
@@ -62,7 +61,6 @@ impl<S: Socket + Drop> Place<S> {
     fn new() -> Place<S> {
         Place {
             connection: None,
-            is_lent: false,
             is_told: false,
             is_read_closed: false,
         }
@@ -110,8 +108,8 @@ impl<S: Socket + Drop> Connections<S> {
         }
     }
 
-    // The place has no connection any more.
-    fn give_free(&mut self, index: usize) {
+    /// The place has no connection any more.
+    pub fn give_free(&mut self, index: usize) {
         if let Some(place) = self.places.get_mut(index) {
             *place = Place::new();
         }
@@ -129,8 +127,8 @@ impl<S: Socket + Drop> Connections<S> {
         let _kept = queue.push_back(index);
     }
 
-    // Goes on with a connection, and puts it at its place or closes it.
-    fn go_on(&mut self, index: usize, connection: Connection<S>, now: Duration) {
+    /// Goes on with a connection, and puts it at its place or closes it.
+    pub fn go_on(&mut self, index: usize, connection: Connection<S>, now: Duration) {
         let mut connection = connection;
         match connection.go_on(now, self.room.as_mut_slice()) {
             Outlook::Close => {
@@ -237,16 +235,6 @@ impl<S: Socket + Drop> Connections<S> {
         self.free.pop()
     }
 
-    /// Puts a new connection at a place that is for it, and goes on with it.
-    pub fn begin(&mut self, index: usize, connection: Connection<S>, now: Duration) {
-        self.go_on(index, connection, now);
-    }
-
-    /// A place that was for a connection is free again.
-    pub fn give_back(&mut self, index: usize) {
-        self.give_free(index);
-    }
-
     // The place of the edit that has waited the longest, if one more may be served.
     fn next_post(&mut self) -> Option<usize> {
         if self.posts_lent >= MOST_EDITS {
@@ -314,7 +302,6 @@ impl<S: Socket + Drop> Connections<S> {
             self.posts_lent = self.posts_lent.saturating_add(1);
         }
         if let Some(at) = self.places.get_mut(place) {
-            at.is_lent = true;
             at.is_told = false;
             at.is_read_closed = false;
         }
@@ -342,7 +329,6 @@ impl<S: Socket + Drop> Connections<S> {
             None => self.give_free(index),
             Some(mut connection) => {
                 if let Some(at) = self.places.get_mut(index) {
-                    at.is_lent = false;
                     if at.is_told {
                         connection.is_told(at.is_read_closed);
                     }

@@ -45,8 +45,7 @@ pub struct Gathered {
 
 impl Model for Gathered {
     ghost use Rattle.std.specs.Prelude.{◌≤◌, drop, length};
-    ghost use Rattle.connection_flow.specs.Requests.{GatheredData};
-    ghost use Rattle.connection_flow.specs.Knowns.{IsKnown};
+    ghost use Rattle.connection_flow.specs.Requests.{GatheredData, IsKnown};
 
     ghost Value = { GatheredData };
 
@@ -215,11 +214,6 @@ impl Gathered {
         self.left_of_first -= count;
         self.known = Known::Nothing;
         count
-    }
-
-    /// Whether all of the first request was handed out.
-    pub fn is_handed_out(&self) -> bool {
-        self.left_of_first == 0
     }
 
     /// The first request was answered, and what is behind it is the first now.

@@ -43,7 +43,6 @@ pub const WAKER: Token = Token(usize::MAX - 1);
 pub struct Poller {
     alloc: Global,
     poll: Poll,
-    registry: Registry,
     events: Events,
     listener: Listener,
     is_called: bool,
@@ -74,12 +73,11 @@ impl Poller {
     pub fn new<R: Net>(rt: &R, alloc: Global, listener: Listener) -> io::Result<Poller> {
         let poll = Poll::new(rt)?;
         let descriptor = listener.descriptor();
-        let registry = poll.registry().try_clone()?;
-        registry.register(&mut SourceFd(&descriptor), LISTENER, Interest::READABLE)?;
+        poll.registry()
+            .register(&mut SourceFd(&descriptor), LISTENER, Interest::READABLE)?;
         Ok(Poller {
             alloc,
             poll,
-            registry,
             events: Events::with_capacity(alloc, MOST_EVENTS)?,
             listener,
             is_called: false,
@@ -92,7 +90,7 @@ impl Poller {
 
     /// What sockets are made known to.
     pub fn registry(&self) -> &Registry {
-        &self.registry
+        self.poll.registry()
     }
 
     /// Whether so many failures came in a row that no further connection comes.
@@ -116,9 +114,9 @@ impl Poller {
         let Some(index) = connections.place_for_one() else {
             return;
         };
-        match stream.register(&self.registry, index) {
-            Ok(()) => connections.begin(index, Connection::new(self.alloc, stream, now), now),
-            Err(_) => connections.give_back(index),
+        match stream.register(self.registry(), index) {
+            Ok(()) => connections.go_on(index, Connection::new(self.alloc, stream, now), now),
+            Err(_) => connections.give_free(index),
         }
     }
 

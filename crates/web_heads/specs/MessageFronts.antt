@@ -18,6 +18,7 @@ pub record IsSized (bytes : List ℕ) (size : MessageSize) : Type 0 where
 
 -- what is said of the bytes
 abbrev pub IsMessageFront : List ℕ → MessageFront → Type 0
-IsMessageFront bytes fronts.Open = (length bytes < 8192) × HasNoRequest bytes × MayBecomeRequest bytes
+IsMessageFront bytes fronts.Open =
+    (length bytes < 8192) × HasNoRequest bytes × MayBecomeRequest bytes
 IsMessageFront bytes (fronts.Sized size) = IsSized bytes size
 IsMessageFront bytes fronts.Refused = (end : CutEnd) × IsFinal end × Ends bytes end

@@ -1,6 +1,5 @@
 use Rattle.std.proofs.Common.{inl, ◌+◌, ◌-◌, ◌≤◌, ℕ, List, length, subst}
-use Rattle.connection_flow.specs.Requests.{GatheredData}
-use Rattle.connection_flow.specs.Knowns.{IsKnown}
+use Rattle.connection_flow.specs.Requests.{GatheredData, IsKnown}
 use Rattle.connection_flow.proofs.Knowing.{whole_message}
 use Rattle.connection_flow.proofs.gathered.Gathered.progress.Goals as goal
 
