@@ -10,8 +10,7 @@ run` in its crate. PROGRAM is what the commands try, else what GAFD names, else 
 "./gafd" the program is called as ./gafd calls it, with large pages. The last command of all,
 memory.py, has `rt try` build the program of cases.
 
-No command gives the processor's time beside lepton-netlist, the speed of reading alone, `netlist`
-of four sheets of 100,000 wires, the instructions of one request, and the edits on a slower disk.
+The processor's time beside lepton-netlist is told by `time`, around the calls of bench/beside.py.
 """
 import argparse
 import os
