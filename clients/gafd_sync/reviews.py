@@ -153,12 +153,12 @@ class Reviews:
         return Proposal(name, **found, end=end)
 
     @contextlib.contextmanager
-    def alone(self):
-        """One who ends proposals at a time. The lock goes with the process; where a file system has
-        none, the claim alone keeps others off."""
+    def alone(self, name="lock"):
+        """One who ends proposals at a time, or does what another lock is for. It goes with the
+        process; where a file system has none, the claim alone keeps others off."""
         self.folder.mkdir(parents=True, exist_ok=True)
         # Who may not write another's file may read it.
-        lock = os.open(self.folder / "lock", os.O_RDONLY | os.O_CREAT, 0o666)
+        lock = os.open(self.folder / name, os.O_RDONLY | os.O_CREAT, 0o666)
         try:
             fcntl.flock(lock, fcntl.LOCK_EX)
             yield

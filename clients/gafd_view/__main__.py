@@ -18,7 +18,8 @@ told to others too. --look hands on no edits. --host is one more name under whic
 called, as behind a proxy.
 
 --reviews names the folder in which `gafd_sync` keeps the proposals and notes of the board; they are
-shown beside it, and a proposal's board beside the board now where the store is named too.
+shown beside it, and a proposal's board beside the board now where the store is named too. Findings
+that are meant are accepted on the page, and kept there in the file `accepted`.
 
 --pdf writes all sheets of any of these into FILE, a page each, and serves nothing. It wants Chromium
 or Firefox.
@@ -83,7 +84,7 @@ def reviews_of(asked, url=None):
         return None
     sys.path.append(client())
     from board_reviews import BoardReviews
-    return BoardReviews(asked.reviews, url, asked.store, program())
+    return BoardReviews(asked.reviews, url, asked.store, program(), asked.look)
 
 
 def folder_view(asked):

@@ -1,18 +1,20 @@
 """The reviews of a board: its proposals and notes, and the board with a proposal, which is a server
 of its own over a copy of the history to which the proposal was put."""
 import contextlib
+import json
 import pathlib
 import threading
 
+from gafd_sync.accepted import FINDING, REASON, Accepted, is_line
 from gafd_sync.notes import numbers
 from gafd_sync.proposals import BoardNow, Standing
 from gafd_sync.records import Damaged
 from gafd_sync.reviewing import put
 from gafd_sync.reviews import Reviews
 from gafd_sync.server import Server
-from gafd_sync.words import Stop
+from gafd_sync.words import NAME, Stop
 from past_boards import PastBoard
-from served_board import fault
+from served_board import Answer, fault
 
 MOST_BOARDS = 2
 
@@ -28,18 +30,46 @@ def reader(url, session="reader"):
             raise OSError(str(stop)) from None
 
 
+def is_acceptance(asked):
+    """Whether somebody asks so to accept a finding, or no longer to."""
+    if not isinstance(asked, dict) or asked.keys() != {"finding", "who", "reason"}:
+        return False
+    finding, who, reason = (asked[it] for it in ("finding", "who", "reason"))
+    is_named = type(who) is str and NAME.fullmatch(who)
+    return is_line(finding, FINDING) and is_named and (reason is None or is_line(reason, REASON))
+
+
 class BoardReviews:
     """The folder of the reviews, and a server's address, or None for a board of files. Boards with a
-    proposal are made of a store; the last two that were asked for stay."""
+    proposal are made of a store; the last two that were asked for stay. With `is_look` no finding
+    is accepted."""
 
-    def __init__(self, folder, url, store, run):
-        self.reviews, self.url, self.run = Reviews(folder), url, run
+    def __init__(self, folder, url, store, run, is_look=False):
+        self.reviews, self.url, self.run, self.is_look = Reviews(folder), url, run, is_look
+        self.accepted = Accepted(self.reviews)
         self.store = store and pathlib.Path(store).resolve()
         self.lock, self.boards, self.seen = threading.Lock(), {}, (None, [])
 
     def listed(self, front):
-        """All proposals, with what became of each, and the notes that are open."""
-        return {"proposals": self.proposals(front) if self.url else [], "notes": self.notes()}
+        """All proposals, with what became of each, the notes that are open, and the findings that
+        are accepted."""
+        return {"proposals": self.proposals(front) if self.url else [], "notes": self.notes(),
+                "accepted": self.accepted.listed()}
+
+    def accept(self, body):
+        """Accepts a finding as somebody says, for a reason, or where that is null no longer; the
+        answer has those that are accepted then."""
+        try:
+            asked = json.loads(body)
+        except (ValueError, RecursionError):
+            asked = None
+        if not is_acceptance(asked):
+            return fault(400, "BadAcceptance")
+        if asked["reason"] is None:
+            self.accepted.take_back(asked["finding"])
+        else:
+            self.accepted.accept(asked["finding"], asked["who"], asked["reason"])
+        return Answer(200, None, json.dumps(self.accepted.listed(), ensure_ascii=False).encode())
 
     def proposals(self, front):
         """They are looked at anew where the board went on, or one came or ended."""

@@ -107,6 +107,9 @@ class Handler(BaseHTTPRequestHandler):
         is_json = self.headers.get("Content-Type", "").partition(";")[0].strip() == JSON
         if not self.is_asked_here() or not self.is_from_here() or not is_json:
             return self.answer(fault(403, "NotThisPage"), JSON)
+        reviews = self.server.reviews
+        if self.path == "/accepted" and reviews and not reviews.is_look:
+            return self.board_answer(lambda: reviews.accept(body))
         if self.path != "/board/edits" or self.server.is_look:
             return self.answer(fault(405, "Look"), JSON)
         return self.board_answer(lambda: self.server.board.ask("POST", "edits", body))
@@ -142,7 +145,8 @@ class Handler(BaseHTTPRequestHandler):
         view = self.server
         about = {"kind": view.board.kind, "name": view.board.name, "edits": not view.is_look,
                  "history": view.history is not None, "past": view.past is not None,
-                 "reviews": view.reviews is not None}
+                 "reviews": view.reviews is not None,
+                 "accepts": view.reviews is not None and not view.reviews.is_look}
         self.json(about)
 
     def history(self, query):

@@ -5,7 +5,7 @@
 import { refdesIn } from "./instances.js";
 import { board, objectOf, shown, shownInstance } from "./state.js";
 
-const LINK = /^(part|pin|net|id|symbol|sheet):/;
+const LINK = /^(part|pin|net|id|symbol|place|sheet):/;
 const COMPARE = /^compare=([0-9]{1,7})$/;
 
 /** The instance that SHEET@PATH names, or null. */

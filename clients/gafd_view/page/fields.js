@@ -1,6 +1,7 @@
 // Buttons and fields: what is pressed and written in the head of the page and in its lists.
 
 import { compareWith, endComparison } from "./comparing.js";
+import { acceptOrNot } from "./accepting.js";
 import * as editing from "./editing.js";
 import { showList, showTab, stepTab } from "./lists.js";
 import { addressed } from "./address.js";
@@ -57,6 +58,8 @@ function pressedSomething({ target }) {
   const fold = target.closest("summary")?.parentElement;
   // The browser folds it, or unfolds it, behind this.
   if (fold?.dataset.rule) return shown.unfolded.set(fold.dataset.rule, !fold.open);
+  const accept = target.closest("[data-accept]")?.dataset.accept;
+  if (accept !== undefined) return acceptOrNot(accept);
   const link = target.closest("[data-compare], [data-link]");
   if (link?.dataset.compare !== undefined) return compareWith(Number(link.dataset.compare));
   if (target.id === "end-comparison") return endComparison();

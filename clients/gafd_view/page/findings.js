@@ -14,11 +14,14 @@ export function readFindings(text) {
 const OF_NETS = ["Conflict", "OnePin", "NotDriven", "NoConnection", "RailsMeet"];
 const OF_PINS = ["UnknownPintype", "UnconnectedPin", "PinOnTwoNets"];
 
+const PLACE = /^-?[0-9]+,-?[0-9]+$/;
+
 /**
- * Where a finding leads to: `net:GND`, `pin:R4-1`, `part:R4`, `id:SHEET:ID`, `symbol:..` or
- * `sheet:..`.
+ * Where a finding leads to: `net:GND`, `pin:R4-1`, `part:R4`, `id:SHEET:ID`, `symbol:..`,
+ * `sheet:..`, or `place:SHEET:X,Y`, y up, where its words begin with a sheet and a place.
  */
 export function linkOf({ name, words }, netNames) {
+  if (name !== "SameText" && PLACE.test(words[1])) return `place:${words[0]}:${words[1]}`;
   if (name === "NoRefdes" || name === "BadNet") return `id:${words[0]}:${words[1]}`;
   if (name === "MissingSymbol") return `symbol:${words[0]}:${words.slice(1).join(" ")}`;
   if (name === "MissingSource" || name === "Unreached") return `sheet:${words[0]}`;
@@ -31,6 +34,11 @@ export function linkOf({ name, words }, netNames) {
 /** A finding in the words of its line. */
 export function findingText({ name, words }) {
   return `${name} ${words.join(" ")}`;
+}
+
+/** A finding as the line of its report. */
+export function findingLine(finding) {
+  return `${finding.level} ${findingText(finding)}`;
 }
 
 /**
@@ -61,12 +69,13 @@ function spotsOf(finding, link, { instance, objects, places, byNet, symbols }) {
   if (kind === "net") return keysOfNet(rest, byNet, finding, symbols);
   const [sheet, name] = [rest.slice(0, rest.indexOf(":")), rest.slice(rest.indexOf(":") + 1)];
   if (sheet !== instance.sheet) return [];
-  if (kind === "id") return [name];
+  if (kind === "id" || kind === "place") return [name];
   return objects.filter((it) => it.letter === "C" && it.basename === name).map((it) => `${it.id}`);
 }
 
 /**
- * The findings of what is shown by their spots: `ID` for an object, `ID.PLACE` for a pin or a wire.
+ * The findings of what is shown by their spots: `ID` for an object, `ID.PLACE` for a pin or a wire,
+ * `X,Y` for a place.
  */
 export function findingsAt(findings, netNames, shown) {
   const [found, byNet] = [new Map(), new Map()];

@@ -2,7 +2,7 @@
 // trail down to the shown instance.
 
 import { attributesAmong, symbolParts } from "./attributes.js";
-import { findingText, linkOf } from "./findings.js";
+import { findingLine, findingText, linkOf } from "./findings.js";
 import { printed } from "./instances.js";
 import { pinsOf } from "./placing.js";
 import { openReviews, reviewTable } from "./proposals.js";
@@ -49,8 +49,24 @@ function partRow({ refdes, device, value, footprint }) {
 
 function findingRow(finding) {
   const isTold = findingText(finding) === shown.finding;
-  return row(linkOf(finding, board.list.names), [finding.name, escapeText(finding.words.join(" "))],
-    `${finding.level}${isTold ? " on" : ""}`);
+  const line = findingLine(finding);
+  const accepted = shown.accepted.get(line);
+  const button = `<button class="accept" data-accept="${escapeText(line)}" title="${accepted
+    ? "it is open again" : "it is meant"}">${accepted ? "open again" : "accept"}</button>`;
+  const why = accepted ? `<br><small>${escapeText(accepted.reason)}`
+    + `${accepted.who ? ` (${unbroken(accepted.who)})` : ""}</small>` : "";
+  return row(linkOf(finding, board.list.names),
+    [finding.name, `${escapeText(finding.words.join(" "))} ${button}${why}`],
+    `${accepted ? "accepted" : finding.level}${isTold ? " on" : ""}`);
+}
+
+/** The findings of the page and of the check. */
+const allFindings = () => [...shown.rails, ...board.findings];
+
+/** How many of some findings are open, and how many accepted, in words. */
+function countWords(found) {
+  const accepted = found.filter((it) => shown.accepted.has(findingLine(it))).length;
+  return `${found.length - accepted}${accepted ? ` and ${accepted} accepted` : ""}`;
 }
 
 /** The findings of the check, those of the page, and where drawing and net list disagree. */
@@ -62,10 +78,15 @@ function findingTable() {
   }
   const told = odd.length ? `<div class="odd">${odd.map(escapeText).join("<br>")}</div>` : "";
   const byRule = new Map();
-  for (const it of [...shown.rails, ...board.findings]) {
+  for (const it of allFindings()) {
     byRule.set(it.name, [...(byRule.get(it.name) || []), it]);
   }
   return told + [...byRule].map(([name, found]) => foldedRule(name, found)).join("");
+}
+
+function acceptedLast(found) {
+  const isAccepted = (it) => shown.accepted.has(findingLine(it));
+  return [...found.filter((it) => !isAccepted(it)), ...found.filter(isAccepted)];
 }
 
 /** The findings of one rule, folded where they are many and none of them is what is looked at. */
@@ -74,8 +95,8 @@ function foldedRule(name, found) {
   const isOpen = isTold || (shown.unfolded.get(name) ?? found.length <= MOST_UNFOLDED);
   const sentence = RULES[name] ? ` <small>${escapeText(RULES[name])}</small>` : "";
   return `<details data-rule="${escapeText(name)}"${isOpen ? " open" : ""}><summary>`
-    + `<b>${escapeText(name)}</b> ${found.length}${sentence}</summary>`
-    + `${table(found, findingRow)}</details>`;
+    + `<b>${escapeText(name)}</b> ${countWords(found)}${sentence}</summary>`
+    + `${table(acceptedLast(found), findingRow)}</details>`;
 }
 
 /** The chosen object with its attributes, of which the attached ones can be changed. */
@@ -187,7 +208,7 @@ export function showList() {
 
 function showTabs() {
   const { nets, parts } = board.list;
-  const findings = board.findings.length + shown.rails.length;
+  const findings = countWords(allFindings());
   const counts = { nets: nets.length, findings, parts: parts.length,
     reviews: openReviews() };
   const isSearch = byId("search").value.trim() !== "";

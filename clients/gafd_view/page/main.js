@@ -1,5 +1,6 @@
 // The page begins here.
 
+import { listenToAccepting } from "./accepting.js";
 import { listenToFields, recall } from "./fields.js";
 import { followServer } from "./following.js";
 import { fontSizes } from "./font.js";
@@ -21,5 +22,6 @@ followServer();
 board.readAbout().then(() => {
   document.body.classList.toggle("looking", !board.about.edits);
   byId("tabs").querySelector('[data-tab="history"]').hidden = board.about.kind === "folder";
+  listenToAccepting();
   if (board.about.reviews) followReviews();
 }, () => {});

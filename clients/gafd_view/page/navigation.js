@@ -1,11 +1,12 @@
 // Opening instances, and leading to what a list or the address names: `net:GND`, `part:R4`,
-// `pin:R4-1`, `id:SHEET:12`, `symbol:SHEET:res.sym`, `sheet:SHEET` or `at:SHEET@PATH`.
+// `pin:R4-1`, `id:SHEET:12`, `symbol:SHEET:res.sym`, `place:SHEET:X,Y`, `sheet:SHEET` or
+// `at:SHEET@PATH`.
 
 import { keepAddress, namedInstance } from "./address.js";
 import { compareWith, endComparison } from "./comparing.js";
 import { freshen, showNets } from "./following.js";
 import { showList, showTrail } from "./lists.js";
-import { drawAll, elementOf, light, showObjects } from "./picture.js";
+import { drawAll, elementOf, light, showObjects, showPlace } from "./picture.js";
 import { board, byId, instanceOf, notice, sheetOf, shown, shownObjects } from "./state.js";
 
 /** Opens an instance. */
@@ -85,6 +86,15 @@ async function goToSymbol(text) {
   showObjects(shownObjects().filter((it) => it.basename === basename.join(":")).map((it) => it.id));
 }
 
+/** Goes to a place of a sheet, as SHEET:X,Y with y up. */
+async function goToPlace(text) {
+  const at = text.lastIndexOf(":");
+  const sheet = text.slice(0, at);
+  if (!board.counts.has(sheet)) return notice("there is no such sheet");
+  if (sheet !== shown.at.sheet) await open(instanceOf(sheet));
+  return showPlace(text.slice(at + 1));
+}
+
 /** Goes to a printed part or pin; sheets that may have changed are read before. */
 async function goToPrinted(kind, name) {
   if (!board.places[kind].has(name)) await freshen();
@@ -100,6 +110,7 @@ const LINKS = {
   pin: (pin) => goToPrinted("pins", pin),
   id: goToId,
   symbol: goToSymbol,
+  place: goToPlace,
 };
 
 /** Lights a net, and goes to where it is: on the shown sheet, else at its first pin. */

@@ -2,7 +2,7 @@
 
 import { cuesOf, drawCues } from "./cues.js";
 import { drawObject, drawSheet } from "./drawing.js";
-import { findingText, findingsAt } from "./findings.js";
+import { findingLine, findingText, findingsAt } from "./findings.js";
 import { newCanvas } from "./canvas.js";
 import { placesOf } from "./instances.js";
 import { board, byId, fill, shown, shownInstance, shownObjects } from "./state.js";
@@ -124,7 +124,28 @@ function pointsOfKeys() {
     .map((it) => [it.key, [(it.x1 + it.x2) / 2, -(it.y1 + it.y2) / 2]]));
 }
 
-/** Marks the parts and pins that have a finding, each with its words. */
+/** A place that is written as X,Y with y up, with y down; or null. */
+function placeIn(text) {
+  if (!text.includes(",")) return null;
+  const [x, y] = text.split(",").map(Number);
+  return [x, -y];
+}
+
+/** The upper left corner of an object's drawing, or null. */
+function cornerOf(id) {
+  const box = elementOf(id)?.getBBox();
+  return box ? [box.x, box.y] : null;
+}
+
+/** Brings a place, as X,Y with y up, into the middle, and frames it for a while. */
+export function showPlace(text) {
+  const [x, y] = placeIn(text);
+  const boxes = [{ x: x - FRAME, y: y - FRAME, width: 2 * FRAME, height: 2 * FRAME }];
+  bringIn(boxes);
+  frame(boxes, "here", 6);
+}
+
+/** Marks the parts, pins and places that have a finding, each with its words. */
 export function drawFindings() {
   const instance = shownInstance();
   const objects = shownObjects();
@@ -133,16 +154,17 @@ export function drawFindings() {
     { instance, objects, places, groups: shown.nets.groups, symbols: board.symbols });
   const points = pointsOfKeys();
   fill("findings", [...spots].slice(0, MOST_FLAGS).map(([spot, found]) => {
-    const box = points.has(spot) ? null : elementOf(spot)?.getBBox();
-    const point = points.get(spot) || (box ? [box.x, box.y] : null);
+    const point = points.get(spot) || placeIn(spot) || cornerOf(spot);
     return point ? drawFlag(point, found) : "";
   }).join(""));
 }
 
 function drawFlag([x, y], found) {
-  const level = found.some((it) => it.level === "error") ? "error" : "warning";
+  const open = found.filter((it) => !shown.accepted.has(findingLine(it)));
+  const level = open.some((it) => it.level === "error") ? "error"
+    : open.length ? "warning" : "accepted";
   const words = escapeText(found.map(findingText).join("\n"));
-  const first = escapeText(findingText(found[0]));
+  const first = escapeText(findingText((open.length ? open : found)[0]));
   return `<g class="finding ${level}" data-finding="${first}"><title>${words}</title>`
     + `<path d="M${x} ${y}l${FLAG / 2} ${-FLAG}h${-FLAG}z"/></g>`;
 }

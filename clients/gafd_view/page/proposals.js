@@ -1,6 +1,7 @@
 // Proposals and notes, which lie beside the board; and the board with a proposal beside the board
 // without it, as the program makes both.
 
+import { takeAccepted } from "./accepting.js";
 import { readSheetBy, symbolNames } from "./board.js";
 import { newCanvas } from "./canvas.js";
 import { changesOf, netListChanges } from "./changes.js";
@@ -19,7 +20,7 @@ import { changeWords, label } from "./words.js";
 const EVERY = 4000;
 const WAITING = ["open", "stale", "being accepted"];
 
-let reviews = { proposals: [], notes: [] };
+let reviews = { proposals: [], notes: [], accepted: [] };
 
 /** How many proposals wait for somebody, and notes are open. */
 export function openReviews() {
@@ -167,7 +168,7 @@ async function readReviews() {
   const told = await askView("reviews");
   if (!told || JSON.stringify(told) === JSON.stringify(reviews)) return;
   reviews = told;
-  showList();
+  takeAccepted(reviews.accepted);
 }
 
 /** Follows the reviews of the board from now on, and listens to who looks at one. */

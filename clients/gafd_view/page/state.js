@@ -22,6 +22,8 @@ export const shown = {
   tab: "nets",
   sizes: null,
   rails: [],
+  /** The findings that are accepted by their lines, each with who did so, when and why. */
+  accepted: new Map(),
   comparison: null,
   /** Whether the findings of a rule are unfolded, of each that somebody folded or unfolded. */
   unfolded: new Map(),

@@ -116,6 +116,39 @@ class Reviews(ReviewCase):
         page.until(lambda: page.text("trail") == "stereo.sch")
         self.assertEqual(len(page.all("#drawn .chosen")), 1)
 
+    def test_a_finding_is_accepted_and_opened_again(self):
+        self.ann.edit(kind="add_object", sheet="stereo.sch", text="C 44000 43000 1 0 0 res.sym\n")
+        page = self.page()
+        page.tab("findings")
+        page.until(lambda: page.all("#findings .finding"))
+        before = int(page.one('[data-tab="findings"]').text.split()[1])
+        line = page.one("#list [data-accept]").get_attribute("data-accept")
+        row = f'#list tr:has([data-accept="{line}"])'
+        page.act().move_to_element(page.one(row)).perform()
+        page.one(f"{row} button").click()
+        self.assertEqual(page.text("accepting-finding"), line)
+        page.one("#accepting-reason").send_keys("a test point <b>")
+        page.one("#accepting-who").send_keys("ann")
+        self.pictured(page, "accepting")
+        page.one('#accepting [value="accept"]').click()
+        page.until(lambda: page.all("#list .accepted"))
+        self.assertIn("a test point <b> (ann)", page.one("#list .accepted").text)
+        self.assertEqual(page.one('[data-tab="findings"]').text,
+                         f"check {before - 1} and 1 accepted")
+        self.pictured(page, "accepted")
+        kept = self.reviews / "accepted"
+        above, told = kept.read_text().splitlines()
+        self.assertRegex(above, "# ann [0-9TZ:-]+: a test point <b>")
+        self.assertEqual(told, line)
+        kept.write_text(kept.read_text().replace("test point", "spare"))
+        page.until(lambda: "a spare <b> (ann)" in page.text("list"))
+        self.assertEqual(len(page.all("#findings .accepted")), 1)
+        page.act().move_to_element(page.one("#list .accepted")).perform()
+        page.one("#list .accepted button").click()
+        page.until(lambda: page.one('[data-tab="findings"]').text == f"check {before}")
+        self.assertEqual(kept.read_text(), "")
+        self.assertEqual(page.faults(), [])
+
 
 if __name__ == "__main__":
     if missing() or served.program() is None:
