@@ -139,11 +139,30 @@ class PastTest(ViewLaboratory):
             self.assertEqual(names, {path.name for path in self.bob.folder.glob("[!.]*")})
             self.assertEqual(self.ann(*words, "0", name + "_none")[0], 0)
 
+    def test_any_two_moments_are_compared(self):
+        store = str(self.server.store)
+        told = [self.ann(*words) for words in (["compare", "--store", store, "9", "11"],
+                                               ["--view", self.view, "compare", "11", "9"])]
+        for (status, said), who in zip(told, ("ann", "others")):
+            self.assertEqual(status, 1, said)
+            for line in (f"preamp.sch: changed by {who}: ", "    -value=1k", "    +value=2k",
+                         f"res.sym: changed by {who}", "    +footprint=ACY300",
+                         "nets: parts 8 nets 10 before, parts 8 nets 10 after",
+                         "    < part R3 RESISTOR 1k ACY400", "    > part R3 RESISTOR 2k ACY300",
+                         "check: errors 1 warnings 0 before, errors 1 warnings 0 after"):
+                self.assertIn(line, said)
+        status, said = self.ann("compare", "--store", store, "11", "11")
+        self.assertEqual((status, len(said.splitlines())), (0, 2), said)
+        status, said = self.ann("compare", "--store", store, "0", "1")
+        self.assertEqual((status, " added by ann" in said), (1, True), said)
+
     def test_what_cannot_be_written_is_told(self):
         cases = [
             (["--view", self.view, "at", "12", "late"], 1, "has no 12 edits"),
             (["at", "--store", self.server.store, "12", "late"], 1, "has no 12 rows"),
             (["at", "1", "then"], 2, "which board?"),
+            (["compare", "1", "2"], 2, "which board?"),
+            (["compare", "--store", self.server.store, "1", "12"], 1, "has no 12 rows"),
             (["--view", self.view, "at", "9", "."], 1, ". is not empty"),
             (["--view", self.view, "at", "x", "then"], 2, "no number of edits"),
         ]

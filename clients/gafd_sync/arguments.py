@@ -11,6 +11,7 @@ from typing import Callable, NamedTuple
 from .accepting import accept, withdraw
 from .boards import at
 from .commands import copy, diff, ids, renumber, sheets
+from .comparing import compare
 from .folder import Folder
 from .notes import note, notes, resolve
 from .proposals import proposals, propose
@@ -65,6 +66,9 @@ symbol's name ends in .sym.
   at N FOLDER           writes the board as it was after N edits into an empty FOLDER: from the
                         gafd_view that --view names, or with --store STORE from a store or a copy,
                         for which it calls `gafd`. It asks no server
+  compare N M           prints in what the boards after N and after M edits differ, over all sheets:
+                        objects, symbols, nets and findings; from the gafd_view that --view names,
+                        or with --store STORE, as `at`. Status 1 where they differ
   copy URL              puts all sheets and their symbols into the empty server at URL, and compares
                         the netlists of both
   history STORE [ID...] prints the edits of a store, or of a copy, a line each; with IDs those that
@@ -155,6 +159,7 @@ WORDS: dict[str, dict] = {
     "TEXT": {"dest": "text"},
     "NUMBER": {"dest": "count", "type": a_count},
     "N": {"dest": "edits", "type": a_number},
+    "M": {"dest": "later", "type": a_number},
     "[N]": {"dest": "count", "type": a_count, "nargs": "?", "default": 1},
     "[ID...]": {"dest": "ids", "type": int, "nargs": "*"},
     "SERIAL": {"dest": "serial", "type": int},
@@ -188,6 +193,7 @@ COMMANDS = {
     "ids": Command(ids, [], ["FILE"]),
     "copy": Command(copy, [], ["URL"]),
     "at": Command(at, ["--store"], ["N", "FOLDER"], False),
+    "compare": Command(compare, ["--store"], ["N", "M"], False),
     "history": Command(history, [], ["STORE", "[ID...]"], False),
     "backup": Command(backup, [], ["STORE", "FOLDER"], False),
     "check": Command(check, [], ["STORE"], False),

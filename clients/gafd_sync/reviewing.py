@@ -52,8 +52,13 @@ def look_at(server, files):
     found = {}
     for name in files:
         found[name] = server.symbol(name) if name.endswith(".sym") else server.sheet(name)
-    reports = (server.ask("GET", path) for path in ("/netlist/list", "/drc"))
-    return Look(found, *(reply.text if reply.status == 200 else reply.start for reply in reports))
+    return Look(found, *reports(server))
+
+
+def reports(server):
+    """The net list and the check of a server, or how it refuses one."""
+    replies = (server.ask("GET", path) for path in ("/netlist/list", "/drc"))
+    return [reply.text if reply.status == 200 else reply.start for reply in replies]
 
 
 def link_rows(rows, count, room):
@@ -141,6 +146,11 @@ def show_outcome(proposal, before, after):
     for name in proposal.files:
         show = show_symbol if name.endswith(".sym") else show_sheet
         show(name, proposal.who, before.files[name], after.files[name])
+    show_reports(before, after)
+
+
+def show_reports(before, after):
+    """Prints what comes and goes in the nets and in the check."""
     print(f"nets: {net_counts(before.nets)} before, {net_counts(after.nets)} after")
     for line in net_differences(before.nets, after.nets):
         print(f"    {line}")

@@ -1,99 +1,113 @@
-// Two fronts beside each other: what was added to the shown sheet since an earlier front, what is
-// gone, and what changed, in three colours; and what the net lists differ in.
+// Two moments of the history beside each other, or one and now: on all sheets what was added, is gone
+// and changed, in three colours; and what the net lists and the checks differ in.
 
 import { keepAddress } from "./address.js";
-import { readSheetBy, symbolNames } from "./board.js";
 import { newCanvas } from "./canvas.js";
-import { changesOf, netListChanges } from "./changes.js";
+import { netListChanges } from "./changes.js";
 import { drawObject } from "./drawing.js";
 import { showList } from "./lists.js";
-import { readNetList } from "./nets.js";
-import { readObjects } from "./objects.js";
 import { elementOf } from "./picture.js";
-import { askPast, forEachAtOnce } from "./server.js";
-import { board, byId, fill, instanceOf, notice, shown, shownObjects } from "./state.js";
+import { askPast, askView } from "./server.js";
+import { boardNow, findingRows, readSide, sheetChanges } from "./sides.js";
+import { board, byId, instanceOf, notice, shown } from "./state.js";
 import { escapeText, unbroken } from "./texts.js";
 import { changeWords, label } from "./words.js";
 
 const STEP = 1;
 
-/** The symbols of some objects as they were, and the names of those that are others now. */
-async function pastSymbols(ask, objects) {
-  const [symbols, others] = [new Map(), new Set()];
-  await forEachAtOnce(symbolNames(objects), async (name) => {
-    const { status, text } = await ask(`symbols/${encodeURIComponent(name)}`);
-    if (status === 200) symbols.set(name, readObjects(text));
-    if ((status === 200 ? text : null) !== (board.symbolTexts.get(name) ?? null)) others.add(name);
-  });
-  return { symbols, others };
+/** The sheets that may differ between a front and any later one, the shown one among them. */
+async function sheetsSince(front) {
+  const told = await askView(`changed?from=${front}`);
+  if (!told?.sheets) return board.names;
+  const names = ({ letter, basename }) => letter === "C" && told.symbols.includes(basename);
+  const placed = told.symbols.length
+    ? [...board.sheets].filter(([, objects]) => objects.some(names)).map(([name]) => name) : [];
+  return [...new Set([shown.at.sheet, ...told.sheets, ...placed])];
 }
 
-/** What changed since: objects, and components of which the symbol is another now. */
-function changesSince({ objects, others }) {
-  const changes = changesOf(objects, shownObjects());
-  const told = new Set(changes.changed.map(([was]) => was.id));
-  const now = new Map(shownObjects().map((it) => [it.id, it]));
-  const placed = objects.filter((it) => it.letter === "C" && !it.parts && others.has(it.basename)
-    && now.has(it.id) && !told.has(it.id));
-  return { ...changes, placed: placed.map((it) => [it, now.get(it.id)]) };
-}
+const momentWords = (front) => (front === null ? "now" : `after ${front} edits`);
 
-/** Compares the shown sheet with what it was after so many edits. */
-export async function compareWith(front) {
-  const { sheet } = shown.at;
+/** Compares the board as it was after so many edits with what it was after others, or is now. */
+export async function compareWith(one, other = null) {
+  const [front, to] = other === null || one <= other ? [one, other] : [other, one];
   notice(`reading the board as it was after ${front} edits`, 20);
   try {
-    const ask = askPast(front);
-    const [past, list] = await Promise.all([readSheetBy(ask, sheet), ask("netlist/list")]);
-    const objects = past.objects || [];
-    const { symbols, others } = await pastSymbols(ask, objects);
-    if (shown.at.sheet !== sheet) return;
-    const pastList = list.status === 200 ? readNetList(list.text) : null;
-    shown.comparison = { front, sheet, objects, symbols, others, list: pastList };
+    const names = await sheetsSince(front);
+    const [before, after] = await Promise.all([readSide(askPast(front), names),
+      to === null ? null : readSide(askPast(to), names)]);
+    if (shown.comparison) endComparison();
+    shown.comparison = { front, to, names, before, after };
     keepAddress();
     showComparison();
-    notice(`added, gone and changed since edit ${front}; Escape ends it`, 6);
+    notice(`added, gone and changed from edit ${front} to ${to ?? "now"}; Escape ends it`, 6);
   } catch (error) {
-    notice(`the board as it was after ${front} edits cannot be read: ${error.message}`);
+    notice(`the board ${momentWords(front)} and ${momentWords(to)} cannot be compared: `
+      + error.message);
   }
+}
+
+/** Takes the marks of a comparison from the sheet. */
+function clearMarks() {
+  byId("past").innerHTML = "";
+  for (const name of ["is-added", "is-changed"]) {
+    for (const one of byId("drawn").querySelectorAll(`.${name}`)) one.classList.remove(name);
+  }
+  document.body.classList.remove("comparing", "two-past");
 }
 
 /** Ends the comparison. */
 export function endComparison() {
   shown.comparison = null;
   keepAddress();
-  byId("past").innerHTML = "";
-  for (const name of ["is-added", "is-changed"]) {
-    for (const one of byId("drawn").querySelectorAll(`.${name}`)) one.classList.remove(name);
-  }
-  document.body.classList.remove("comparing");
+  clearMarks();
   showList();
 }
 
-/**
- * Shows the comparison with what the sheet is now; one of another sheet is ended, or begun anew.
- */
+/** Draws an object of a board that is not the one now. */
+function drawPast(object, canvas, kind) {
+  return `<g class="${kind}">${drawObject({ ...object, id: `past${object.id}` }, canvas)}</g>`;
+}
+
+/** What is gone and what was, as the earlier board has it; by what it is, as the later one does. */
+export function pastObjects({ changed, placed, gone }, canvas) {
+  return [...gone.map((it) => drawPast(it, canvas, "is-gone")),
+    ...[...changed, ...placed].map(([was]) => drawPast(was, canvas, "was"))].join("");
+}
+
+/** A sheet as a later board has it that is not the one now, whole. */
+export function laterObjects(objects, { added, changed, placed }, canvas) {
+  const kinds = new Map([...added.map((it) => [it.id, "is-added"]),
+    ...[...changed, ...placed].map(([, is]) => [is.id, "is-changed"])]);
+  return objects.map((it) => drawPast(it, canvas, kinds.get(it.id) || "same")).join("");
+}
+
+/** Shows the comparison on the shown sheet. A proposal is looked at on one sheet alone. */
 export function showComparison() {
   const { comparison } = shown;
   if (!comparison) return undefined;
-  if (comparison.sheet !== shown.at.sheet) {
-    endComparison();
-    return compareWith(comparison.front);
-  }
-  const changes = changesSince(comparison);
-  const { added, gone } = changes;
-  const changed = [...changes.changed, ...changes.placed];
-  const canvas = newCanvas(comparison.symbols, shown.sizes);
-  const draw = (object, kind) => {
-    const drawn = drawObject({ ...object, id: `past${object.id}` }, canvas);
-    return `<g class="${kind}">${drawn}</g>`;
-  };
-  const past = changed.map(([was]) => draw(was, "was"));
-  byId("past").innerHTML = [...gone.map((it) => draw(it, "is-gone")), ...past].join("");
-  for (const object of added) elementOf(object.id)?.classList.add("is-added");
-  for (const [, object] of changed) elementOf(object.id)?.classList.add("is-changed");
+  const { sheet } = shown.at;
+  if (comparison.proposal) return comparison.sheet === sheet ? undefined : endComparison();
+  clearMarks();
+  const { before } = comparison;
+  const after = comparison.after || boardNow();
+  // Of a sheet that nobody changed since, what is drawn is what was.
+  const isTold = comparison.names.includes(sheet);
+  const changes = isTold ? sheetChanges(before, after, sheet)
+    : { added: [], changed: [], placed: [], gone: [] };
+  const past = pastObjects(changes, newCanvas(before.symbols, shown.sizes));
   document.body.classList.add("comparing");
-  return listChanges(comparison, changes);
+  if (comparison.after && isTold) {
+    document.body.classList.add("two-past");
+    byId("past").innerHTML = past + laterObjects(after.sheets.get(sheet) || [], changes,
+      newCanvas(after.symbols, shown.sizes));
+  } else {
+    byId("past").innerHTML = past;
+    for (const object of changes.added) elementOf(object.id)?.classList.add("is-added");
+    for (const [, object] of [...changes.changed, ...changes.placed]) {
+      elementOf(object.id)?.classList.add("is-changed");
+    }
+  }
+  return listChanges(comparison, after, changes);
 }
 
 /** A row of what changed. */
@@ -115,22 +129,56 @@ export function netLines({ changed, gone, added }) {
   });
 }
 
-/** The changes of the sheet, and those of the net list, in place of the other lists. */
-function listChanges({ front, sheet, list }, { changed, placed, added, gone }) {
+/** The changes of one sheet as rows. */
+export function sheetRows(sheet, { added, changed, placed, gone }) {
   const at = instanceOf(sheet);
-  const rows = [
+  return [
     ...added.map((it) => row("added", label(it, at), `id:${sheet}:${it.id}`)),
     ...changed.map(([was, is]) => row("changed", changeWords(was, is, at), `id:${sheet}:${is.id}`)),
     ...placed.map(([, is]) => row("changed", `${label(is, at)}: its symbol ${is.basename}`,
       `id:${sheet}:${is.id}`)),
     ...gone.map((it) => row("gone", label(it, at))),
-  ];
-  const lines = list ? netLines(netListChanges(list, board.list)) : [];
-  fill("list", `<p><b>${escapeText(sheet)}</b> since edit ${front} `
+  ].join("");
+}
+
+/** How the nets, parts and findings of two boards differ. */
+export function reportTables(before, after) {
+  const nothing = "<tr><td>nothing changed</td></tr>";
+  return "<p>parts and nets of the board</p>"
+    + `<table class="netdiff">${netLines(netListChanges(before.list, after.list)).join("") || nothing}</table>`
+    + `<p>check of the board</p><table>${findingRows(before, after) || nothing}</table>`;
+}
+
+/** A line for each sheet that changed, with how much. */
+function overview({ names, before }, after) {
+  const lines = names.map((name) => [name, sheetChanges(before, after, name)])
+    .map(([name, { added, changed, placed, gone }]) =>
+      [name, added.length, changed.length + placed.length, gone.length])
+    .filter(([, ...counts]) => counts.some((it) => it))
+    .map(([name, added, changed, gone]) => `<tr data-link="sheet:${escapeText(name)}" tabindex="0" `
+      + `role="link"${name === shown.at.sheet ? ' class="on"' : ""}><td>${escapeText(name)}</td>`
+      + `<td>${added} added, ${changed} changed, ${gone} gone</td></tr>`);
+  return `<table>${lines.join("") || "<tr><td>no sheet changed</td></tr>"}</table>`;
+}
+
+/** The fields by which two moments are chosen; an empty second one is now. */
+export function momentFields(front = "", to = null) {
+  return '<form class="moments"><label>from edit <input name="front" type="number" min="0" required '
+    + `value="${front}"></label> <label>to <input name="to" type="number" min="0" `
+    + `placeholder="now" value="${to ?? ""}"></label> <button>compare</button></form>`;
+}
+
+/** The changes of the shown sheet and of the others, and of the reports, in place of other lists. */
+function listChanges(comparison, after, changes) {
+  const { front, to, before } = comparison;
+  const { sheet } = shown.at;
+  const until = to === null ? "" : ` to edit ${to}`;
+  byId("list").innerHTML = `<p><b>${escapeText(sheet)}</b> since edit ${front}${until} `
     + '<button id="end-comparison">end</button></p>'
+    + momentFields(front, to)
     + `<p><button data-compare="${Math.max(0, front - STEP)}">one earlier</button> `
     + `<button data-compare="${front + STEP}">one later</button></p>`
-    + `<table>${rows.join("") || "<tr><td>nothing changed on it</td></tr>"}</table>`
-    + "<p>parts and nets of the board</p>"
-    + `<table>${lines.join("") || "<tr><td>nothing changed</td></tr>"}</table>`);
+    + `<table>${sheetRows(sheet, changes) || "<tr><td>nothing changed on it</td></tr>"}</table>`
+    + `<p>sheets of the board</p>${overview(comparison, after)}`
+    + reportTables(before, after);
 }

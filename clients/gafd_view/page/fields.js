@@ -61,7 +61,9 @@ function pressedSomething({ target }) {
   const accept = target.closest("[data-accept]")?.dataset.accept;
   if (accept !== undefined) return acceptOrNot(accept);
   const link = target.closest("[data-compare], [data-link]");
-  if (link?.dataset.compare !== undefined) return compareWith(Number(link.dataset.compare));
+  if (link?.dataset.compare !== undefined) {
+    return compareWith(Number(link.dataset.compare), shown.comparison?.to ?? null);
+  }
   if (target.id === "end-comparison") return endComparison();
   if (link) return follow(link.dataset.link);
   const { drop, of } = target.dataset;
@@ -103,8 +105,13 @@ function listenToLists() {
     showList();
   });
   byId("list").addEventListener("focusin", () => { baseOfField = editing.shownFront(); });
-  byId("list").addEventListener("change", ({ target }) => board.about.edits
+  byId("list").addEventListener("change", ({ target }) => board.about.edits && target.dataset.of
     && document.body.classList.contains("editing") && fieldChanged(target));
+  byId("list").addEventListener("submit", (event) => {
+    event.preventDefault();
+    const { front, to } = event.target.elements;
+    compareWith(Number(front.value), to.value === "" ? null : Number(to.value));
+  });
 }
 
 /** Listens to buttons and fields. */

@@ -1,5 +1,6 @@
 // Following the server: what changed is read, drawn, and told with who did it.
 
+import { showComparison } from "./comparing.js";
 import { addRails, railsThatMeet } from "./findings.js";
 import { showList, showTrail } from "./lists.js";
 import { netsIn } from "./nets.js";
@@ -198,6 +199,7 @@ export function showNets() {
   if (board.fronts.get(shown.at.sheet) !== board.listFront) shown.nets.disagreements = [];
   light();
   drawFindings();
+  showComparison();
   showList();
 }
 

@@ -2,6 +2,7 @@
 // trail down to the shown instance.
 
 import { attributesAmong, symbolParts } from "./attributes.js";
+import { momentFields } from "./comparing.js";
 import { findingLine, findingText, linkOf } from "./findings.js";
 import { printed } from "./instances.js";
 import { pinsOf } from "./placing.js";
@@ -162,7 +163,7 @@ function historyRow({ serial, session, time, edit }) {
 
 function historyTable() {
   if (!board.about.history) return "<p><small>there is no history here</small></p>";
-  return table([...board.history].reverse(), historyRow);
+  return (board.about.past ? momentFields() : "") + table([...board.history].reverse(), historyRow);
 }
 
 /** All that has the words of the search in it. */

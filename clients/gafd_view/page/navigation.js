@@ -130,7 +130,8 @@ export async function goToAddress({ at, links, compare }) {
     else await follow(link);
   }
   if (compare === null && shown.comparison) endComparison();
-  else if (compare !== null && shown.comparison?.front !== compare) await compareWith(compare);
+  else if (compare !== null && (shown.comparison?.front !== compare.front
+    || shown.comparison.to !== compare.to)) await compareWith(compare.front, compare.to);
 }
 
 /** Follows a link of a list. */

@@ -2,20 +2,14 @@
 // without it, as the program makes both.
 
 import { takeAccepted } from "./accepting.js";
-import { readSheetBy, symbolNames } from "./board.js";
 import { newCanvas } from "./canvas.js";
-import { changesOf, netListChanges } from "./changes.js";
-import { endComparison, netLines, row } from "./comparing.js";
-import { drawObject } from "./drawing.js";
-import { findingText, readFindings } from "./findings.js";
+import { endComparison, laterObjects, pastObjects, reportTables, sheetRows } from "./comparing.js";
 import { showList } from "./lists.js";
 import { open } from "./navigation.js";
-import { readNetList } from "./nets.js";
-import { readObjects } from "./objects.js";
-import { askBoard, askPast, askProposed, askView, forEachAtOnce } from "./server.js";
+import { askBoard, askPast, askProposed, askView } from "./server.js";
+import { readSide, sheetChanges } from "./sides.js";
 import { board, byId, instanceOf, notice, shown } from "./state.js";
 import { escapeText, unbroken } from "./texts.js";
-import { changeWords, label } from "./words.js";
 
 const EVERY = 4000;
 const WAITING = ["open", "stale", "being accepted"];
@@ -58,23 +52,6 @@ export function reviewTable() {
     + `<table>${reviews.notes.map(noteRow).join("") || "<tr><td>none is open</td></tr>"}</table>`;
 }
 
-/** A board as far as a proposal is looked at: a sheet with its symbols, the net list, the check. */
-async function readSide(ask, sheet) {
-  const [read, list, drc] = await Promise.all([readSheetBy(ask, sheet), ask("netlist/list"),
-    ask("drc")]);
-  const [objects, symbols, texts] = [read.objects || [], new Map(), new Map()];
-  await forEachAtOnce(symbolNames(objects), async (name) => {
-    const { status, text } = await ask(`symbols/${encodeURIComponent(name)}`);
-    if (status !== 200) return;
-    symbols.set(name, readObjects(text));
-    texts.set(name, text);
-  });
-  return { objects, symbols, texts,
-    list: readNetList(list.status === 200 ? list.text : "parts 0\nnets 0\n"),
-    findings: drc.status === 200 ? readFindings(drc.text).map((it) => it.level + " "
-      + findingText(it)) : [] };
-}
-
 /** Looks at a proposal on one of the sheets that it changes. */
 async function lookAt(name, asked = null) {
   const { files } = reviews.proposals.find((it) => it.name === name);
@@ -88,8 +65,8 @@ async function lookAt(name, asked = null) {
     if (!told) throw new Error("the page has no store, or no program");
     if (told.front === null) throw new Error(told.against.join(" "));
     const before = told.front === board.front ? askBoard : askPast(told.front);
-    const sides = await Promise.all([readSide(before, sheet),
-      readSide(askProposed(name, told.now), sheet)]);
+    const sides = await Promise.all([readSide(before, [sheet]),
+      readSide(askProposed(name, told.now), [sheet])]);
     if (shown.at.sheet !== sheet) return;
     if (shown.comparison) endComparison();
     shown.comparison = { proposal: name, sheet };
@@ -100,36 +77,16 @@ async function lookAt(name, asked = null) {
   }
 }
 
-/** What a proposal does to a sheet: objects, and components whose symbol it changes. */
-function changesBy(before, after) {
-  const changes = changesOf(before.objects, after.objects);
-  const now = new Map(after.objects.map((it) => [it.id, it]));
-  const told = new Set(changes.changed.map(([was]) => was.id));
-  const isOther = ({ letter, parts, basename }) => letter === "C" && !parts
-    && before.texts.get(basename) !== after.texts.get(basename);
-  const placed = before.objects.filter((it) => isOther(it) && now.has(it.id) && !told.has(it.id))
-    .map((it) => [it, now.get(it.id)]);
-  return { ...changes, placed };
-}
-
 function showProposal(name, sheet, told, before, after) {
-  const changes = changesBy(before, after);
+  const changes = sheetChanges(before, after, sheet);
   const [old, now] = [before, after].map((it) => newCanvas(it.symbols, shown.sizes));
-  const draw = (object, canvas, kind) => `<g class="${kind}">`
-    + `${drawObject({ ...object, id: `past${object.id}` }, canvas)}</g>`;
-  byId("past").innerHTML = [
-    ...changes.gone.map((it) => draw(it, old, "is-gone")),
-    ...[...changes.changed, ...changes.placed]
-      .flatMap(([was, is]) => [draw(was, old, "was"), draw(is, now, "is-changed")]),
-    ...changes.added.map((it) => draw(it, now, "is-added")),
-  ].join("");
+  const { added, changed, placed } = changes;
+  const later = [...added, ...[...changed, ...placed].map(([, is]) => is)];
+  byId("past").innerHTML = pastObjects(changes, old) + laterObjects(later, changes, now);
   document.body.classList.add("comparing");
-  byId("list").innerHTML = headOf(name, sheet, told) + sheetRows(sheet, changes)
-    + "<p>parts and nets of the board</p>"
-    + `<table>${netLines(netListChanges(before.list, after.list)).join("")
-      || "<tr><td>nothing changed</td></tr>"}</table>`
-    + `<p>check of the board</p><table>${findingRows(before.findings, after.findings)
-      || "<tr><td>nothing changed</td></tr>"}</table>`;
+  byId("list").innerHTML = headOf(name, sheet, told)
+    + `<table>${sheetRows(sheet, changes) || "<tr><td>nothing changes on it</td></tr>"}</table>`
+    + reportTables(before, after);
 }
 
 /** Who proposed what, on which sheets, and what stands against it. */
@@ -143,24 +100,6 @@ function headOf(name, sheet, { against, front, now }) {
   return `<p><b>${escapeText(name)}</b> ${escapeText(state)}, by ${unbroken(who)} `
     + `<button id="end-comparison">end</button></p><p>${lines(message)}</p>${why}${meant}`
     + `<p>changes ${sheets.join(", ")}</p><p><b>${escapeText(sheet)}</b></p>`;
-}
-
-function sheetRows(sheet, { added, changed, placed, gone }) {
-  const at = instanceOf(sheet);
-  const rows = [
-    ...added.map((it) => row("added", label(it, at))),
-    ...changed.map(([was, is]) => row("changed", changeWords(was, is, at), `id:${sheet}:${is.id}`)),
-    ...placed.map(([, is]) => row("changed", `${label(is, at)}: its symbol ${is.basename}`,
-      `id:${sheet}:${is.id}`)),
-    ...gone.map((it) => row("gone", label(it, at), `id:${sheet}:${it.id}`)),
-  ];
-  return `<table>${rows.join("") || "<tr><td>nothing changes on it</td></tr>"}</table>`;
-}
-
-function findingRows(before, after) {
-  const only = (one, other, sign, kind) => one.filter((it) => !other.includes(it))
-    .map((it) => `<tr class="${kind}"><td>${sign}</td><td>${escapeText(it)}</td></tr>`);
-  return [...only(after, before, "+", "added"), ...only(before, after, "-", "gone")].join("");
 }
 
 /** Reads what came, and shows it. */

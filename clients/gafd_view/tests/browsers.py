@@ -138,6 +138,11 @@ class Page:
         log = [it for it in self.driver.get_log("browser") if here in it["message"]]
         return [it for it in log if not any(one in it["message"] for one in expected)]
 
+    def pictured(self, name):
+        """Puts a picture of the page into the folder that PICTURES names, where it does."""
+        if os.environ.get("PICTURES"):
+            self.driver.save_screenshot(os.path.join(os.environ["PICTURES"], name + ".png"))
+
     def address(self):
         """What stands behind the address of the page."""
         return self.script("return location.hash")

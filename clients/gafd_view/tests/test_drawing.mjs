@@ -316,14 +316,17 @@ test("an address names an instance, links and a comparison, and is written as it
     ["#a.sch%40U1%2FX", { ...none, at: { sheet: "a.sch", path: "U1/X" } }],
     ["#part:R17", { ...none, links: ["part:R17"] }],
     ["#a.sch@U1&net:A%26B&compare=12",
-      { at: { sheet: "a.sch", path: "U1" }, links: ["net:A&B"], compare: 12 }],
+      { at: { sheet: "a.sch", path: "U1" }, links: ["net:A&B"],
+        compare: { front: 12, to: null } }],
+    ["#compare=12..20", { ...none, compare: { front: 12, to: 20 } }],
     ["#net:%", { ...none, links: ["net:%"] }],
   ];
   for (const [hash, wanted] of cases) assert.deepEqual(readAddress(hash), wanted, hash);
   const items = ["a.sch@U1/X", "net:A&B +5V", "compare=12"];
   assert.equal(writeAddress(items), "#a.sch@U1/X&net:A%26B%20+5V&compare=12");
   assert.deepEqual(readAddress(writeAddress(items)),
-    { at: { sheet: "a.sch", path: "U1/X" }, links: ["net:A&B +5V"], compare: 12 });
+    { at: { sheet: "a.sch", path: "U1/X" }, links: ["net:A&B +5V"],
+      compare: { front: 12, to: null } });
 });
 
 test("what was taken back can be done again, until something else is edited", () => {

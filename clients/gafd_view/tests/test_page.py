@@ -433,10 +433,42 @@ class Comparing(PageCase):
         self.assertEqual(len(page.all(".comparing, #past > *, #drawn .is-added")), 0)
         self.assertEqual(page.faults(), [])
 
+    def test_any_two_moments_stand_beside_each_other_on_all_sheets(self):
+        c1, c2 = (self.ann.id_of("stereo.sch", it) for it in ("C1", "C2"))
+        r4 = self.ann.id_of("channel.sch", "R4")
+        bob = self.bob()
+        bob.edit(kind="set_attr", id=c1, name="value", value="220n")
+        bob.edit(kind="set_attr", id=r4, name="value", value="22k")
+        bob.edit(kind="delete", ids=[c2])
+        bob.edit(kind="set_attr", id=c1, name="value", value="330n")
+        page = self.page()
+        page.tab("history")
+        page.until(lambda: page.all(".moments"))
+        page.one('.moments [name="front"]').send_keys("12")
+        page.one('.moments [name="to"]').send_keys("14" + Keys.ENTER)
+        page.until(lambda: page.all(".two-past"), 240)
+        self.assertEqual(page.address(), "#stereo.sch@&compare=12..14")
+        self.assertIn("C1 changed: value=100n → value=220n", page.text("list"))
+        self.assertIn("channel.sch", page.text("list"))
+        self.assertNotIn("C2", page.text("list"))
+        self.assertIn("220n", page.one("#past .is-changed").text)
+        self.assertEqual(len(page.all("#past .same")), len(self.ann.ids("stereo.sch")))
+        page.pictured("two_moments")
+        page.follow("sheet:channel.sch")
+        page.until(lambda: "value=22k" in page.text("list"))
+        self.assertEqual(len(page.all("#past .is-changed")), 1)
+        page.keys(Keys.ESCAPE)
+        self.assertEqual(len(page.all(".comparing, .two-past, #past > *")), 0)
+        page.driver.get(f"{self.view.url}#stereo.sch@&compare=13..15")
+        page.driver.refresh()
+        page.until(lambda: page.all("#past .is-gone"), 240)
+        self.assertIn("gone C2", page.text("list"))
+        self.assertEqual(page.faults(), [])
+
 
     def net_lines(self, page):
         """What the page tells of nets and parts, word by word."""
-        rows = (it.text.split() for it in page.all("#list table:last-child tr"))
+        rows = (it.text.split() for it in page.all("#list .netdiff tr"))
         return sorted([words[0] + " " + words[1], *words[2:]] for words in rows)
 
     def told_by_netdiff(self, front):

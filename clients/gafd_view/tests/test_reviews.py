@@ -6,8 +6,6 @@ It wants the packages chromium, chromium-driver and python3-selenium, and the re
 Where one is missing it says so, and its status is 0; so it is where no program is built. PICTURES
 names a folder into which pictures of the page are put.
 """
-import os
-import pathlib
 import sys
 import unittest
 
@@ -52,10 +50,6 @@ class ReviewCase(Case):
         page.script(f"document.querySelector('[data-proposal=\"{name}\"]').click()")
         page.until(lambda: page.all("#end-comparison"))
 
-    def pictured(self, page, name):
-        if os.environ.get("PICTURES"):
-            page.driver.save_screenshot(str(pathlib.Path(os.environ["PICTURES"], name + ".png")))
-
 
 class Reviews(ReviewCase):
     def test_a_proposal_is_looked_at_and_accepted(self):
@@ -71,12 +65,12 @@ class Reviews(ReviewCase):
         page.until(lambda: "fewer" in page.text("list"))
         self.assertIn("reviews 1", page.text("tabs"))
         self.assertIn("C2 is not needed\n<b>is it?</b>", page.text("list"))
-        self.pictured(page, "list")
+        page.pictured("list")
         front = self.ann.front()
         self.looks(page, "fewer")
         kinds = ("is-added", "is-gone", "is-changed")
         self.assertEqual([len(page.all(f"#past .{it}")) for it in kinds], [1, 1, 1])
-        self.pictured(page, "look")
+        page.pictured("look")
         for line in ("fewer open, by ann", "added a wire", "gone C2", "refdes=C9",
                      "net +12V +C9-2 -C1-2 -C2-2"):
             self.assertIn(line, page.text("list"))
@@ -103,7 +97,7 @@ class Reviews(ReviewCase):
         self.assertEqual([len(page.all(f"#past .{it}")) for it in ("was", "is-changed", "is-gone")],
                          [1, 1, 0])
         self.assertIn("C9", page.one("#past .is-changed").text)
-        self.pictured(page, "stale")
+        page.pictured("stale")
 
     def test_a_note_leads_to_its_part(self):
         self.client("bob", "note", "part:C1", "why so small?")
@@ -129,13 +123,13 @@ class Reviews(ReviewCase):
         self.assertEqual(page.text("accepting-finding"), line)
         page.one("#accepting-reason").send_keys("a test point <b>")
         page.one("#accepting-who").send_keys("ann")
-        self.pictured(page, "accepting")
+        page.pictured("accepting")
         page.one('#accepting [value="accept"]').click()
         page.until(lambda: page.all("#list .accepted"))
         self.assertIn("a test point <b> (ann)", page.one("#list .accepted").text)
         self.assertEqual(page.one('[data-tab="findings"]').text,
                          f"check {before - 1} and 1 accepted")
-        self.pictured(page, "accepted")
+        page.pictured("accepted")
         kept = self.reviews / "accepted"
         above, told = kept.read_text().splitlines()
         self.assertRegex(above, "# ann [0-9TZ:-]+: a test point <b>")
