@@ -5,7 +5,7 @@ import { changesOf } from "./changes.js";
 import { readFindings } from "./findings.js";
 import { instancesOf, placesOf } from "./instances.js";
 import { readNetList } from "./nets.js";
-import { readObjects } from "./objects.js";
+import { readObjects, readSheetObjects } from "./objects.js";
 import { Away, askBoard, askHistory, askView, forEachAtOnce } from "./server.js";
 
 const TRIES = 20;
@@ -15,18 +15,18 @@ const MOST_HISTORY = 200;
 export class Refused extends Error {}
 
 /**
- * The objects of a sheet with their ids, text and ids of one moment; null where it is not there.
+ * The objects of a sheet with their ids, text and ids of one moment; null where it is not there. Of
+ * those that it had, the ones that nobody changed stay.
  */
-export async function readSheetBy(ask, name) {
+export async function readSheetBy(ask, name, had = []) {
   for (let tries = 0; tries < TRIES; tries++) {
     const [text, ids] = await Promise.all([ask(`sheets/${name}`), ask(`objects/${name}`)]);
     if (text.front !== ids.front) continue;
     if (text.status === 422) throw new Refused(JSON.parse(text.text).line);
     if (text.status !== 200) return { objects: null, front: text.front };
-    const objects = readObjects(text.text);
-    const numbers = ids.text.split("\n").map((it) => Number(it.split(" ")[0]));
-    objects.forEach((it, place) => { it.id = numbers[place]; });
-    return { objects, front: text.front };
+    const numbers = ids.text.split("\n").filter((it) => it).map((it) => Number(it.split(" ")[0]));
+    const known = new Map(had.map((it) => [it.id, it]));
+    return { objects: readSheetObjects(text.text, numbers, known), front: text.front };
   }
   throw new Away(`${name} changes faster than it can be read`);
 }
@@ -114,7 +114,7 @@ export class Board {
     this.stale.delete(name);
     let read;
     try {
-      read = await readSheetBy(askBoard, name);
+      read = await readSheetBy(askBoard, name, this.sheets.get(name));
     } catch (error) {
       this.stale.add(name);
       if (!(error instanceof Refused)) throw error;

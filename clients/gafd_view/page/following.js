@@ -213,8 +213,8 @@ async function findRails() {
   for (const [place, instance] of board.instances.entries()) {
     if (place % RAILS_AT_ONCE === RAILS_AT_ONCE - 1) await pause(0);
     if (railsFront !== front) return;
-    const { groups } = netsIn(instance, board.sheets.get(instance.sheet) || [], board.symbols,
-      board.list);
+    const { groups } = instance === shownInstance() ? shown.nets
+      : netsIn(instance, board.sheets.get(instance.sheet) || [], board.symbols, board.list);
     addRails(rails, groups, board.symbols);
   }
   shown.rails = railsThatMeet(rails);

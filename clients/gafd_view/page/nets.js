@@ -52,11 +52,53 @@ function namesAt({ object, pin }, instance, symbols) {
     .map((it) => printed(pathBelow(instance.path, it)));
 }
 
+/** Whether an object's pins are drawn to be wired: not those of a picture. */
+function isWired(object, symbols) {
+  return object.letter !== "C" || attributeValue(object, "graphical", symbols) !== "1"
+    || isDirective(object, symbols);
+}
+
+/** What touches on each sheet, as it was found last: its objects, their symbols, and the groups. */
+const lastGroups = new Map();
+
 /** The groups of what touches on a sheet, without the pins of pictures. */
-export function groupsOn(objects, symbols) {
-  const isDrawn = (it) => !it.pin || attributeValue(it.object, "graphical", symbols) !== "1"
-    || isDirective(it.object, symbols);
-  return touchingGroups(conductorsOf(objects, symbols).filter(isDrawn));
+function groupsOn(sheet, objects, symbols) {
+  const parts = objects.map((it) => (it.letter === "C" ? symbolParts(it, symbols) : null));
+  const last = lastGroups.get(sheet);
+  const groups = (last && groupsAgain(last, objects, parts, symbols))
+    || touchingGroups(conductorsOf(objects.filter((it) => isWired(it, symbols)), symbols));
+  lastGroups.set(sheet, { objects, parts, groups });
+  return groups;
+}
+
+/**
+ * The groups that were found last, with the objects that changed where they stand; null where
+ * another one came, went, or moved.
+ */
+function groupsAgain(last, objects, parts, symbols) {
+  if (last.objects.length !== objects.length) return null;
+  const changed = new Map();
+  for (const [place, object] of objects.entries()) {
+    if (last.parts[place] !== parts[place]) return null;
+    if (last.objects[place] === object) continue;
+    if (!standsStill(last.objects[place], object, symbols)) return null;
+    for (const it of conductorsOf([object], symbols)) changed.set(it.key, it);
+  }
+  for (const it of changed.size ? last.groups.flat() : []) {
+    if (changed.has(it.key)) Object.assign(it, changed.get(it.key));
+  }
+  return last.groups;
+}
+
+/**
+ * Whether an object is where it was, and wired as it was: its attached texts alone changed, or it is
+ * one that joins nothing.
+ */
+function standsStill(was, is, symbols) {
+  if (![was, is].some(({ letter }) => letter === "N" || letter === "C")) return true;
+  const line = ({ text }) => text.slice(0, text.indexOf("\n"));
+  return was.id === is.id && line(was) === line(is) && !is.parts
+    && isWired(was, symbols) === isWired(is, symbols);
 }
 
 /** The net of one group by its listed pins; `candidates` are the nets that all of these have. */
@@ -83,7 +125,7 @@ export function netsIn(instance, objects, symbols, list) {
   const disagreements = [];
   const listed = new Map(objects.filter((it) => it.letter === "C")
     .map((it) => [it, isListed(it, instance, symbols) ? refdesIn(it, instance, symbols) : null]));
-  const groups = groupsOn(objects, symbols).map((conductors) => {
+  const groups = groupsOn(instance.sheet, objects, symbols).map((conductors) => {
     const pins = conductors.filter((it) => it.pin && listed.get(it.object) !== null)
       .map((it) => `${listed.get(it.object)}-${printed(it.pin.number)}`);
     const { isKnown, net } = netByPins(pins, list, disagreements);

@@ -19,46 +19,83 @@ const FIELDS = Object.fromEntries(Object.entries({
 
 /** The objects of a sheet or a symbol, each with its own text as `text`. */
 export function readObjects(text) {
-  const lines = text.split("\n");
-  if (lines[lines.length - 1] === "") lines.pop();
-  const reader = { lines, at: 1 };
+  const reader = readerOf(text);
   const objects = [];
-  while (reader.at < lines.length) objects.push(readObject(reader));
+  while (reader.at < text.length) objects.push(readObject(reader));
   return objects;
+}
+
+/**
+ * The objects of a sheet by their ids, in order. One that is known, by its id, and has the text that
+ * it had is the same object, with all that is kept of it.
+ */
+export function readSheetObjects(text, ids, known) {
+  const reader = readerOf(text);
+  return ids.map((id) => {
+    const last = known.get(id);
+    if (last && isNext(last, reader)) {
+      reader.at += last.text.length;
+      return last;
+    }
+    return Object.assign(known.size ? readAlone(reader) : readObject(reader), { id });
+  });
+}
+
+/** What reads a text behind its first line. */
+function readerOf(text) {
+  return { text, at: text.indexOf("\n") + 1 };
+}
+
+/** Whether an object stands next, without a block of attributes more. */
+function isNext(object, { text, at }) {
+  return text.startsWith(object.text, at) && text[at + object.text.length] !== "{";
+}
+
+/** Reads an object of a copy of its text, so that the text around it is not kept with it. */
+function readAlone(reader) {
+  const { text } = readObject(reader);
+  return readObject({ text: ` ${text}`.slice(1), at: 0 });
 }
 
 function readObject(reader) {
   const start = reader.at;
-  const words = reader.lines[reader.at++].split(" ");
+  const words = takeLine(reader).split(" ");
   const object = { letter: words[0], attached: [], parts: null };
   FIELDS[object.letter].forEach((name, place) => {
     object[name] = name === "basename" ? words.slice(place + 1).join(" ")
       : Number(words[place + 1]);
   });
   if (object.letter === "T" || object.letter === "H") {
-    object.content = take(reader, object.lines).join("\n");
+    object.content = Array.from({ length: object.lines }, () => takeLine(reader)).join("\n");
   } else if (object.letter === "G") {
-    object.content = take(reader, 1)[0];
+    object.content = takeLine(reader);
     object.data = "";
-    if (object.embedded) for (let line; (line = take(reader, 1)[0]) !== ".";) object.data += line;
+    if (object.embedded) for (let line; (line = takeLine(reader)) !== ".";) object.data += line;
   } else if (object.letter === "C" && object.basename.startsWith("EMBEDDED")) {
     object.parts = readBlock(reader, "[", "]");
   }
-  if (reader.lines[reader.at] === "{") object.attached = readBlock(reader, "{", "}");
-  object.text = reader.lines.slice(start, reader.at).join("\n") + "\n";
+  if (lineAt(reader) === "{") object.attached = readBlock(reader, "{", "}");
+  object.text = `${reader.text.slice(start, reader.at - 1)}\n`;
   return object;
 }
 
-function take(reader, count) {
-  if (reader.at + count > reader.lines.length) throw new Error("the text ends inside an object");
-  reader.at += count;
-  return reader.lines.slice(reader.at - count, reader.at);
+/** The line at which a reader stands. */
+function lineAt({ text, at }) {
+  const end = text.indexOf("\n", at);
+  return text.slice(at, end < 0 ? text.length : end);
+}
+
+function takeLine(reader) {
+  if (reader.at >= reader.text.length) throw new Error("the text ends inside an object");
+  const line = lineAt(reader);
+  reader.at += line.length + 1;
+  return line;
 }
 
 function readBlock(reader, opens, closes) {
   const found = [];
-  if (take(reader, 1)[0] !== opens) throw new Error(`no ${opens}`);
-  while (reader.lines[reader.at] !== closes) found.push(readObject(reader));
-  reader.at++;
+  if (takeLine(reader) !== opens) throw new Error(`no ${opens}`);
+  while (lineAt(reader) !== closes) found.push(readObject(reader));
+  takeLine(reader);
   return found;
 }

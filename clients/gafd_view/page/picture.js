@@ -7,7 +7,6 @@ import { newCanvas } from "./canvas.js";
 import { placesOf } from "./instances.js";
 import { board, byId, fill, shown, shownInstance, shownObjects } from "./state.js";
 import { escapeText } from "./texts.js";
-import { conductorsOf } from "./touching.js";
 import { bringIn, fit } from "./viewport.js";
 
 const MOST_PATCHED = 200;
@@ -120,7 +119,7 @@ export function markLooseEnds() {
 
 /** Where a key is on the sheet, y down: of a pin its active end, of a wire its middle. */
 function pointsOfKeys() {
-  return new Map(conductorsOf(shownObjects(), board.symbols)
+  return new Map(shown.nets.groups.flatMap(({ conductors }) => conductors)
     .map((it) => [it.key, [(it.x1 + it.x2) / 2, -(it.y1 + it.y2) / 2]]));
 }
 
