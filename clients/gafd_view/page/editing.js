@@ -2,8 +2,9 @@
 
 import { redrawShown, refresh } from "./following.js";
 import { anchorOf } from "./placing.js";
-import { board, byId, entries, notice, objectOf, shown } from "./state.js";
-import { ownStand } from "./undoing.js";
+import { followers } from "./rubber.js";
+import { board, byId, entries, notice, objectOf, shown, shownObjects } from "./state.js";
+import { lastDeed, ownStand } from "./undoing.js";
 import { faultWords } from "./words.js";
 
 const GRID = 100;
@@ -21,26 +22,42 @@ function session() {
 
 let isSending = false;
 
-/** Sends one edit and shows what the server then has. Whether it was done is told. */
-async function send(edit, ids, base) {
+/**
+ * Sends edits that are one deed, one after the other, and shows what the server then has. Whether all
+ * were done is told; behind one that is refused none is sent.
+ */
+async function send(edits, ids, base) {
   const name = session();
   if (!name) return false;
-  // A second edit would stand on what was seen before the first one, and be refused as stale.
+  // A second deed would stand on what was seen before the first one, and be refused as stale.
   if (isSending) return notice("one moment: your last edit is not answered yet") || false;
   isSending = true;
   document.body.classList.add("sending");
-  let answer;
-  try {
-    answer = await entries.send(name, edit, base);
-  } catch {
-    answer = { fault: "NoServer" };
-  }
+  const answer = await sendEach(name, edits, base);
   isSending = false;
   document.body.classList.remove("sending");
   if (!answer.fault) await redrawShown().catch(() => {});
   await refresh();
   if (answer.fault) notice(faultWords(answer, ids), 15);
   return !answer.fault;
+}
+
+/** The last answer to edits that are sent, or the first fault. */
+async function sendEach(name, edits, base) {
+  const group = Symbol("one deed");
+  let answer = {};
+  let front = base;
+  for (const edit of edits) {
+    try {
+      // What is added behind one's own edits stands on these.
+      answer = await entries.send(name, edit, edit.kind === "add_object" ? front : base, group);
+    } catch {
+      answer = { fault: "NoServer" };
+    }
+    if (answer.fault) return answer;
+    front = answer.serial + 1;
+  }
+  return answer;
 }
 
 /** The chosen objects that are there, in order. */
@@ -53,9 +70,26 @@ export function shownFront() {
   return board.fronts.get(shown.at.sheet);
 }
 
-export function move(dx, dy, base = shownFront()) {
+const isFollowed = () => byId("follow").classList.contains("on");
+
+/** Moves what is chosen, and where that is wished the wires of its parts with it. */
+export async function move(dx, dy, base = shownFront()) {
   const ids = chosenIds();
-  return ids.length && (dx || dy) ? send({ kind: "move", ids, dx, dy }, ids, base) : null;
+  if (!ids.length || !(dx || dy)) return;
+  const edits = isFollowed() ? movesWithWires(ids, dx, dy) : [{ kind: "move", ids, dx, dy }];
+  const count = edits.length;
+  if (await send(edits, ids, base) && count > 1) {
+    notice(`moved with its wires, in ${count} edits; undo takes all of them back`, 4);
+  }
+}
+
+function movesWithWires(ids, dx, dy) {
+  const { moved, stretched, gone, added } = followers(shownObjects(), ids, [dx, dy], board.symbols);
+  const all = [...ids, ...moved].sort((one, other) => one - other);
+  return [{ kind: "move", ids: all, dx, dy },
+    ...stretched.map(([id, text]) => ({ kind: "replace", id, text })),
+    ...(gone.length ? [{ kind: "delete", ids: gone }] : []),
+    ...added.map((text) => ({ kind: "add_object", sheet: shown.at.sheet, text }))];
 }
 
 /** A quarter counterclockwise, or the mirror image, about the first one's point. */
@@ -63,37 +97,37 @@ export function turn(quarter, mirror) {
   const ids = chosenIds();
   if (!ids.length) return null;
   const [x, y] = anchorOf(objectOf(ids[0])).map(onGrid);
-  return send({ kind: "turn", ids, x, y, quarter, mirror }, ids, shownFront());
+  return send([{ kind: "turn", ids, x, y, quarter, mirror }], ids, shownFront());
 }
 
 export function remove() {
   const ids = chosenIds();
-  return ids.length ? send({ kind: "delete", ids }, ids, shownFront()) : null;
+  return ids.length ? send([{ kind: "delete", ids }], ids, shownFront()) : null;
 }
 
 export function setAttribute(id, name, value, base) {
-  return send({ kind: "set_attr", id, name, value }, [id], base);
+  return send([{ kind: "set_attr", id, name, value }], [id], base);
 }
 
 export function dropAttribute(id, name) {
-  return send({ kind: "drop_attr", id, name }, [id], shownFront());
+  return send([{ kind: "drop_attr", id, name }], [id], shownFront());
 }
 
 /** Draws an object, which is given as its lines. */
 export function addObject(text) {
-  return send({ kind: "add_object", sheet: shown.at.sheet, text }, [], shownFront());
+  return send([{ kind: "add_object", sheet: shown.at.sheet, text }], [], shownFront());
 }
 
 /** Writes another content into a text. */
 export function replaceText(object, content, base) {
   const fields = object.text.split("\n")[0].split(" ");
   fields[fields.length - 1] = String(content.split("\n").length);
-  return send({ kind: "replace", id: object.id, text: `${fields.join(" ")}\n${content}\n` },
-    [object.id], base);
+  const text = `${fields.join(" ")}\n${content}\n`;
+  return send([{ kind: "replace", id: object.id, text }], [object.id], base);
 }
 
 export function renumber() {
-  return send({ kind: "renumber" }, [], shownFront());
+  return send([{ kind: "renumber" }], [], shownFront());
 }
 
 /** One's own rows: those of a page that was loaded anew the history tells. */
@@ -104,16 +138,19 @@ function ownRows() {
   return [...rows.values()].sort((one, other) => one.serial - other.serial);
 }
 
-/** Takes back one's own last edit that stands. */
+/** Takes back one's own last deed that stands: its edits, the last one first. */
 export function undo() {
-  const serial = ownStand(ownRows()).standing.at(-1);
-  if (serial === undefined) return notice("there is nothing of yours to take back");
-  return send({ kind: "undo", serial }, [], shownFront());
+  return takeBack("standing", "there is nothing of yours to take back");
 }
 
 /** Does again what one took back last, unless something else was edited since. */
 export function redo() {
-  const serial = ownStand(ownRows()).undone.at(-1);
-  if (serial === undefined) return notice("there is nothing of yours to do again");
-  return send({ kind: "undo", serial }, [], shownFront());
+  return takeBack("undone", "there is nothing of yours to do again");
+}
+
+function takeBack(kind, none) {
+  const rows = ownRows();
+  const serials = lastDeed(rows, ownStand(rows)[kind]);
+  if (!serials.length) return notice(none);
+  return send(serials.map((serial) => ({ kind: "undo", serial })), [], shownFront());
 }

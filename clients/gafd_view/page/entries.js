@@ -21,22 +21,25 @@ export class Entries {
     this.own = [];
   }
 
-  /** Sends an edit that stands on what was seen at `base`. The answer, or the fault, is told. */
-  async send(session, edit, base) {
+  /**
+   * Sends an edit that stands on what was seen at `base`. The answer, or the fault, is told. Edits of
+   * one group are taken back together.
+   */
+  async send(session, edit, base, group) {
     for (let tries = 0; tries < TRIES; tries++) {
       const body = JSON.stringify({ session, number: this.number, base, edit });
       const answer = await this.sendUntilAnswered(body);
       if (answer.fault === "NumberGap") this.number = answer.last + 1;
       else if (answer.fault === "NumberReused") this.number = GREATEST;
-      else return this.noted(edit, answer);
+      else return this.noted(edit, answer, group);
     }
     return { fault: "NumberGap" };
   }
 
-  noted(edit, answer) {
+  noted(edit, answer, group) {
     if (answer.fault) return answer;
     this.number++;
-    this.own.push({ serial: answer.serial, edit });
+    this.own.push({ serial: answer.serial, edit, group });
     return answer;
   }
 

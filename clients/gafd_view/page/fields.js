@@ -129,6 +129,9 @@ export function listenToFields() {
   byId("keys").addEventListener("click", () => byId("help").showModal());
   byId("undo").addEventListener("click", editing.undo);
   byId("redo").addEventListener("click", editing.redo);
+  byId("follow").addEventListener("click", ({ target }) => {
+    target.setAttribute("aria-pressed", target.classList.toggle("on"));
+  });
   byId("renumber").addEventListener("click", editing.renumber);
   byId("edit").addEventListener("click", toggleEditing);
   byId("dark").addEventListener("click", () => {

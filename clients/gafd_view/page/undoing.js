@@ -19,3 +19,15 @@ export function ownStand(rows) {
   }
   return { standing, undone };
 }
+
+/**
+ * Of serials in order the last one, and those before it that were made with it, the last first. Rows
+ * have a group where they were made by this page.
+ */
+export function lastDeed(rows, serials) {
+  const groups = new Map(rows.map((it) => [it.serial, it.group]));
+  const group = groups.get(serials.at(-1));
+  if (group === undefined) return serials.slice(-1);
+  const before = serials.findLastIndex((it) => groups.get(it) !== group);
+  return serials.slice(before + 1).reverse();
+}

@@ -8,13 +8,14 @@ import { readAddress, writeAddress } from "../page/address.js";
 import { changesOf, netListChanges } from "../page/changes.js";
 import { cuesOf } from "../page/cues.js";
 import { drawSheet } from "../page/drawing.js";
-import { addRails, findingsAt, railsThatMeet, readFindings } from "../page/findings.js";
+import { addRails, findingsAt, linkOf, railsThatMeet, readFindings } from "../page/findings.js";
 import { instancesOf, placesOf } from "../page/instances.js";
 import { globalNames, netsIn, readNetList } from "../page/nets.js";
-import { readObjects } from "../page/objects.js";
+import { readObjects, readSheetObjects } from "../page/objects.js";
 import { RULES } from "../page/rules.js";
 import { svgFile } from "../page/saving.js";
-import { ownStand } from "../page/undoing.js";
+import { followers } from "../page/rubber.js";
+import { lastDeed, ownStand } from "../page/undoing.js";
 
 let [passed, failed] = [0, 0];
 process.on("exit", () => console.log(`${passed} passed, ${failed} failed`));
@@ -345,6 +346,82 @@ test("what was taken back can be done again, until something else is edited", ()
   for (const [rows, standing, undone] of cases) {
     assert.deepEqual(ownStand(rows), { standing, undone }, JSON.stringify(rows));
   }
+});
+
+test("what was done at once is taken back at once, the last of it first", () => {
+  const [one, other] = [Symbol("one"), Symbol("other")];
+  const rows = [[1, one], [2, one], [3], [4, other], [6, other]]
+    .map(([serial, group]) => ({ serial, group }));
+  for (const [serials, last] of [[[1, 2, 3, 4, 6], [6, 4]], [[1, 2, 3, 4], [4]], [[1, 2, 3], [3]],
+    [[1, 2], [2, 1]], [[1], [1]], [[], []], [[8], [8]]]) {
+    assert.deepEqual(lastDeed(rows, serials), last, JSON.stringify(serials));
+  }
+});
+
+test("wires follow the parts that are moved", () => {
+  const upright = (x, y1, y2) => `N ${x} ${y1} ${x} ${y2} 4\n`;
+  // Of `two` the pins end at 0 and 300 beside its place.
+  const cases = [
+    ["level, along it", wire(300, 900), [100, 0], { stretched: [[1, "N 900 0 400 0 4\n"]] }],
+    ["level, across", wire(300, 900, "A"), [100, 200], {
+      stretched: [[1, `N 900 0 400 0 4\n${attached("netname=A")}`]],
+      added: ["N 400 0 400 200 4\n"] }],
+    ["level, across at once", wire(300, 900), [0, 200], {
+      stretched: [[1, "N 900 0 300 0 4\n"]], added: ["N 300 0 300 200 4\n"] }],
+    ["level, to its end and up", wire(300, 900), [600, 200], {
+      stretched: [[1, "N 900 0 900 200 4\n"]] }],
+    ["upright", upright(0, 0, 500), [100, 200], {
+      stretched: [[1, "N 0 500 0 200 4\n"]], added: ["N 0 200 100 200 4\n"] }],
+    ["to its end", wire(300, 900), [600, 0], { gone: [1] }],
+    ["slanting", "N 300 0 900 100 4\n", [0, 200], { stretched: [[1, "N 900 100 300 200 4\n"]] }],
+    ["between its own pins", wire(0, 300), [100, 200], { moved: [1] }],
+    ["another's pin at its own", part(300, "R2"), [100, 200], {
+      added: ["N 300 0 400 0 4\n", "N 400 0 400 200 4\n"] }],
+    ["on the middle of a wire", upright(300, -200, 200), [0, 400], {
+      added: ["N 300 0 300 400 4\n"] }],
+    ["a wire elsewhere", wire(400, 900), [100, 0], {}],
+  ];
+  for (const [name, others, by, wanted] of cases) {
+    const found = followers(sheetOf(part(0, "R1") + others), [0], by, PARTS);
+    assert.deepEqual(found, { moved: [], stretched: [], gone: [], added: [], ...wanted }, name);
+  }
+});
+
+test("objects that nobody changed are the same ones, and nets are told of those that changed", () => {
+  const [first, last] = [part(0, "R1") + wire(300, 900), part(900, "R2")];
+  const objects = sheetOf(first + last);
+  const list = readNetList("parts 0\nnets 0\nA\tR1-2 R2-1\n");
+  const instance = { sheet: "again.sch", path: "", above: null, parent: null };
+  const again = (text) => readSheetObjects(HEAD + text, [0, 1, 2],
+    new Map(objects.map((it) => [it.id, it])));
+  const changes = [
+    [first + last, 3], [first + part(900, "R3"), 2], [first + part(800, "R2"), 2],
+    [part(0, "R1") + wire(300, 900, "B") + last, 2],
+    [`${part(0, "R1")}N 300 0 900 0 5\n${last}`, 2],
+    [`${part(0, "R1")}U 300 0 900 0 4 0\n${last}`, 2],
+  ];
+  for (const [text, same] of changes) {
+    netsIn(instance, objects, PARTS, list);
+    const now = again(text);
+    assert.equal(now.filter((it, place) => it === objects[place]).length, same, text);
+    const fresh = sheetOf(text);
+    assert.deepEqual(now.map((it) => it.text), fresh.map((it) => it.text));
+    const other = { ...instance, sheet: `fresh ${text}` };
+    const plain = ({ groups, netOf }) => [groups.map((it) => [it.net, it.names,
+      it.conductors.map(({ key, object }) => [key, object.text])]), [...netOf]];
+    assert.deepEqual(plain(netsIn(instance, now, PARTS, list)),
+      plain(netsIn(other, fresh, PARTS, list)), text);
+  }
+});
+
+test("a finding with a place leads there", () => {
+  const finding = { level: "warning", name: "LooseEnd", words: ["a.sch", "-100,4200"] };
+  assert.equal(linkOf(finding, new Set()), "place:a.sch:-100,4200");
+  const instance = { sheet: "a.sch", path: "", above: null, parent: null };
+  const shown = { instance, objects: [], places: { parts: new Map(), pins: new Map() }, groups: [],
+    symbols: PARTS };
+  assert.deepEqual([...findingsAt([finding], new Set(), shown)], [["-100,4200", [finding]]]);
+  assert.equal(linkOf({ name: "SameText", words: ["a", "1,2"] }, new Set()), "part:a");
 });
 
 test("findings are told in the words of the manual", () => {

@@ -79,6 +79,7 @@ class Editing(FirefoxCase):
     def test_a_part_is_chosen_moved_and_turned(self):
         c1 = self.ann.id_of("stereo.sch", "C1")
         self.page.press("#edit")
+        self.page.press("#follow")
         self.page.script("const field = document.getElementById('session'); field.value = 'fox';"
                          "field.dispatchEvent(new Event('change', { bubbles: true }))")
         self.page.press(f'#drawn [data-id="{c1}"] path')

@@ -263,14 +263,20 @@ class Editing(PageCase):
     def test_what_was_taken_back_is_done_again(self):
         page = self.page("ann")
         c1 = self.ann.id_of("stereo.sch", "C1")
+        was, nets = self.ann.sheet("stereo.sch"), self.view.ask("/board/netlist/list")[1]
         page.press(c1)
         page.act().key_down(Keys.SHIFT).send_keys(Keys.ARROW_RIGHT).key_up(Keys.SHIFT).perform()
-        page.until(lambda: page.text("status") == "13 edits")
+        page.until(lambda: "moved with its wires" in page.text("notice"))
+        page.pictured("followed")
         moved = self.ann.sheet("stereo.sch")
-        for count, button in ((14, "undo"), (15, "redo"), (16, "undo"), (17, "redo")):
+        self.assertNotEqual(moved, was)
+        self.assertEqual(self.view.ask("/board/netlist/list")[1], nets)
+        self.assertEqual(len(page.all("#marks .loose")), 0)
+        for button, wanted in (("undo", was), ("redo", moved), ("undo", was), ("redo", moved)):
+            page.until(lambda: not page.all(".sending"))
             page.one(f"#{button}").click()
-            page.until(lambda count=count: page.text("status") == f"{count} edits")
-            self.assertEqual(self.ann.sheet("stereo.sch") == moved, button == "redo")
+            page.until(lambda wanted=wanted: self.ann.sheet("stereo.sch") == wanted, 60)
+        page.until(lambda: not page.all(".sending"))
         page.one("#redo").click()
         self.assertIn("nothing of yours to do again", page.text("notice"))
 
@@ -294,6 +300,7 @@ class Editing(PageCase):
         text = self.ann.sheet("stereo.sch")
         line = re.search(r"^C (\d+) (\d+) 1 90 0 cap.sym\n(?:.*\n){1,9}?refdes=C1$", text, re.M)
         x, y = int(line[1]), int(line[2])
+        page.one("#follow").click()
         body = page.drawn(c1).find_element(By.CSS_SELECTOR, "path")
         page.act().drag_and_drop_by_offset(body, 60, -30).perform()
         page.until(lambda: page.text("status") == "13 edits")
@@ -532,6 +539,7 @@ class Drawing(PageCase):
 
     def test_what_comes_loose_is_ringed(self):
         page = self.page("ann")
+        page.one("#follow").click()
         c1 = self.ann.id_of("stereo.sch", "C1")
         page.press(c1)
         page.act().key_down(Keys.SHIFT).send_keys(Keys.ARROW_RIGHT).key_up(Keys.SHIFT).perform()
