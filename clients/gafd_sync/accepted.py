@@ -10,7 +10,6 @@ FINDING = re.compile(r"(error|warning) [^ \n].{0,999}")
 REASON = re.compile(r".{1,500}")
 # What stands above a finding: who accepted it when, and why.
 SIGNED = re.compile(r"# (\S+) (\S+Z): (.*)")
-MOST_BYTES = 4 * 1024 * 1024
 
 
 def is_line(value, pattern):
@@ -26,8 +25,9 @@ class Accepted:
 
     def lines(self):
         try:
-            with open(self.path, encoding="utf-8", errors="replace") as file:
-                return [line.rstrip("\r") for line in file.read(MOST_BYTES).split("\n")]
+            # What is no UTF-8 stays as it is.
+            with open(self.path, encoding="utf-8", errors="surrogateescape") as file:
+                return file.read().split("\n")
         except FileNotFoundError:
             return []
 
@@ -35,11 +35,11 @@ class Accepted:
         """Each accepted finding once, with who accepted it, when and why, as far as that is told."""
         found, above = {}, ""
         for line in self.lines():
-            if FINDING.fullmatch(line):
+            if is_line(line, FINDING):
                 signed = SIGNED.fullmatch(above)
                 who, when, why = signed.groups() if signed else ("", "", above.lstrip("# "))
                 found.setdefault(line, {"finding": line, "who": who, "time": when, "reason": why})
-            above = line if line.startswith("#") else ""
+            above = line if line.startswith("#") and line.isprintable() else ""
         return list(found.values())
 
     def accept(self, finding, who, reason):
@@ -63,7 +63,7 @@ class Accepted:
     def write(self, lines):
         """Puts a whole file in place of the one that is there."""
         new = self.path.with_name(f".{secrets.token_hex(8)}.new")
-        with open(new, "x", encoding="utf-8", newline="\n") as file:
+        with open(new, "x", encoding="utf-8", errors="surrogateescape", newline="\n") as file:
             file.writelines(line + "\n" for line in lines)
             file.flush()
             os.fsync(file.fileno())

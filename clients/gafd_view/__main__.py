@@ -5,7 +5,7 @@
   gafd_view [--port N] [--symbols FOLDER]... FILE...
   gafd_view [--port N] [--store FOLDER] [--look] [--host NAME]... SERVER
   gafd_view --pdf FILE [--symbols FOLDER]... SERVER|FOLDER|FILE...
-  gafd_view [--reviews FOLDER] ...
+  gafd_view [--reviews FOLDER] [--boards URL] ...
 
 It prints the address of the page, and serves it on the loopback alone. Of a FOLDER it shows all
 sheets as one board, of FILEs these and the sheets below them; it looks again when a file changes.
@@ -21,6 +21,9 @@ called, as behind a proxy.
 shown beside it, and a proposal's board beside the board now where the store is named too. Findings
 that are meant are accepted on the page, and kept there in the file `accepted`.
 
+--boards is the address of a list of boards, as `gafd-boards page` makes one, to which the page has a
+link: https://lab.example/boards.html, or /boards.html where one server has both.
+
 --pdf writes all sheets of any of these into FILE, a page each, and serves nothing. It wants Chromium
 or Firefox.
 
@@ -30,6 +33,7 @@ names, else `gafd` on the PATH, else that beside this one.
 import argparse
 import os
 import pathlib
+import re
 import signal
 import sys
 import threading
@@ -46,6 +50,12 @@ from web import View
 SYSTEM = ["/usr/share/lepton-eda/sym", "/usr/share/gEDA/sym", "/usr/local/share/lepton-eda/sym"]
 
 
+def an_address(word):
+    if not re.fullmatch(r"(https?:/)?/[!-~]*", word):
+        raise argparse.ArgumentTypeError(f"{word} is no address, as https://lab.example/ is one")
+    return word
+
+
 def arguments():
     parser = argparse.ArgumentParser(prog="gafd_view", description=__doc__.split("\n")[0])
     parser.add_argument("--version", action="version", version=f"gafd_view {version()}")
@@ -56,6 +66,8 @@ def arguments():
                         help="the store of the server, for the history")
     parser.add_argument("--reviews", metavar="FOLDER",
                         help="the proposals and notes of the board")
+    parser.add_argument("--boards", type=an_address, metavar="URL",
+                        help="a list of boards, to which the page has a link")
     parser.add_argument("--look", action="store_true", help="hands on no edits")
     parser.add_argument("--host", action="append", default=[], metavar="NAME",
                         help="one more name under which the page is called")
@@ -95,7 +107,8 @@ def folder_view(asked):
     named = filter(None, os.environ.get("GAFD_SYMBOLS", "").split(":"))
     libraries = [*map(below, asked.symbols), *map(Library, named), *map(below, SYSTEM)]
     board = FolderBoard(folder, names, libraries, run)
-    return View(asked.port, board, reviews=reviews_of(asked), is_look=True, hosts=asked.host)
+    return View(asked.port, board, reviews=reviews_of(asked), is_look=True, hosts=asked.host,
+                boards=asked.boards)
 
 
 def server_view(asked):
@@ -108,7 +121,8 @@ def server_view(asked):
         history, past = History(asked.store), PastBoards(asked.store, program())
     board = ServedBoard(asked.shown[0])
     reviews = reviews_of(asked, asked.shown[0])
-    return View(asked.port, board, history, past, reviews, is_look=asked.look, hosts=asked.host)
+    return View(asked.port, board, history, past, reviews, is_look=asked.look, hosts=asked.host,
+                boards=asked.boards)
 
 
 def write_pdf(view, path):

@@ -34,15 +34,17 @@ JSON, LINES = "application/json", "application/jsonl; charset=utf-8"
 
 
 class View(ThreadingHTTPServer):
-    """The page of a board. `hosts` has the names under which it is called."""
+    """The page of a board. `hosts` has the names under which it is called, and `boards` is the
+    address of a list of boards, or None."""
 
     daemon_threads = True
     request_queue_size = 128
 
-    def __init__(self, port, board, history=None, past=None, reviews=None, is_look=False, hosts=()):
+    def __init__(self, port, board, history=None, past=None, reviews=None, is_look=False, hosts=(),
+                 boards=None):
         super().__init__(("127.0.0.1", port), Handler)
         self.board, self.history, self.past, self.is_look = board, history, past, is_look
-        self.reviews = reviews
+        self.reviews, self.boards = reviews, boards
         here = (f"127.0.0.1:{self.server_port}", f"localhost:{self.server_port}")
         self.hosts = {*here, *hosts}
         self.readers = threading.BoundedSemaphore(MOST_READERS)
@@ -146,6 +148,7 @@ class Handler(BaseHTTPRequestHandler):
         about = {"kind": view.board.kind, "name": view.board.name, "edits": not view.is_look,
                  "history": view.history is not None, "past": view.past is not None,
                  "reviews": view.reviews is not None,
+                 "boards": view.boards,
                  "accepts": view.reviews is not None and not view.reviews.is_look}
         self.json(about)
 

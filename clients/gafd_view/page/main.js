@@ -22,6 +22,8 @@ followServer();
 board.readAbout().then(() => {
   document.body.classList.toggle("looking", !board.about.edits);
   byId("tabs").querySelector('[data-tab="history"]').hidden = board.about.kind === "folder";
+  byId("boards").hidden = !board.about.boards;
+  if (board.about.boards) byId("boards").href = board.about.boards;
   listenToAccepting();
   if (board.about.reviews) followReviews();
 }, () => {});

@@ -84,6 +84,32 @@ class Safety(Case):
         status, text, _ = ask(view.address, "POST", "/board/edits", EDIT, TYPE)
         self.assertEqual((status, text), (405, '{"fault":"Look"}'))
 
+    def test_findings_are_accepted_by_the_page_alone_and_as_they_should_be(self):
+        words = ["--reviews", self.folder / "reviews", self.server.url]
+        here, asked = self.viewed(*words), {"finding": "warning OnePin EN", "who": "ann",
+                                            "reason": "a test point"}
+
+        def accepts(view, headers=TYPE, **changes):
+            body = json.dumps({**asked, **changes})
+            return ask(view.address, "POST", "/accepted", body, headers)[:2]
+
+        wrong = [{"finding": "EN"}, {"finding": "error a\nerror b"}, {"who": ".ann"}, {"who": 1},
+                 {"reason": ""}, {"reason": "a\nb"}, {"reason": "\u202ea"}, {"more": 1}]
+        for changes in wrong:
+            with self.subTest(changes):
+                self.assertEqual(accepts(here, **changes), (400, '{"fault":"BadAcceptance"}'))
+        elsewhere = {**TYPE, "Origin": "http://elsewhere.example"}
+        self.assertEqual(accepts(here, elsewhere)[0], 403)
+        self.assertEqual(accepts(self.viewed("--look", *words))[0], 405)
+        self.assertEqual(accepts(self.view)[0], 405)
+        self.assertFalse((self.folder / "reviews").exists())
+        status, text = accepts(here)
+        [told] = json.loads(text)
+        self.assertEqual((status, told["finding"], told["reason"]),
+                         (200, asked["finding"], asked["reason"]))
+        self.assertEqual(json.loads(here.ask("/reviews")[1])["accepted"], [told])
+        self.assertEqual(accepts(here, reason=None), (200, "[]"))
+
     def test_a_name_of_a_proxy_is_answered(self):
         view = self.viewed("--host", "lab.example", self.server.url)
         self.assertEqual(ask(view.address, "GET", "/about", None, {"Host": "lab.example"})[0], 200)

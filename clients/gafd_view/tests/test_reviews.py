@@ -20,7 +20,8 @@ class ReviewCase(Case):
     def setUp(self):
         super().setUp()
         self.reviews = self.folder / "reviews"
-        self.view = self.viewed("--store", self.store, "--reviews", self.reviews, self.server.url)
+        self.view = self.viewed("--store", self.store, "--reviews", self.reviews,
+                                "--boards", "/boards.html", self.server.url)
         for name in ("ann", "bob"):
             (self.folder / name).mkdir()
             self.client(name, "pull")
@@ -121,6 +122,7 @@ class Reviews(ReviewCase):
         page.act().move_to_element(page.one(row)).perform()
         page.one(f"{row} button").click()
         self.assertEqual(page.text("accepting-finding"), line)
+        self.assertTrue(page.one("#boards").get_attribute("href").endswith("/boards.html"))
         page.one("#accepting-reason").send_keys("a test point <b>")
         page.one("#accepting-who").send_keys("ann")
         page.pictured("accepting")
