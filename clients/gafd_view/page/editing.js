@@ -24,7 +24,7 @@ let isSending = false;
 
 /**
  * Sends edits that are one deed, one after the other, and shows what the server then has. Whether all
- * were done is told; behind one that is refused none is sent.
+ * were done is told; where one is refused those before it are taken back.
  */
 async function send(edits, ids, base) {
   const name = session();
@@ -42,20 +42,22 @@ async function send(edits, ids, base) {
   return !answer.fault;
 }
 
-/** The last answer to edits that are sent, or the first fault. */
+/** The last answer to edits that are sent, or the first fault, before which all is taken back. */
 async function sendEach(name, edits, base) {
   const group = Symbol("one deed");
+  const sendOne = (edit, stands) => entries.send(name, edit, stands, group)
+    .catch(() => ({ fault: "NoServer" }));
+  const done = [];
   let answer = {};
-  let front = base;
   for (const edit of edits) {
-    try {
-      // What is added behind one's own edits stands on these.
-      answer = await entries.send(name, edit, edit.kind === "add_object" ? front : base, group);
-    } catch {
-      answer = { fault: "NoServer" };
-    }
-    if (answer.fault) return answer;
-    front = answer.serial + 1;
+    // What is added behind one's own edits stands on these.
+    const stands = edit.kind === "add_object" && done.length ? done.at(-1) + 1 : base;
+    answer = await sendOne(edit, stands);
+    if (answer.fault) break;
+    done.push(answer.serial);
+  }
+  if (answer.fault) {
+    for (const serial of done.reverse()) await sendOne({ kind: "undo", serial }, serial + 1);
   }
   return answer;
 }

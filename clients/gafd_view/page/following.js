@@ -217,8 +217,10 @@ async function findRails() {
       : netsIn(instance, board.sheets.get(instance.sheet) || [], board.symbols, board.list);
     addRails(rails, groups, board.symbols);
   }
-  shown.rails = railsThatMeet(rails);
-  if (shown.at && shown.rails.length + board.findings.length) drawFindings();
+  const met = railsThatMeet(rails);
+  if (JSON.stringify(met) === JSON.stringify(shown.rails)) return;
+  shown.rails = met;
+  if (shown.at) drawFindings();
   showList();
 }
 
