@@ -353,6 +353,18 @@ class Marking(PageCase):
         self.assertIn("check 3", page.text("tabs"))
         self.assertIn("UnconnectedPin 2 nothing is joined to the pin", page.text("list"))
 
+    def test_a_finding_with_a_place_is_marked_there(self):
+        page = self.page()
+        page.script("return Promise.all(['state', 'following'].map((it) => import(`/${it}.js`)))"
+                    ".then(([{ board }, { showNets }]) => { board.findings.push({ level: 'error',"
+                    "name: 'LooseEnd', words: ['stereo.sch', '44000,43000'] }); showNets(); })")
+        mark = page.one('#findings [data-finding="LooseEnd stereo.sch 44000,43000"] path')
+        self.assertTrue(mark.get_attribute("d").startswith("M44000 -43000"))
+        page.tab("findings")
+        page.follow("place:stereo.sch:44000,43000")
+        page.until(lambda: page.all("#marks .here"))
+        page.pictured("place")
+
     def test_findings_of_a_rule_are_folded_where_they_are_many(self):
         lone = "C 44000 4{0}000 1 0 0 res.sym\n{{\nT 0 0 5 10 1 1 0 0 1\nrefdes=R9{0}\n}}\n"
         for at in range(3):
