@@ -129,15 +129,17 @@ export function netLines({ changed, gone, added }) {
   });
 }
 
-/** The changes of one sheet as rows. */
+/** The changes of one sheet as rows, of which each leads to its object, where that is there now. */
 export function sheetRows(sheet, { added, changed, placed, gone }) {
   const at = instanceOf(sheet);
+  const now = new Set((board.sheets.get(sheet) || []).map((it) => it.id));
+  const linkTo = ({ id }) => (now.has(id) ? `id:${sheet}:${id}` : "");
   return [
-    ...added.map((it) => row("added", label(it, at), `id:${sheet}:${it.id}`)),
-    ...changed.map(([was, is]) => row("changed", changeWords(was, is, at), `id:${sheet}:${is.id}`)),
+    ...added.map((it) => row("added", label(it, at), linkTo(it))),
+    ...changed.map(([was, is]) => row("changed", changeWords(was, is, at), linkTo(is))),
     ...placed.map(([, is]) => row("changed", `${label(is, at)}: its symbol ${is.basename}`,
-      `id:${sheet}:${is.id}`)),
-    ...gone.map((it) => row("gone", label(it, at))),
+      linkTo(is))),
+    ...gone.map((it) => row("gone", label(it, at), linkTo(it))),
   ].join("");
 }
 
@@ -173,6 +175,7 @@ function listChanges(comparison, after, changes) {
   const { front, to, before } = comparison;
   const { sheet } = shown.at;
   const until = to === null ? "" : ` to edit ${to}`;
+  const scrolled = byId("list").scrollTop;
   byId("list").innerHTML = `<p><b>${escapeText(sheet)}</b> since edit ${front}${until} `
     + '<button id="end-comparison">end</button></p>'
     + momentFields(front, to)
@@ -181,4 +184,5 @@ function listChanges(comparison, after, changes) {
     + `<table>${sheetRows(sheet, changes) || "<tr><td>nothing changed on it</td></tr>"}</table>`
     + `<p>sheets of the board</p>${overview(comparison, after)}`
     + reportTables(before, after);
+  byId("list").scrollTop = scrolled;
 }
