@@ -3,6 +3,7 @@ beside the server, and what a process has used."""
 import json
 import os
 import pathlib
+import re
 import subprocess
 import sys
 import time
@@ -40,17 +41,28 @@ class Bringing(Writer):
         self.puts({"dx": 0, "dy": way, "ids": [0], "kind": "move"}, self.front)
 
     def puts(self, edit, base):
+        status, told = self.tries(edit, base)
+        if status != 200:
+            raise SystemExit(f"{edit['kind']} was answered {status} {told}")
+
+    def tries(self, edit, base):
+        """The status of an edit, and what it is answered."""
         self.number += 1
         value = {"session": self.session, "number": self.number, "base": base, "edit": edit}
         status, self.front, text = self.ask("POST", "/edits", json.dumps(value).encode())
-        if status != 200:
-            raise SystemExit(f"{edit['kind']} was answered {status} {text}")
+        return status, json.loads(text)
 
 
 def spent(process):
     """The seconds of processors that a process has used."""
     fields = pathlib.Path(f"/proc/{process.pid}/stat").read_text().rpartition(")")[2].split()
     return (int(fields[11]) + int(fields[12])) / os.sysconf("SC_CLK_TCK")
+
+
+def memory(process, name):
+    """A field of the system's account of a process, in MiB."""
+    told = pathlib.Path(f"/proc/{process.pid}/status").read_text()
+    return int(re.search(rf"^{name}:\s*(\d+) kB", told, re.M)[1]) / 1024
 
 
 class Nginx:

@@ -55,7 +55,7 @@ import part_shapes
 import sheet_shapes
 from built import built
 import costs_to_all
-from load import WRITERS, Bringing, Nginx, spent
+from load import WRITERS, Bringing, Nginx, memory, spent
 from served import Served, new_database, new_store
 from writers import Writer
 
@@ -255,12 +255,6 @@ class Asked:
         reader.link.close()
         if status != 200:
             raise SystemExit(f"{self.path} was answered {status}")
-
-
-def memory(process, name):
-    """A field of the system's account of a process, in MiB."""
-    told = pathlib.Path(f"/proc/{process.pid}/status").read_text()
-    return int(re.search(rf"^{name}:\s*(\d+) kB", told, re.M)[1]) / 1024
 
 
 def memories(counts):

@@ -61,27 +61,28 @@ def new_database(room):
 
 
 class Served:
-    """A server over a store. Its address stays when it is started again."""
+    """A server over a store, at a free port, or at the socket that is named. Its address stays when
+    it is started again."""
 
-    def __init__(self, store, run=None):
+    def __init__(self, store, run=None, path=None, options=()):
         self.store, self.run = str(store), run or program()
-        self.process = None
-        self.port = free_port()
+        self.process, self.options = None, options
+        self.port, self.path = None if path else free_port(), path and str(path)
         self.start()
         ENDS.append(self.kill)
 
     @property
     def address(self):
-        return f"127.0.0.1:{self.port}"
+        return f"unix:{self.path}" if self.path else f"127.0.0.1:{self.port}"
 
     @property
     def url(self):
-        return "http://" + self.address
+        return self.address if self.path else "http://" + self.address
 
     def start(self, longest=LONGEST):
         """Starts it, and waits until it says that it serves. Tells how long that took."""
         begun = time.monotonic()
-        words = [self.run, "serve", self.address, self.store]
+        words = [self.run, "serve", *self.options, self.address, self.store]
         self.process = subprocess.Popen(words, stdout=subprocess.PIPE, stderr=subprocess.STDOUT)
         ready, _, _ = select.select([self.process.stdout], [], [], longest)
         said = self.process.stdout.readline() if ready else b""

@@ -6,17 +6,28 @@ SHEET = "w.sch"
 OPENING = {"kind": "add_sheet", "name": SHEET, "text": "v 20130925 2\n"}
 
 
+def connected(place, patience=240):
+    """A connection to a port of the loopback, or to the socket that has this path."""
+    if isinstance(place, str):
+        link = socket.socket(socket.AF_UNIX)
+        link.settimeout(patience)
+        link.connect(place)
+        return link
+    link = socket.create_connection(("127.0.0.1", place), timeout=patience)
+    link.setsockopt(socket.IPPROTO_TCP, socket.TCP_NODELAY, 1)
+    return link
+
+
 class Writer:
     """A session. Each of its wires is one of a kind, so that a sheet shows whether it is there."""
 
-    def __init__(self, port, session, column=0):
-        self.port, self.session, self.column = port, session, column
+    def __init__(self, place, session, column=0):
+        self.place, self.session, self.column = place, session, column
         self.number = 0
         self.connect()
 
     def connect(self):
-        self.link = socket.create_connection(("127.0.0.1", self.port), timeout=240)
-        self.link.setsockopt(socket.IPPROTO_TCP, socket.TCP_NODELAY, 1)
+        self.link = connected(self.place)
         self.rest = b""
 
     def ask(self, method, path, body=b""):
