@@ -92,6 +92,17 @@ class ProposeTest(ProposalLaboratory):
         self.assertEqual(self.ann("pull")[0], 0)
         self.assertEqual(self.ann("push", "preamp.sch"), (0, "preamp.sch: nothing to send\n"))
 
+    def test_a_message_may_stand_anywhere_among_the_words(self):
+        self.ann.draws("value=1k\n", "value=2k\n")
+        for at, words in enumerate((["-m", "why", "p0", "preamp.sch"],
+                                    ["p1", "-m", "why", "preamp.sch"],
+                                    ["p2", "preamp.sch", "-m", "why"])):
+            with self.subTest(words):
+                status, said = self.ask(self.ann, "propose", *words)
+                self.assertEqual(status, 0, said)
+                found = json.loads((self.reviews / f"proposals/p{at}.json").read_text(encoding="utf-8"))
+                self.assertEqual((found["message"], found["files"]), ("why", ["preamp.sch"]))
+
     def test_all_that_was_pulled_is_proposed_where_no_file_is_named(self):
         self.ann.draws("value=1k\n", "value=2k\n")
         self.ann.draws(RES, "footprint=ACY300\n", "res.sym")

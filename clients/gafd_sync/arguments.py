@@ -5,10 +5,10 @@ import getpass
 import os
 import re
 import sys
-import urllib.parse
 from typing import Callable, NamedTuple
 
 from .accepting import accept, withdraw
+from .addresses import Address
 from .boards import at
 from .commands import copy, diff, ids, renumber, sheets
 from .comparing import compare
@@ -20,7 +20,7 @@ from .pushes import push
 from .revert import revert
 from .reviewing import review
 from .reviews import Reviews, a_place
-from .server import Server, password
+from .server import Server
 from .store import backup, check, history
 from .tables import fill, table
 from .undo import undo
@@ -92,8 +92,9 @@ symbol's name ends in .sym.
   notes                 lists the notes that are open, and with --all those that are resolved too
   resolve NUMBER        ends a note
 
-`--server URL` names the server, as http://127.0.0.1:8080 or https://lab.example/amp; else
-GAFD_SERVER does, else the folder remembers the last one. A password is taken from ~/.netrc.
+`--server URL` names the server, as http://127.0.0.1:8080, https://lab.example/amp, or
+unix:/run/gafd/amp.socket for its socket; else GAFD_SERVER does, else the folder remembers the last
+one. A password is taken from ~/.netrc.
 `--version` prints the version.
 `--view URL`, else GAFD_VIEW, else the last one that the folder remembers, is a gafd_view of the
 same board: with it lines tell who changed what, "changed by bob, edit 12" in place of "changed by
@@ -227,18 +228,25 @@ def arguments():
     parser.add_argument("--session", type=a_name, help=argparse.SUPPRESS)
     parser.add_argument("--view", help=argparse.SUPPRESS)
     parser.add_argument("--reviews", help=argparse.SUPPRESS)
-    commands = parser.add_subparsers(
-        dest="command", required=True, metavar="COMMAND", help=argparse.SUPPRESS
-    )
-    for name, command in COMMANDS.items():
-        one = commands.add_parser(name)
-        for flags in command.flags:
-            group = one.add_mutually_exclusive_group()
-            for flag in flags.split():
-                group.add_argument(flag, **FLAGS[flag])
-        for word in command.words:
-            one.add_argument(**WORDS[word], metavar=word.strip("[.]"))
-    return parser.parse_args()
+    parser.add_argument("command", choices=COMMANDS, metavar="COMMAND", help=argparse.SUPPRESS)
+    parser.add_argument("words", nargs=argparse.REMAINDER, help=argparse.SUPPRESS)
+    asked = parser.parse_args()
+    parser = parser_of(asked.command)
+    # Flags may stand between files, but where `--` tells that a name begins with `-`.
+    parse = parser.parse_args if "--" in asked.words else parser.parse_intermixed_args
+    return parse(asked.words, asked)
+
+
+def parser_of(name):
+    """What reads the words behind a command."""
+    command, parser = COMMANDS[name], argparse.ArgumentParser(prog="gafd_sync " + name)
+    for flags in command.flags:
+        group = parser.add_mutually_exclusive_group()
+        for flag in flags.split():
+            group.add_argument(flag, **FLAGS[flag])
+    for word in command.words:
+        parser.add_argument(**WORDS[word], metavar=word.strip("[.]"))
+    return parser
 
 
 def a_session(word):
@@ -277,7 +285,7 @@ def server_of(asked, folder):
 def user_of(folder):
     """The user whom ~/.netrc has for the server that the folder remembers, or None."""
     url = folder.load("server")
-    return password(urllib.parse.urlsplit(url))[0] if url else None
+    return Address(url).password()[0] if url else None
 
 
 def view_of(asked, folder):

@@ -1,15 +1,13 @@
 """The connection to a `gafd serve`."""
-import base64
 import http.client
 import json
-import netrc
 import re
 import ssl
 import sys
 import time
-import urllib.parse
 from typing import NamedTuple
 
+from .addresses import Address
 from .sheets import sheet_of
 from .words import NAME, SHEET, SYMBOL, Refused, Stop
 
@@ -58,16 +56,11 @@ class Server:
     """One connection to a `gafd serve`. What it has seen of the history never shrinks."""
 
     def __init__(self, url, session):
-        parts = urllib.parse.urlsplit(url if "//" in url else "http://" + url)
-        if parts.scheme not in ("http", "https") or not parts.hostname:
-            raise Stop(f"{url} is no address of a server, as http://127.0.0.1:8080 is one", 2)
-        is_safe = parts.scheme == "https"
-        kind = http.client.HTTPSConnection if is_safe else http.client.HTTPConnection
-        self.url = f"{parts.scheme}://{parts.netloc.rpartition('@')[2]}{parts.path}".rstrip("/")
-        self.user, word = password(parts)
+        address = Address(url)
+        self.url, self.path = address.url, address.path
+        self.user, word = address.password()
         self.session = session
-        self.link = kind(parts.hostname, parts.port, timeout=PATIENCE)
-        self.path = parts.path.rstrip("/")
+        self.link = address.link(PATIENCE)
         self.headers = {} if self.user is None else {"Authorization": word}
         self.front, self.number = 0, None
         self.left_out = set()
@@ -105,18 +98,29 @@ class Server:
                 raise Stop(f"{self.url}: {cause}", 3)
             time.sleep(pause)
         if reply.status in (401, 403):
-            raise Stop(f"{self.url} {self.kept_out(method)}", 3)
+            raise Stop(f"{self.url} {self.kept_out(method, reply)}", 3)
         if reply.front < 0:
             raise Stop(f"{self.url}: {reply.start}", 3)
         return reply
 
-    def kept_out(self, method):
-        """Why a proxy in front of the server lets nothing in."""
+    def kept_out(self, method, reply):
+        """Why the server, or a proxy in front of it, lets nothing in."""
+        fault = reply.fault().get("fault")
+        if fault == "Foreign":
+            return f"goes by other names: `gafd serve --host {self.link.host}` gives it this one"
+        if fault == "NotYou":
+            return self.not_you()
         if self.user is None:
             return "wants a password; ~/.netrc may have it"
         if method == "POST":
             return f"takes no edits from {self.user}, who may read alone; who runs it gives rights"
         return f"refuses the password of {self.user}"
+
+    def not_you(self):
+        """Why the server takes no edits under this session."""
+        if self.user is None:
+            return "takes edits through a proxy alone, which tells who sends them"
+        return f"takes edits of {self.session} from {self.session} alone, and not from {self.user}"
 
     def get(self, path):
         """A report, of a history that holds all that was seen; None where it is not there."""
@@ -243,17 +247,3 @@ class Server:
 def in_order(stands):
     """The names of sheets by their least ids, those without objects last."""
     return sorted(stands, key=lambda name: (min(stands[name].objects, default=GREATEST), name))
-
-
-def password(parts):
-    """The user in the address, or in ~/.netrc, and the header that tells the password; or None."""
-    user, word = parts.username, parts.password
-    if user is None:
-        try:
-            found = netrc.netrc().authenticators(parts.hostname)
-        except (OSError, netrc.NetrcParseError):
-            found = None
-        user, word = (found[0], found[2]) if found else (None, None)
-    if user is None:
-        return None, None
-    return user, "Basic " + base64.b64encode(f"{user}:{word or ''}".encode()).decode()

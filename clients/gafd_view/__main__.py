@@ -12,10 +12,10 @@ sheets as one board, of FILEs these and the sheets below them; it looks again wh
 Symbols that do not lie beside the sheets are looked for below the folders that --symbols names, then
 in those of GAFD_SYMBOLS, as `gafd` does, and below those of lepton-eda and gEDA.
 
-Of a SERVER, as http://127.0.0.1:8080, it shows what that keeps, and hands edits on. --store names
-the server's store where it can be read here; then the page has the history, and who did what is
-told to others too. --look hands on no edits. --host is one more name under which the page is
-called, as behind a proxy.
+Of a SERVER, as http://127.0.0.1:8080 or unix:/run/gafd/amp.socket, it shows what that keeps, and
+hands edits on. --store names the server's store where it can be read here; then the page has the
+history, and who did what is told to others too. --look hands on no edits. --host is one more name
+under which the page is called, as behind a proxy.
 
 --reviews names the folder in which `gafd_sync` keeps the proposals and notes of the board; they are
 shown beside it, and a proposal's board beside the board now where the store is named too. Findings
@@ -40,12 +40,17 @@ import threading
 
 from board_files import Library, below
 from folder_board import FolderBoard
-from gafd_program import client, program, version
+from gafd_program import program
 from history import History
 from past_boards import PastBoards
 from printing import NoPdf, pdf_of
 from served_board import ServedBoard
 from web import View
+
+# gafd_program put the client on the path.
+from board_reviews import BoardReviews
+from gafd_sync.version import version
+from gafd_sync.words import Stop
 
 SYSTEM = ["/usr/share/lepton-eda/sym", "/usr/share/gEDA/sym", "/usr/local/share/lepton-eda/sym"]
 
@@ -94,8 +99,6 @@ def reviews_of(asked, url=None):
     """The reviews that are asked for, or None. It is the client that reads them."""
     if asked.reviews is None:
         return None
-    sys.path.append(client())
-    from board_reviews import BoardReviews
     return BoardReviews(asked.reviews, url, asked.store, program(), asked.look)
 
 
@@ -149,6 +152,8 @@ def main():
     is_server = not any(pathlib.Path(it).exists() for it in asked.shown) and ":" in asked.shown[0]
     try:
         view = (server_view if is_server else folder_view)(asked)
+    except Stop as stop:
+        sys.exit(f"gafd_view: {stop}")
     except OSError as error:
         sys.exit(f"gafd_view: 127.0.0.1:{asked.port}: {error.strerror}")
     if asked.pdf:

@@ -162,7 +162,7 @@ class ProposedBoard(PastBoard):
     def __init__(self, store, front, run, proposal):
         super().__init__(store, front, run)
         try:
-            with reader("http://" + self.name, proposal.who) as server:
+            with reader(self.address.url, proposal.who) as server:
                 self.against = put(proposal, server)
         except OSError:
             self.close()

@@ -1,12 +1,17 @@
-"""The program `gafd`, which reads files, and serves a board as it was."""
+"""The program `gafd`, which reads files, and serves a board as it was; and the modules of the client
+`gafd_sync`, which it puts on the path."""
 import os
 import pathlib
 import random
 import shutil
 import socket
+import sys
 
 # The checkout, or the folder below which all is installed.
 TOP = pathlib.Path(__file__).resolve().parent.parent.parent
+# Where Python finds the modules of the client: in the checkout, or in its one file.
+CLIENTS = [TOP / "clients", TOP / "bin/gafd_sync"]
+sys.path.append(str(next((it for it in CLIENTS if it.exists()), CLIENTS[0])))
 
 
 def program():
@@ -15,18 +20,6 @@ def program():
              TOP / "out/gafd", TOP / "gafd", TOP / "bin/gafd"]
     paths = (pathlib.Path(it).resolve() for it in found if it)
     return next((str(it) for it in paths if it.is_file() and os.access(it, os.X_OK)), None)
-
-
-def version():
-    """The version of the installation, else of the release in the checkout."""
-    told = (TOP / "share/gafd_view/VERSION", TOP / "release/SOURCES")
-    return next(it for it in told if it.is_file()).read_text(encoding="utf-8").split()[1]
-
-
-def client():
-    """Where Python finds the modules of gafd_sync: in the checkout, or in its one file."""
-    found = [TOP / "clients", TOP / "bin/gafd_sync"]
-    return str(next((it for it in found if it.exists()), found[0]))
 
 
 def free_port():

@@ -1,10 +1,11 @@
 """A board that a `gafd serve` keeps."""
 import http.client
 import json
-import sys
 import threading
-import urllib.parse
 from typing import NamedTuple, Optional
+
+import gafd_program  # puts gafd_sync on the path
+from gafd_sync.addresses import Address
 
 # A server has eight workers for all who ask; the readers of one page should not keep them all.
 MOST_AT_ONCE = 4
@@ -20,27 +21,23 @@ class Answer(NamedTuple):
 
 
 class ServedBoard:
-    """The board at an address. Each request has a connection of its own, which ends."""
+    """The board at an address, of HTTP or `unix:` and a path. Each request has a connection of its
+    own, which ends."""
 
     kind = "server"
 
     def __init__(self, url, patience=PATIENCE):
-        parts = urllib.parse.urlsplit(url if "//" in url else "http://" + url)
-        if parts.scheme not in ("http", "https") or not parts.hostname:
-            sys.exit(f"gafd_view: {url} is no address of a server, as http://127.0.0.1:8080 is one")
-        is_safe = parts.scheme == "https"
-        self.connection = http.client.HTTPSConnection if is_safe else http.client.HTTPConnection
-        self.place, self.path = (parts.hostname, parts.port), parts.path.rstrip("/")
-        self.name, self.patience = parts.netloc + self.path, patience
+        self.address, self.patience = Address(url), patience
+        self.name = self.address.name
         self.turns = threading.BoundedSemaphore(MOST_AT_ONCE)
 
     def ask(self, method, path, body=None):
         """The answer to a request; OSError where none comes."""
         with self.turns:
-            connection = self.connection(*self.place, timeout=self.patience)
+            connection = self.address.link(self.patience)
             try:
                 headers = {"Connection": "close"}
-                connection.request(method, f"{self.path}/{path}", body, headers)
+                connection.request(method, f"{self.address.path}/{path}", body, headers)
                 reply = connection.getresponse()
                 front = reply.getheader("Front", "")
                 return Answer(reply.status, int(front) if front.isdigit() else None, reply.read())

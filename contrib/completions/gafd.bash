@@ -24,7 +24,7 @@ _gafd() {
     *:export:*) _gafd_files 'sch|sym' ;;
     *:symcheck:*) _gafd_files sym ;;
     3:fill:*) _gafd_files csv ;;
-    2:serve:*) COMPREPLY=($(compgen -W '127.0.0.1:8080' -- "$cur")) ;;
+    2:serve:*) COMPREPLY=($(compgen -W '127.0.0.1:8080 unix:' -- "$cur")) ;;
     3:serve:* | *:store:*) _gafd_files db ;;
     esac
     $restored

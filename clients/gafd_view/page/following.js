@@ -10,7 +10,7 @@ import { boxesOf, drawAll, drawChanges, drawFindings, frame, light,
   markLooseEnds } from "./picture.js";
 import { symbolNames } from "./board.js";
 import { Away } from "./server.js";
-import { board, byId, instanceOf, notice, sheetOf, shown, shownInstance,
+import { board, byId, instanceOf, notice, shown, shownInstance,
   shownObjects } from "./state.js";
 import { escapeText } from "./texts.js";
 import { changeWords, label } from "./words.js";

@@ -1,7 +1,7 @@
 // Pins, and where the parts of a symbol stand on a sheet (docs/RULES.md, "Placing"): mirrored, then
 // turned, then shifted. Texts are turned as lepton-schematic does it.
 
-import { attributeValue, slotNumbers, symbolParts, valuesAmong } from "./attributes.js";
+import { slotNumbers, symbolParts, valuesAmong } from "./attributes.js";
 
 const knownPins = new WeakMap();
 

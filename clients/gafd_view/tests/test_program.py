@@ -115,6 +115,35 @@ class Safety(Case):
         self.assertEqual(ask(view.address, "GET", "/about", None, {"Host": "lab.example"})[0], 200)
 
 
+class Sockets(Case):
+    files = ["res.sym"]
+
+    def test_a_board_at_a_socket_is_looked_at_and_edited(self):
+        path = self.folder / "amp.socket"
+        server = served.Served(self.folder / "other", path=path)
+        self.addCleanup(server.stop)
+        view = self.viewed("--store", self.folder / "other", server.url)
+        self.assertEqual(json.loads(view.ask("/about")[1])["name"], server.url)
+        status, text, _ = ask(view.address, "POST", "/board/edits", EDIT, TYPE)
+        self.assertEqual((status, json.loads(text)["serial"]), (200, 0))
+        self.assertEqual(view.ask("/board/sheets")[2]["Front"], "1")
+        self.assertEqual(view.ask("/at/0/sheets")[2]["Front"], "0")
+        self.assertEqual(json.loads(view.ask("/watch?from=0")[1]), {"front": 1})
+
+    def test_a_socket_where_nobody_serves_is_no_server(self):
+        view = self.viewed(f"unix:{self.folder}/none")
+        self.assertEqual(view.ask("/board/sheets")[:2], (502, '{"fault":"NoServer"}'))
+
+    def test_what_is_no_address_is_told(self):
+        for word in ("unix:", "ftp://lab.example"):
+            words = [sys.executable, str(HERE.parent), "--port", "0", word]
+            told = subprocess.run(words, capture_output=True, text=True, timeout=PATIENCE,
+                                  check=False)
+            self.assertEqual((told.returncode, told.stderr), (
+                1, f"gafd_view: {word} is no address of a server, as http://127.0.0.1:8080 and"
+                " unix:amp.socket are\n"))
+
+
 class Histories(Case):
     def test_rows_come_as_lines(self):
         status, text, headers = self.view.ask("/history?from=11")
