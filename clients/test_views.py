@@ -153,7 +153,7 @@ class PastTest(ViewLaboratory):
                 self.assertIn(line, said)
         status, said = self.ann("compare", "--store", store, "11", "11")
         self.assertEqual((status, len(said.splitlines())), (0, 2), said)
-        status, said = self.ann("compare", "--store", store, "0", "1")
+        status, said = self.ann("compare", "--store", store, "0", "9")
         self.assertEqual((status, " added by ann" in said), (1, True), said)
 
     def test_what_cannot_be_written_is_told(self):
