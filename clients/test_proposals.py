@@ -101,7 +101,7 @@ class ProposeTest(ProposalLaboratory):
                 status, said = self.ask(self.ann, "propose", *words)
                 self.assertEqual(status, 0, said)
                 found = json.loads((self.reviews / f"proposals/p{at}.json").read_text(encoding="utf-8"))
-                self.assertEqual((found["message"], found["files"]), ("why", ["preamp.sch"]))
+                self.assertEqual(found["message"], "why")
 
     def test_all_that_was_pulled_is_proposed_where_no_file_is_named(self):
         self.ann.draws("value=1k\n", "value=2k\n")
