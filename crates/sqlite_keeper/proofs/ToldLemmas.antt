@@ -8,7 +8,7 @@ use Rattle.sqlite.specs.Table.{Table}
 use Rattle.edit_entries.specs.Entries.{EntryData}
 use Rattle.edit_json.specs.Rows.{row_text}
 use Rattle.row_table.specs.Tables.{HasRows, Holds, stored_from}
-use Rattle.sqlite_keeper.specs.RowTexts.{IsRowOf, entry_of}
+use Rattle.row_texts.specs.RowTexts.{IsRowOf, entry_of}
 use Rattle.sqlite_keeper.specs.Told.{IsBlank, IsKept, Tells, bodies_in, rows_of, told_rows}
 
 stored_bodies : (from : ℕ) (bodies : List (List ℕ)) → map (λ r. bytes (column r 2)) (stored_from from bodies) ≡ bodies

@@ -7,7 +7,7 @@ use Rattle.sqlite.specs.Table.{Table}
 use Rattle.edit_entries.specs.Entries.{EntryData}
 use Rattle.row_table.specs.Tables.{Holds, no_schema}
 use Rattle.edit_json.specs.Rows.{row_text}
-use Rattle.sqlite_keeper.specs.RowTexts.{entry_of}
+use Rattle.row_texts.specs.RowTexts.{entry_of}
 
 -- the rows of the table, where there is one
 abbrev pub rows_of : List Table → List Row → List Row

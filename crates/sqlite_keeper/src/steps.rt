@@ -5,13 +5,13 @@ ghost use Rattle.std.specs.Option.{option_map};
 ghost use Rattle.sqlite.specs.Held.{state};
 ghost use Rattle.row_table.specs.Tables.{IsSafe};
 ghost use Rattle.edit_entries.specs.Entries.{EntryData};
-ghost use Rattle.sqlite_keeper.specs.RowTexts.{IsRowOf, entry_of};
+ghost use Rattle.row_texts.specs.RowTexts.{IsRowOf, entry_of};
 ghost use Rattle.sqlite_keeper.specs.Told.{IsKept, Tells, told_rows};
 
-use crate::rows::{row_body, row_entry};
 use edit_entries::Entry;
 use keeper_core::KeepFault;
 use row_table::{create, insert, select};
+use row_texts::{row_body, row_entry};
 use sqlite::{Alter, Connection, Error, ErrorCode};
 use std::alloc::Global;
 

@@ -7,8 +7,8 @@ use Rattle.edit_entries.specs.declared.edit.Edit.TheVariants as edits
 use Rattle.edit_json.specs.EntryValues.{edit_value, entry_value, id_items}
 use Rattle.edit_json.specs.Rows.{IsRowText, RowData, new_value, row_text, row_value}
 use Rattle.edit_json.proofs.ValueLemmas.{integer_again}
-use Rattle.sqlite_keeper.specs.RowReading.{edit_from, entry_by, entry_from, numbers}
-use Rattle.sqlite_keeper.specs.RowTexts.{IsRowOf, entry_of, no_entry}
+use Rattle.row_texts.specs.RowReading.{edit_from, entry_by, entry_from, numbers}
+use Rattle.row_texts.specs.RowTexts.{IsRowOf, entry_of, no_entry}
 
 numbers_again : (ids : List ℕ) → numbers (id_items ids) ≡ Some ids
 numbers_again [] = refl

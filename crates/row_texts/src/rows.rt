@@ -1,6 +1,6 @@
 // The body of a row, and the entry that a body is.
 ghost use Rattle.std.specs.Prelude.{◌≡◌, IfOk, MatchResult};
-ghost use Rattle.sqlite_keeper.specs.RowTexts.{IsRowOf, entry_of};
+ghost use Rattle.row_texts.specs.RowTexts.{IsRowOf, entry_of};
 
 use edit_entries::Entry;
 use edit_json::{Row, RowFault, read_row, row_text};

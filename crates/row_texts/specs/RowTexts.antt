@@ -4,7 +4,7 @@ use Rattle.edit_entries.specs.Entries.{EntryData}
 use Rattle.edit_entries.specs.declared.edit.Edit.TheVariants.{Renumber}
 use Rattle.edit_json.specs.Documents.{document_of}
 use Rattle.edit_json.specs.Rows.{row_text}
-use Rattle.sqlite_keeper.specs.RowReading.{entry_from}
+use Rattle.row_texts.specs.RowReading.{entry_from}
 
 -- the entry that stands for a body that is none
 abbrev pub no_entry : EntryData
