@@ -1,0 +1,2 @@
+-- Steps of the code; no public clause cites them.
+pub mod Reading
