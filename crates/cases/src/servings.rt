@@ -153,7 +153,7 @@ fn run_with<W: Threads + Wait + Clock + Sync>(
     let Wires {
         mut gate,
         keeper,
-        database,
+        mut database,
     } = wires;
     let mut places = Places::new();
     let status = run(
@@ -166,9 +166,10 @@ fn run_with<W: Threads + Wait + Clock + Sync>(
         &mut gate,
         keeper,
         &mut places,
-        database,
+        &mut database,
     );
     drop(gate);
+    drop(database);
     drop(places);
     status
 }

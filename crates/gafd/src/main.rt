@@ -56,7 +56,7 @@ fn main(rt: HostRuntime) -> ExitCode {
     let mut folder = DirFolder::new(&rt, libraries);
     let mut gate = TcpGate::new(&rt);
     let keeper = StoreKeeper::new(&rt);
-    let database = SqlBatchKeeper::new(&rt);
+    let mut database = SqlBatchKeeper::new(&rt);
     let mut places = Places::new();
     let status = match arguments(&rt) {
         Ok(arguments) => run(
@@ -69,7 +69,7 @@ fn main(rt: HostRuntime) -> ExitCode {
             &mut gate,
             keeper,
             &mut places,
-            database,
+            &mut database,
         ),
         Err(_) => report_want_of_memory(&mut err),
     };

@@ -4,6 +4,7 @@ use Rattle.std.specs.Prelude.{if◌then◌else◌}
 use Rattle.std.specs.declared.option.Option.{Option}
 use Rattle.std.specs.Result.{result_map_both}
 use Rattle.attr_table.specs.SheetTables.{table_text}
+use Rattle.edit_entries.specs.Entries.{EntryData}
 use Rattle.edit_rules.specs.Histories.{project}
 use Rattle.geda_defs.specs.Contents.{Files, KeepsFiles}
 use Rattle.command_words.specs.declared.command.Command.{Command}
@@ -16,12 +17,12 @@ use Rattle.renum_files.specs.declared.fault.RenumberFault.{RenumberFault}
 use Rattle.sinks.specs.Streams.{IsQuiet, Stream}
 use Rattle.hall_server.specs.Serving.{Outside, ServesTo}
 use Rattle.hall_server.specs.declared.fault.ServeFault.TheVariants as serve_faults
-use Rattle.store_copy.specs.Storing.{Keepers, StoresTo}
+use Rattle.store_copy.specs.Storing.{Keepers, PutsNone, StoresTo}
 use Rattle.store_copy.specs.declared.storing_fault.StoringFault.TheVariants as storing_faults
 use Rattle.gafd_run.specs.declared.fault.RunFault.{RunFault}
 use Rattle.gafd_run.specs.declared.fault.RunFault.TheVariants as faults
 use Rattle.gafd_run.specs.Answers.{AnswerData, ComesTo, FillsTo, Outcome, RenumbersTo, SheetsTo, checked_under, is_symbol_name, listed, symbols_reported, tabled, written_down}
-use Rattle.gafd_run.specs.Endings.{Completes, IsCheck, IsLeft, IsServing, IsStoring, RunEnds, Served, ServingEnds, Stored, StoringEnds, served_status, stored_status}
+use Rattle.gafd_run.specs.Endings.{Completes, IsCheck, IsLeft, IsServing, IsStoring, KeepsUnlessStoring, RunEnds, Served, ServingEnds, Stored, StoringEnds, served_status, stored_status}
 use Rattle.gafd_run.specs.Faults.{error_line, renumber_fault, status_of}
 use Rattle.gafd_run.specs.Runs.{Ends, EndsWith, SaidLine, outcome_status}
 use Rattle.gafd_run.specs.Writing.{FolderRun}
@@ -122,9 +123,20 @@ kept_same : (files : Option Files) → KeepsFiles files files
 kept_same None = tt
 kept_same (Some files) = λ name. refl
 
+-- the rows of the database, where they stay
+pub rows_stay : (command : Option Command) (rows : Option (List EntryData))
+    → KeepsUnlessStoring command rows rows
+rows_stay None rows = refl
+rows_stay (Some (commands.Store store database)) rows = tt
+rows_stay (Some command) rows = refl
+
 -- the words were not read
-pub words_failed : (outside : Outside) (keepers : Keepers) (folder : FolderRun) (command : Option Command) (out err : Stream) (status : ℕ) (fault : WordFault) (e : RunFault) → FromWords fault e → Fails fault command → folder.new ≡ folder.old → IsQuiet out → Reports err e status → RunEnds outside keepers folder command out err status
-words_failed outside keepers folder command out err status words.Usage e from none same_files quiet r = subst (λ (c : Option Command). RunEnds outside keepers folder c out err status) (sym none) (usage r.same)
+pub words_failed : (outside : Outside) (keepers : Keepers) (folder : FolderRun)
+    (command : Option Command) (out err : Stream) (status : ℕ) (fault : WordFault) (e : RunFault)
+    → FromWords fault e → Fails fault command → folder.new ≡ folder.old → PutsNone keepers
+    → IsQuiet out → Reports err e status
+    → RunEnds outside keepers folder command out err status
+words_failed outside keepers folder command out err status words.Usage e from none same_files same_rows quiet r = subst (λ (c : Option Command). RunEnds outside keepers folder c out err status) (sym none) (usage r.same)
   where
     kept : KeepsFiles folder.old folder.new
     kept = subst (λ (files : Option Files). KeepsFiles folder.old files) (sym same_files) (kept_same folder.old)
@@ -140,7 +152,7 @@ words_failed outside keepers folder command out err status words.Usage e from no
     usage : (r.reported ≡ e) ⊎ ((r.reported ≡ faults.NoMemory) × TakesMemory e) → RunEnds outside keepers folder None out err status
     usage (inl same) = plain (same ∙ from)
     usage (inr (same, made)) = absurd (subst TakesMemory from made)
-words_failed outside keepers folder command out err status words.NoMemory e from any same_files quiet r = ends command
+words_failed outside keepers folder command out err status words.NoMemory e from any same_files same_rows quiet r = ends command
   where
     kept : KeepsFiles folder.old folder.new
     kept = subst (λ (files : Option Files). KeepsFiles folder.old files) (sym same_files) (kept_same folder.old)
@@ -160,5 +172,5 @@ words_failed outside keepers folder command out err status words.NoMemory e from
 
     ends : (c : Option Command) → RunEnds outside keepers folder c out err status
     ends (Some (commands.Serve address store)) = (record { served = Err serve_faults.NoMemory; cause = inl quiet; said = said; status_is = status_is }, kept)
-    ends (Some (commands.Store store database)) = (record { stored = Err storing_faults.NoMemory; cause = quiet; said = said; status_is = status_is }, kept)
+    ends (Some (commands.Store store database)) = (record { stored = Err storing_faults.NoMemory; cause = (inl same_rows, quiet); said = said; status_is = status_is }, kept)
     ends c = plain c

@@ -15,8 +15,8 @@ module _ (keepers : Keepers) (out err : Stream) (status : ℕ) where
   -- before a line that takes memory, nothing went out
   as_want : (fault : StoringFault) → StoresTo keepers out (Err fault) → TakesMemory (storing_fault fault) → StoresTo keepers out (Err storing_faults.NoMemory)
   as_want storing_faults.KeeperFault h made = absurd made
-  as_want (storing_faults.RowRefused serial) h made = h.1
-  as_want (storing_faults.RowDiffers serial) h made = h.1
+  as_want (storing_faults.RowRefused serial) h made = (inl h.1, h.2)
+  as_want (storing_faults.RowDiffers serial) h made = (inl h.1, h.2)
   as_want storing_faults.OutputFault h made = absurd made
   as_want storing_faults.NoMemory h made = absurd made
 

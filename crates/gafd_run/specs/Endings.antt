@@ -89,6 +89,12 @@ abbrev pub IsStoring : Option Command → Type 0
 IsStoring (Some (Store store database)) = ⊤
 IsStoring other = ⊥
 
+-- the rows of the database stay, but for a copying of a store into it
+abbrev pub KeepsUnlessStoring :
+    Option Command → Option (List EntryData) → Option (List EntryData) → Type 0
+KeepsUnlessStoring (Some (Store store database)) old new = ⊤
+KeepsUnlessStoring other old new = new ≡ old
+
 -- a row of the database differs from those of the store that is copied
 abbrev pub ComesToDifference : Keepers → Option Command → Type 0
 ComesToDifference keepers command = IsStoring command × ((serial : ℕ) × DiffersAt keepers serial)

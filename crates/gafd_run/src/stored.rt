@@ -22,10 +22,10 @@ pub fn stored<O: Sink, E: Sink, K: Keeper, D: Keeper>(
     out: &mut O,
     err: &mut E,
     keeper: K,
-    database: D,
+    database: &mut D,
 ) -> u8
-    ensures { StoringEnds (keepers (K.never_fails keeper) (D.never_fails database)
-        (K.rows keeper) (D.rows database))
+    ensures { StoringEnds (keepers (K.never_fails keeper) (D.never_fails database.old)
+        (K.rows keeper) (D.rows database.old) (D.rows database.new))
         (stream (O.written out.old) (O.written out.new)
         (counts (O.faults out.old) (O.faults out.new)))
         (stream (E.written err.old) (E.written err.new)

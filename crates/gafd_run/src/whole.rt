@@ -8,7 +8,7 @@ ghost use Rattle.sinks.specs.Streams.{stream};
 ghost use Rattle.hall_server.specs.Serving.{outside};
 ghost use Rattle.store_copy.specs.Storing.{keepers};
 ghost use Rattle.gafd_run.specs.Answers.{ComesTo, IsFixed, Outcome};
-ghost use Rattle.gafd_run.specs.Endings.{Completes, RunEnds};
+ghost use Rattle.gafd_run.specs.Endings.{Completes, KeepsUnlessStoring, RunEnds};
 ghost use Rattle.gafd_run.specs.Runs.{Ends, EndsWith, KeepsUnless};
 ghost use Rattle.gafd_run.specs.Writing.{folder_run};
 ghost use Rattle.gafd_run.specs.steps.Passing.{IsOnFiles};
@@ -98,13 +98,13 @@ fn run_command<
     gate: &mut G,
     keeper: K,
     places: &mut Places,
-    database: D,
+    database: &mut D,
 ) -> u8
     ensures end { RunEnds (outside (K.never_fails keeper) (K.rows keeper)
         (counts (G.faults gate.old) (G.faults gate.new))
         (counts places.old.refused places.new.refused))
-        (keepers (K.never_fails keeper) (D.never_fails database)
-        (K.rows keeper) (D.rows database))
+        (keepers (K.never_fails keeper) (D.never_fails database.old)
+        (K.rows keeper) (D.rows database.old) (D.rows database.new))
         (folder_run (F.files folder.old) (F.files folder.new)
         (counts (F.faults folder.old) (F.faults folder.new)))
         (command_of arguments.now)
@@ -115,6 +115,8 @@ fn run_command<
         result }
     ensures files { KeepsUnless (command_of arguments.now)
         (F.files folder.old) (F.files folder.new) }
+    ensures database { KeepsUnlessStoring (command_of arguments.now)
+        (D.rows database.old) (D.rows database.new) }
 {
     let command = match command_of(alloc, arguments) {
         Ok(command) => command,
@@ -138,8 +140,9 @@ fn run_command<
 /// For each fault one line goes to `err`; a failing `err` changes no status. Of a command on files
 /// nothing is written and nothing goes to `out` before all is computed, and nothing goes to `out`
 /// before all files are written. `serve` binds the gate, opens a hall over the keeper, and prints
-/// its line before it serves. `store` copies what one keeper keeps into the other, and prints how
-/// many rows that were. All files stay, but those that `renumber` and `fill` write.
+/// its line before it serves. `store` copies what one keeper keeps into `database`, which then has
+/// all of it, and prints how many rows that were; for other commands the rows of `database` stay.
+/// All files stay, but those that `renumber` and `fill` write.
 pub fn run<
     W: Threads + Wait + Sync,
     F: Folder,
@@ -158,7 +161,7 @@ pub fn run<
     gate: &mut G,
     keeper: K,
     places: &mut Places,
-    database: D,
+    database: &mut D,
 ) -> u8
     // The arguments come to an answer, whose files are written and whose text is out, or to a
     // fault; or links were served; or the folder, the output, the gate, the keeper or a place
@@ -166,8 +169,8 @@ pub fn run<
     ensures end { RunEnds (outside (K.never_fails keeper) (K.rows keeper)
         (counts (G.faults gate.old) (G.faults gate.new))
         (counts places.old.refused places.new.refused))
-        (keepers (K.never_fails keeper) (D.never_fails database)
-        (K.rows keeper) (D.rows database))
+        (keepers (K.never_fails keeper) (D.never_fails database.old)
+        (K.rows keeper) (D.rows database.old) (D.rows database.new))
         (folder_run (F.files folder.old) (F.files folder.new)
         (counts (F.faults folder.old) (F.faults folder.new)))
         (command_of arguments.now)
@@ -178,13 +181,15 @@ pub fn run<
         result }
     ensures files { KeepsUnless (command_of arguments.now)
         (F.files folder.old) (F.files folder.new) }
+    ensures database { KeepsUnlessStoring (command_of arguments.now)
+        (D.rows database.old) (D.rows database.new) }
     // Where the arguments come to no fault and nothing outside failed, the status is 0, or 7 of a
     // check, or 6 of a serving over rows that are not accepted, or 71.
     ensures complete { Completes (outside (K.never_fails keeper) (K.rows keeper)
         (counts (G.faults gate.old) (G.faults gate.new))
         (counts places.old.refused places.new.refused))
-        (keepers (K.never_fails keeper) (D.never_fails database)
-        (K.rows keeper) (D.rows database))
+        (keepers (K.never_fails keeper) (D.never_fails database.old)
+        (K.rows keeper) (D.rows database.old) (D.rows database.new))
         (folder_run (F.files folder.old) (F.files folder.new)
         (counts (F.faults folder.old) (F.faults folder.new)))
         (command_of arguments.now)

@@ -26,7 +26,7 @@ fn copied<K: Keeper, D: Keeper>(
     database: &mut D,
 ) -> Result<u32, StoringFault>
     ensures { CopiesTo (keepers (K.never_fails keeper.old) (D.never_fails database.old)
-        (K.rows keeper.old) (D.rows database.old)) result }
+        (K.rows keeper.old) (D.rows database.old) (D.rows database.new)) result }
 {
     match store_rows(alloc, keeper, database) {
         Ok(count) => Ok(count),
@@ -48,17 +48,16 @@ fn told<O: Sink>(alloc: Global, count: u32, out: &mut O) -> Result<(), StoringFa
 fn store_attached<K: Keeper, D: Keeper, O: Sink>(
     alloc: Global,
     keeper: K,
-    database: D,
+    database: &mut D,
     out: &mut O,
 ) -> Result<(), StoringFault>
-    ensures { StoresTo (keepers (K.never_fails keeper) (D.never_fails database)
-        (K.rows keeper) (D.rows database))
+    ensures { StoresTo (keepers (K.never_fails keeper) (D.never_fails database.old)
+        (K.rows keeper) (D.rows database.old) (D.rows database.new))
         (stream (O.written out.old) (O.written out.new)
         (counts (O.faults out.old) (O.faults out.new))) result }
 {
     let mut keeper = keeper;
-    let mut database = database;
-    match copied(alloc, &mut keeper, &mut database) {
+    match copied(alloc, &mut keeper, database) {
         Ok(count) => told(alloc, count, out),
         Err(fault) => Err(fault),
     }
@@ -69,15 +68,14 @@ fn store_into<K: Keeper, D: Keeper, O: Sink>(
     alloc: Global,
     name: &str,
     keeper: K,
-    database: D,
+    database: &mut D,
     out: &mut O,
 ) -> Result<(), StoringFault>
-    ensures { StoresTo (keepers (K.never_fails keeper) (D.never_fails database)
-        (K.rows keeper) (D.rows database))
+    ensures { StoresTo (keepers (K.never_fails keeper) (D.never_fails database.old)
+        (K.rows keeper) (D.rows database.old) (D.rows database.new))
         (stream (O.written out.old) (O.written out.new)
         (counts (O.faults out.old) (O.faults out.new))) result }
 {
-    let mut database = database;
     match database.attach(name) {
         Ok(()) => store_attached(alloc, keeper, database, out),
         Err(fault) => Err(StoringFault::from(fault)),
@@ -86,23 +84,24 @@ fn store_into<K: Keeper, D: Keeper, O: Sink>(
 
 /// Attaches a keeper to a store and another to a database, puts the rows of the first that the
 /// other does not have into it, and writes `stored N` and LF to `out`, N the number of rows that
-/// were put. The first fault that is met ends it.
+/// were put. The database then has all rows of the store. The first fault that is met ends it.
 ///
 /// `KeeperFault` never comes of two keepers that never fail. Where the rows are told, `RowRefused`
 /// only where the rules do not accept that row of the store, which is the first such one, and
 /// `RowDiffers` only where they accept each, and the database has a row at that serial, where the
-/// store has none or another one; it is the first such one. `OutputFault` only where the count of
-/// `out` rose; then a prefix of the line is out.
+/// store has none or another one; it is the first such one; then nothing was put. `OutputFault`
+/// only where the count of `out` rose; then all rows are put, and a prefix of the line is out.
+/// After `KeeperFault` and `NoMemory` the database has the first of the rows.
 pub fn store<K: Keeper, D: Keeper, O: Sink>(
     alloc: Global,
     store_name: &str,
     database_name: &str,
     keeper: K,
-    database: D,
+    database: &mut D,
     out: &mut O,
 ) -> Result<(), StoringFault>
-    ensures { StoresTo (keepers (K.never_fails keeper) (D.never_fails database)
-        (K.rows keeper) (D.rows database))
+    ensures { StoresTo (keepers (K.never_fails keeper) (D.never_fails database.old)
+        (K.rows keeper) (D.rows database.old) (D.rows database.new))
         (stream (O.written out.old) (O.written out.new)
         (counts (O.faults out.old) (O.faults out.new))) result }
 {

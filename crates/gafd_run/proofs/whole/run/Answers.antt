@@ -11,7 +11,9 @@ pub returns-clause-complete : goal.returns-clause-complete
 returns-clause-complete g c =
     let new = c.run_command.new in
     all_left (outside (g.K.Keeper.never_fails c.args.keeper) (g.K.Keeper.rows c.args.keeper) (counts (g.G.Gate.faults c.args.gate.now) (g.G.Gate.faults new.gate)) (counts c.args.places.now.refused new.places.refused))
-    (keepers (g.K.Keeper.never_fails c.args.keeper) (g.D.Keeper.never_fails c.args.database) (g.K.Keeper.rows c.args.keeper) (g.D.Keeper.rows c.args.database))
+    (keepers (g.K.Keeper.never_fails c.args.keeper) (g.D.Keeper.never_fails c.args.database.now)
+    (g.K.Keeper.rows c.args.keeper) (g.D.Keeper.rows c.args.database.now)
+    (g.D.Keeper.rows new.database))
     (folder_run (g.F.Folder.files c.args.folder.now) (g.F.Folder.files new.folder) (counts (g.F.Folder.faults c.args.folder.now) (g.F.Folder.faults new.folder)))
     (command_of c.args.arguments.now)
     (stream (g.O.Sink.written c.args.out.now) (g.O.Sink.written new.out) (counts (g.O.Sink.faults c.args.out.now) (g.O.Sink.faults new.out)))
