@@ -88,6 +88,7 @@ class StoreTest(Laboratory):
             (bytes(len(data)), "is cut"),
             (b"junk\n", "is no row: it is no JSON"),
             (b"[]\n", "is no row: it is no entry"),
+            (data.replace(b"0", b"1", 1), "is no row: its sum is that of another row"),
             ({**entry, "more": 1}, "is no row: it is no entry"),
             ({**entry, "number": "5"}, "is no row: it is no entry"),
             ({**entry, "edit": edit}, "is no row: it is no edit move"),

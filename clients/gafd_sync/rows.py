@@ -1,4 +1,5 @@
 """The rows of a store on the disk: where they end, and what is a row."""
+import hashlib
 import json
 import os
 import pathlib
@@ -11,6 +12,8 @@ ROW = re.compile(r"([0-9]{10})\.json")
 MOST_ROWS = 200_000
 LARGEST = 4_294_967_295
 SHEET, TURN = 200_000, 400_000
+SUM_LENGTH = 32
+TO_BLANKS = bytes.maketrans(b"01", b" \t")
 
 
 def number(least, greatest):
@@ -85,12 +88,28 @@ def has_fields(value, fields):
     return are_same and all(is_one(value[key]) for key, is_one in fields.items())
 
 
+def sum_of(row):
+    """The sum of a row: the first 32 bits of its MD5, a tab for each that is set, else a space."""
+    bits = int.from_bytes(hashlib.md5(row, usedforsecurity=False).digest()[:4], "big")
+    return f"{bits:032b}".encode().translate(TO_BLANKS)
+
+
+def row_part(text):
+    """What stands before the sum of a row, or all of a text that ends in no 32 blanks."""
+    row, blanks = text[:-SUM_LENGTH], text[-SUM_LENGTH:]
+    if len(blanks) < SUM_LENGTH or blanks.strip(b" \t"):
+        return text
+    if blanks != sum_of(row):
+        raise NoRow("its sum is that of another row")
+    return row
+
+
 def entry_of(data):
     """The entry of a row, of either version."""
     if not data.endswith(b"\n"):
         raise Unfinished("it has no end")
     try:
-        row = json.loads(data)
+        row = json.loads(row_part(data[:-1]))
     except ValueError:
         raise NoRow("it is no JSON") from None
     if type(row) is not dict:

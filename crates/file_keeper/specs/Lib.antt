@@ -1,3 +1,4 @@
 pub mod RowFiles
+pub mod RowSums
 pub mod Faults
 pub mod steps

@@ -3,6 +3,7 @@ use Rattle.std.specs.Prelude.{◌≡◌, ⊤, ℕ, List, Option, Some, None, Res
 use Rattle.geda_defs.specs.Lines.{ended}
 use Rattle.edit_entries.specs.Entries.{EntryData}
 use Rattle.edit_json.specs.Rows.{IsRowText, RowIsInRange}
+use Rattle.file_keeper.specs.RowSums.{IsRowPart}
 use Rattle.keeper_core.specs.declared.keeper.KeepFault.{KeepFault}
 use Rattle.keeper_core.specs.declared.keeper.KeepFault.TheVariants as fault
 
@@ -12,9 +13,10 @@ pub record IsRowLine (text : List ℕ) (entry : EntryData) : Type 0 where
   pub range : RowIsInRange (record { version = version; entry = entry })
   pub is : IsRowText text (record { version = version; entry = entry })
 
--- the bytes are the row of this entry: a text that is one of it, and LF
+-- the bytes are the row of this entry: a text whose row is one of it, and LF
 abbrev pub IsRow : List ℕ → EntryData → Type 0
-IsRow bytes entry = (text : List ℕ) × (bytes ≡ ended text) × IsRowLine text entry
+IsRow bytes entry =
+    (text row : List ℕ) × (bytes ≡ ended text) × IsRowPart text row × IsRowLine row entry
 
 -- the bytes do not end in LF
 abbrev pub IsCut : List ℕ → Type 0
@@ -24,7 +26,7 @@ IsCut bytes = (text : List ℕ) → ¬ (bytes ≡ ended text)
 pub record HoldsNoEntry (bytes : List ℕ) : Type 0 where
   pub text : List ℕ
   pub whole : bytes ≡ ended text
-  pub no_entry : (entry : EntryData) → ¬ (IsRowLine text entry)
+  pub no_entry : (row : List ℕ) (entry : EntryData) → IsRowPart text row → ¬ (IsRowLine row entry)
 
 -- what a reader of a row file answers: there is no row where it is cut
 abbrev pub ReadsRow : List ℕ → Result (Option EntryData) KeepFault → Type 0

@@ -15,6 +15,7 @@ mod keeper;
 mod names;
 mod rows;
 mod store;
+mod sums;
 
 pub use keeper::FileKeeper;
 pub use rows::{row_bytes, row_of};

@@ -9,6 +9,9 @@ use std::random::RandomSource;
 use std::rt::Files;
 use std::{fs, io};
 
+/// No row file is larger: the message of an entry has at most 4 MiB.
+const MOST_BYTES: u64 = 8 << 20;
+
 /// A folder of row files, with the locks on it. They go with this value, or with its process.
 #[derive(Drop)]
 pub struct Store {
@@ -181,6 +184,9 @@ impl Store {
 fn read_file<R: Files<File = File>>(rt: &R, alloc: Global, path: &str) -> io::Result<Vec<u8>> {
     require_file(rt, path)?;
     let mut file = fs::open(rt, path)?;
+    if file.metadata()?.len() > MOST_BYTES {
+        return Err(own_fault("too large for a row"));
+    }
     let mut bytes = Vec::new(alloc);
     file.read_to_end(&mut bytes)?;
     Ok(bytes)
