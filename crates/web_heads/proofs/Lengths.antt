@@ -9,10 +9,11 @@ use Rattle.httparse.specs.Grammar.{Field, NeverHasRequest}
 use Rattle.httparse.specs.declared.spans.HeaderSpan.{HeaderSpan}
 use Rattle.httparse.specs.Spans.{RequestExceeds, RequestOverflows, AreFieldsAt, header_bytes, name_and_value}
 use Rattle.web_heads.specs.declared.cut_end.CutEnd.{CutEnd}
-use Rattle.web_heads.specs.declared.cut_end.CutEnd.TheVariants.{Closed, CutShort, BadHead, LargeHead, LargeBody, Unsupported, Spent}
-use Rattle.web_heads.specs.Cuts.{judged, IsFinal, IsRefused, HasTooManyHeaders, Ends}
+use Rattle.web_heads.specs.declared.cut_end.CutEnd.TheVariants.{Closed, CutShort, BadHead, LargeHead, LargeBody, Unsupported, Foreign, Spent}
+use Rattle.web_heads.specs.Cuts.{judged, IsFinal, IsRefused, HasTooManyHeaders, EndsBy}
+use Rattle.web_heads.specs.Accesses.{AccessData}
 use Rattle.web_heads.specs.Digits.{is_short_number}
-use Rattle.web_heads.specs.Heads.{Header, headers_of, is_named, values_named, is_close, length_of, length_said, body_length}
+use Rattle.web_heads.specs.Heads.{Header, headers_of, is_named, values_named, is_close, is_foreign, length_of, length_said, length_by}
 
 -- the same bytes once more say nothing new
 pub said_again : (v w : List ℕ) (vs : List (List ℕ)) → bytes_eq v w ≡ true → length_said (v ∷ w ∷ vs) ≡ length_said (v ∷ vs)
@@ -35,6 +36,7 @@ SaysEnd (Err BadHead) = Unit {0}
 SaysEnd (Err LargeHead) = ⊥
 SaysEnd (Err LargeBody) = Unit {0}
 SaysEnd (Err Unsupported) = Unit {0}
+SaysEnd (Err Foreign) = Unit {0}
 SaysEnd (Err Spent) = ⊥
 
 either : (b : Bool) (x y : Result ℕ CutEnd) → SaysEnd x → SaysEnd y → SaysEnd (if b then x else y)
@@ -45,17 +47,19 @@ said_end : (values : List (List ℕ)) → SaysEnd (length_said values)
 said_end [] = tt
 said_end (value ∷ values) = either (is_short_number value && list_all (bytes_eq value) values) (length_of (digits_value 10 value)) (Err BadHead) (either (nat_le (digits_value 10 value) 4194304) (Ok (digits_value 10 value)) (Err LargeBody) tt tt) tt
 
-pub body_end : (headers : List Header) → SaysEnd (body_length headers)
-body_end headers = either (list_any (is_named (codes "transfer-encoding")) headers) (Err Unsupported) (length_said (values_named (codes "content-length") headers)) tt (said_end (values_named (codes "content-length") headers))
+pub body_end : (access : AccessData) (headers : List Header) → SaysEnd (length_by access headers)
+body_end access headers = either (list_any (is_named (codes "transfer-encoding")) headers) (Err Unsupported) (if is_foreign access.hosts headers then Err Foreign else length_said (values_named (codes "content-length") headers)) tt
+    (either (is_foreign access.hosts headers) (Err Foreign) (length_said (values_named (codes "content-length") headers)) tt (said_end (values_named (codes "content-length") headers)))
 
 -- a whole head that is refused ends the connection, whatever follows
-pub refused_ends : (bytes : List ℕ) (e : CutEnd) → IsRefused bytes e → IsFinal e × Ends bytes e
-refused_ends bytes e r = go e r (subst SaysEnd r.refused (body_end (headers_of r.head)))
+pub refused_ends : (access : AccessData) (bytes : List ℕ) (e : CutEnd) → IsRefused access bytes e → IsFinal e × EndsBy access bytes e
+refused_ends access bytes e r = go e r (subst SaysEnd r.refused (body_end access (headers_of r.head)))
   where
-    go : (e : CutEnd) → IsRefused bytes e → SaysEnd (Err e) → IsFinal e × Ends bytes e
+    go : (e : CutEnd) → IsRefused access bytes e → SaysEnd (Err e) → IsFinal e × EndsBy access bytes e
     go BadHead r s = (tt, inr r)
     go LargeBody r s = (tt, r)
     go Unsupported r s = (tt, r)
+    go Foreign r s = (tt, r)
     go Closed r s = absurd s
     go CutShort r s = absurd s
     go LargeHead r s = absurd s

@@ -1,5 +1,5 @@
 -- What stands at the front of bytes that have come stands there, whatever follows.
-use Rattle.std.proofs.Common.{◌≡◌, ℕ, ◌+◌, ◌-◌, ◌<◌, ◌≤◌, ◌⊎◌, inl, inr, min, List, ◌++◌, length, take, drop, refl, sym, ap, ◌∙◌, subst, arith, Ok}
+use Rattle.std.proofs.Common.{◌≡◌, ℕ, ◌+◌, ◌-◌, ◌<◌, ◌≤◌, ◌⊎◌, inl, inr, min, List, ◌++◌, length, take, drop, refl, sym, ap, ◌∙◌, subst, arith, Ok, None}
 use Rattle.std.proofs.Math.Nat.{min-eq_left, min-eq_right}
 use Rattle.std.proofs.lemmas.Bool.{cases_lt}
 use Rattle.std.proofs.lemmas.List.{drop-drop, drop-append-le, take-append-drop, take_all, length-append, length-take-le, length-drop}
@@ -34,6 +34,7 @@ sized_message bytes size s l = (
     method = refl;
     target = refl;
     closing = refl;
+    user = refl;
   },
 )
   where
@@ -41,7 +42,7 @@ sized_message bytes size s l = (
     after = drop size.head bytes
 
     message : MessageData
-    message = record { method = s.head.method; target = s.head.target; body = take size.body after; closing = says_close s.head.minor (headers_of s.head) }
+    message = record { method = s.head.method; target = s.head.target; body = take size.body after; closing = says_close s.head.minor (headers_of s.head); user = None }
 
     parts : after ≡ take size.body after ++ drop (size.head + size.body) bytes
     parts = sym (take-append-drop size.body after) ∙ ap (λ r. take size.body after ++ r) (drop-drop size.body size.head bytes)

@@ -5,16 +5,17 @@ use Rattle.httparse.specs.Grammar.{HasNoRequest, MayBecomeRequest}
 use Rattle.web_heads.specs.declared.cut_end.CutEnd.TheVariants.{Closed, CutShort, LargeHead}
 use Rattle.httparse.specs.Spans.{span_bytes}
 use Rattle.web_heads.specs.declared.heads.Head.{Head}
-use Rattle.web_heads.specs.Cuts.{MessageData, BeginsWith, IsMessage, StopsInBody, Ends}
+use Rattle.web_heads.specs.Accesses.{AccessData}
+use Rattle.web_heads.specs.Cuts.{MessageData, BeginsWith, IsMessageBy, StopsInBody, EndsBy}
 use Rattle.web_heads.specs.Links.{with_front}
-use Rattle.web_heads.specs.steps.Reading.{Takes, TakesSome, MovesSome, IsWhole, SameHead}
+use Rattle.web_heads.specs.steps.Reading.{Takes, TakesSome, MovesSome, IsWhole, SameHead, user_at}
 use Rattle.web_heads.specs.Messages.{Waits}
 use Rattle.web_heads.proofs.Cutting.{BeginsWith-append}
 use Rattle.web_heads.proofs.Fronts.{front_none, front_more}
 
 -- 8,192 bytes with no end of the head
-pub large_head : (bytes : List ℕ) → length bytes ≤ 8192 → 8192 ≤ length bytes → HasNoRequest bytes → MayBecomeRequest bytes → Ends bytes LargeHead
-large_head bytes few many none may =
+pub large_head : (access : AccessData) (bytes : List ℕ) → length bytes ≤ 8192 → 8192 ≤ length bytes → HasNoRequest bytes → MayBecomeRequest bytes → EndsBy access bytes LargeHead
+large_head access bytes few many none may =
     let same = take_all 8192 bytes few in
     inr (record { long = many; nothing = subst HasNoRequest (sym same) none; unfinished = subst MayBecomeRequest (sym same) may })
 
@@ -29,12 +30,12 @@ pub takes_same : (before now after : Option (List ℕ)) (old mid new : List ℕ)
 takes_same before now after old mid new t e f = (t.0, (t.1.0 ∙ ap (with_front t.0) (sym e), f ∙ t.1.1))
 
 -- the bytes stop inside a head, if there are any
-pub stops_in_head : (bytes : List ℕ) → bytes ≢ [] → length bytes < 8192 → HasNoRequest bytes → MayBecomeRequest bytes → Ends bytes CutShort
-stops_in_head bytes some few none may = inl (record { some = some; short = few; nothing = none; unfinished = may })
+pub stops_in_head : (access : AccessData) (bytes : List ℕ) → bytes ≢ [] → length bytes < 8192 → HasNoRequest bytes → MayBecomeRequest bytes → EndsBy access bytes CutShort
+stops_in_head access bytes some few none may = inl (record { some = some; short = few; nothing = none; unfinished = may })
 
-pub waits_in_head : (bytes : List ℕ) → length bytes < 8192 → HasNoRequest bytes → MayBecomeRequest bytes → Waits bytes
-waits_in_head [] few none may = (Closed, refl)
-waits_in_head (b ∷ bs) few none may = (CutShort, stops_in_head (b ∷ bs) (λ e. absurd (cons_nil b bs e)) few none may)
+pub waits_in_head : (access : AccessData) (bytes : List ℕ) → length bytes < 8192 → HasNoRequest bytes → MayBecomeRequest bytes → Waits access bytes
+waits_in_head access [] few none may = (Closed, refl)
+waits_in_head access (b ∷ bs) few none may = (CutShort, stops_in_head access (b ∷ bs) (λ e. absurd (cons_nil b bs e)) few none may)
   where
     cons_nil : (b : ℕ) (bs : List ℕ) → b ∷ bs ≡ [] → ⊥
     cons_nil b bs e = let h = ap length e in absurd (omega (arith, h))
@@ -61,21 +62,22 @@ moves_same before now after old body mid new m e f = (m.0, (m.1.0 ∙ ap (with_f
 
 -- the message that begin has begun
 abbrev pub begun : List ℕ → Head → MessageData
-begun bytes h = record { method = span_bytes bytes h.method; target = span_bytes bytes h.target; body = []; closing = h.closing }
+begun bytes h = record { method = span_bytes bytes h.method; target = span_bytes bytes h.target; body = []; closing = h.closing; user = user_at bytes h.speaker }
 
 -- a head, and then its body
-pub is_message : (bytes got new : List ℕ) (h : Head) (m : MessageData) → IsWhole bytes h → drop h.len bytes ++ got ≡ m.body ++ new → length m.body ≡ h.body → SameHead (begun bytes h) m → IsMessage (bytes ++ got) m new
-is_message bytes got new h m w e l s = record {
+pub is_message : (access : AccessData) (bytes got new : List ℕ) (h : Head) (m : MessageData) → IsWhole access bytes h → drop h.len bytes ++ got ≡ m.body ++ new → length m.body ≡ h.body → SameHead (begun bytes h) m → IsMessageBy access (bytes ++ got) m new
+is_message access bytes got new h m w e l s = record {
   head = w.head;
   begins = subst (BeginsWith (bytes ++ got) w.head) e (BeginsWith-append bytes w.head (drop h.len bytes) got w.begins);
   sized = w.sized ∙ ap Ok (sym l);
   method = s.method ∙ w.method.1;
   target = s.target ∙ w.target.1;
   closing = s.closing ∙ w.closing;
+  user = s.user ∙ w.user;
 }
 
-pub stops_in_body : (bytes got : List ℕ) (body : List ℕ) (h : Head) → IsWhole bytes h → drop h.len bytes ++ got ≡ body ++ [] → length body < h.body → StopsInBody (bytes ++ got)
-stops_in_body bytes got body h w e l = record {
+pub stops_in_body : (access : AccessData) (bytes got : List ℕ) (body : List ℕ) (h : Head) → IsWhole access bytes h → drop h.len bytes ++ got ≡ body ++ [] → length body < h.body → StopsInBody access (bytes ++ got)
+stops_in_body access bytes got body h w e l = record {
   head = w.head;
   rest = body;
   size = h.body;
@@ -90,14 +92,14 @@ pub both : (P : List ℕ → Type 0) (before mid after : Option (List ℕ)) (old
 both P before mid after old bytes left body new t m p =
     (t.0 ++ m.0, t.1.0 ∙ ap (with_front t.0) m.1.0 ∙ front_more t.0 m.0 after, subst P (ap (λ b. b ++ m.0) t.1.1 ∙ append_assoc old t.0 m.0) p)
 
-pub next_whole : (before mid after : Option (List ℕ)) (old bytes left new : List ℕ) (h : Head) (m0 m : MessageData) → TakesSome before mid old bytes → IsWhole bytes h → left ≡ drop h.len bytes → m0 ≡ begun bytes h
-    → MovesSome mid after left m.body new → length m.body ≡ h.body → SameHead m0 m → (got : List ℕ) × (before ≡ with_front got after) × IsMessage (old ++ got) m new
-next_whole before mid after old bytes left new h m0 m t w l b v size s =
-    both (λ all. IsMessage all m new) before mid after old bytes left m.body new t v
-    (is_message bytes v.0 new h m w (ap (λ x. x ++ v.0) (sym l) ∙ v.1.1) size (subst (λ k. SameHead k m) b s))
+pub next_whole : (access : AccessData) (before mid after : Option (List ℕ)) (old bytes left new : List ℕ) (h : Head) (m0 m : MessageData) → TakesSome before mid old bytes → IsWhole access bytes h → left ≡ drop h.len bytes → m0 ≡ begun bytes h
+    → MovesSome mid after left m.body new → length m.body ≡ h.body → SameHead m0 m → (got : List ℕ) × (before ≡ with_front got after) × IsMessageBy access (old ++ got) m new
+next_whole access before mid after old bytes left new h m0 m t w l b v size s =
+    both (λ all. IsMessageBy access all m new) before mid after old bytes left m.body new t v
+    (is_message access bytes v.0 new h m w (ap (λ x. x ++ v.0) (sym l) ∙ v.1.1) size (subst (λ k. SameHead k m) b s))
 
-pub next_stop : (before mid after : Option (List ℕ)) (old bytes left new body : List ℕ) (h : Head) → TakesSome before mid old bytes → IsWhole bytes h → left ≡ drop h.len bytes
-    → MovesSome mid after left body new → length body < h.body → new ≡ [] → (got : List ℕ) × (before ≡ with_front got after) × StopsInBody (old ++ got)
-next_stop before mid after old bytes left new body h t w l v short none =
-    both StopsInBody before mid after old bytes left body new t v
-    (stops_in_body bytes v.0 body h w (ap (λ x. x ++ v.0) (sym l) ∙ v.1.1 ∙ ap (λ x. body ++ x) none) short)
+pub next_stop : (access : AccessData) (before mid after : Option (List ℕ)) (old bytes left new body : List ℕ) (h : Head) → TakesSome before mid old bytes → IsWhole access bytes h → left ≡ drop h.len bytes
+    → MovesSome mid after left body new → length body < h.body → new ≡ [] → (got : List ℕ) × (before ≡ with_front got after) × StopsInBody access (old ++ got)
+next_stop access before mid after old bytes left new body h t w l v short none =
+    both (StopsInBody access) before mid after old bytes left body new t v
+    (stops_in_body access bytes v.0 body h w (ap (λ x. x ++ v.0) (sym l) ∙ v.1.1 ∙ ap (λ x. body ++ x) none) short)

@@ -1,6 +1,7 @@
 pub mod Links
 pub mod MemoryLinks
 pub mod Digits
+pub mod Accesses
 pub mod Heads
 pub mod Cuts
 pub mod MessageFronts

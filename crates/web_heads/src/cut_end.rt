@@ -15,6 +15,8 @@ pub enum CutEnd {
     LargeBody,
     /// A head has a Transfer-Encoding.
     Unsupported,
+    /// A head is foreign.
+    Foreign,
     /// As many messages as are taken of one input have come.
     Spent,
 }

@@ -8,6 +8,7 @@
 //! that it cites.
 #![tactic(auto)]
 
+mod access;
 mod buffer;
 mod cut_end;
 mod digits;
@@ -19,6 +20,7 @@ mod message;
 mod next;
 mod sizes;
 
+pub use access::Access;
 pub use buffer::Buffer;
 pub use cut_end::CutEnd;
 pub use digits::short_number;

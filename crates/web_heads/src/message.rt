@@ -1,5 +1,6 @@
 // One message, in memory that was taken before.
-ghost use Rattle.std.specs.Prelude.{◌≡◌, ◌≤◌, ◌+◌, [], ◌++◌, length};
+ghost use Rattle.std.specs.Prelude.{◌≡◌, ◌≤◌, ◌+◌, [], ◌++◌, length, Some, None};
+ghost use Rattle.web_heads.specs.Accesses.{speaks_as};
 ghost use Rattle.web_heads.specs.Cuts.{MessageData};
 
 use std::alloc::{AllocError, Global};
@@ -13,18 +14,22 @@ pub struct Message {
     target: String,
     body: Vec<u8>,
     closing: bool,
+    user: Vec<u8>,
+    asks_user: bool,
+    has_user: bool,
 }
 
 impl Model for Message {
     ghost use Rattle.std.specs.Prelude.{◌≤◌, vec_capacity};
     ghost use Rattle.std.specs.String.{string_bytes, string_capacity};
     ghost use Rattle.web_heads.specs.Cuts.{MessageData};
+    ghost use Rattle.web_heads.specs.steps.Reading.{user_in};
 
     ghost Value = { MessageData };
 
-    ghost view = { λ m. record { method = m.method.items; target = string_bytes m.target; body = m.body.items; closing = m.closing } };
+    ghost view = { λ m. record { method = m.method.items; target = string_bytes m.target; body = m.body.items; closing = m.closing; user = user_in m.asks_user m.has_user m.user.items } };
 
-    ghost invariant = { λ m. (8192 ≤ vec_capacity m.method) × (8192 ≤ string_capacity m.target) × (4194304 ≤ vec_capacity m.body) };
+    ghost invariant = { λ m. (8192 ≤ vec_capacity m.method) × (8192 ≤ string_capacity m.target) × (4194304 ≤ vec_capacity m.body) × (8192 ≤ vec_capacity m.user) };
 }
 
 impl Message {
@@ -35,6 +40,9 @@ impl Message {
             target: String::with_capacity(alloc, 8192)?,
             body: Vec::with_capacity(alloc, 4_194_304)?,
             closing: false,
+            user: Vec::with_capacity(alloc, 8192)?,
+            asks_user: false,
+            has_user: false,
         })
     }
 
@@ -42,7 +50,7 @@ impl Message {
     pub(crate) fn begin(&mut self, method: &[u8], target: &str, closing: bool)
         requires method { length method.now ≤ 8192 }
         requires target { length target.now ≤ 8192 }
-        ensures { self.new ≡ record {
+        ensures { self.new ≡ record self.old {
           method = method.now;
           target = target.now;
           body = [];
@@ -55,6 +63,32 @@ impl Message {
         self.target.push_str(target).unwrap();
         self.body.clear();
         self.closing = closing;
+    }
+
+    /// Has it speak as anyone.
+    pub(crate) fn speak_as_anyone(&mut self)
+        ensures { self.new ≡ record self.old { user = None } }
+    {
+        self.asks_user = false;
+    }
+
+    /// Has it speak as nobody.
+    pub(crate) fn speak_as_nobody(&mut self)
+        ensures { self.new ≡ record self.old { user = Some None } }
+    {
+        self.asks_user = true;
+        self.has_user = false;
+    }
+
+    /// Has it speak as this user.
+    pub(crate) fn speak_as(&mut self, user: &[u8])
+        requires { length user.now ≤ 8192 }
+        ensures { self.new ≡ record self.old { user = Some (Some user.now) } }
+    {
+        self.user.clear();
+        self.user.extend_from_slice(user).unwrap();
+        self.asks_user = true;
+        self.has_user = true;
     }
 
     /// Adds bytes of its body.
@@ -91,6 +125,19 @@ impl Message {
         ensures { result.now ≡ self.now.body }
     {
         self.body.as_slice()
+    }
+
+    /// Whether an entry of this session may come in it. It takes no memory.
+    pub fn speaks_as(&self, session: &[u8]) -> bool
+        ensures { result ≡ speaks_as self.now.user session.now }
+    {
+        if !self.asks_user {
+            return true;
+        }
+        if !self.has_user {
+            return false;
+        }
+        self.user.as_slice() == session
     }
 
     /// Whether the message says that the connection closes after it. It takes no memory.

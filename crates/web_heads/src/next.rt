@@ -2,13 +2,15 @@
 ghost use Rattle.std.specs.Prelude.{◌≡◌, ◌≢◌, ◌<◌, ◌≤◌, ℕ, List, Option, [], ◌++◌, length, drop};
 ghost use Rattle.httparse.specs.Spans.{span_bytes};
 ghost use Rattle.geda_defs.specs.Causes.{HasRisen};
+ghost use Rattle.web_heads.specs.Accesses.{AccessData};
 ghost use Rattle.web_heads.specs.Messages.{Nexts};
-ghost use Rattle.web_heads.specs.steps.Reading.{FillsEmpty, IsBodyNext, IsHeadNext, IsWhole};
-ghost use Rattle.web_heads.specs.steps.Reading.{MovesSome, NextHead, SameHead};
+ghost use Rattle.web_heads.specs.steps.Reading.{FillsEmpty, IsBodyNext, IsHeadNext, IsUserWithin};
+ghost use Rattle.web_heads.specs.steps.Reading.{IsWhole, MovesSome, NextHead, SameHead, user_at};
 
+use crate::access::Access;
 use crate::buffer::{Buffer, Filled};
 use crate::cut_end::CutEnd;
-use crate::heads::{Head, Judged, judge};
+use crate::heads::{Head, Judged, Speaker, judge};
 use crate::link::{Link, Part};
 use crate::message::Message;
 
@@ -46,12 +48,12 @@ pub enum BodyNext {
 }
 
 /// What stands at the front of 8,192 bytes.
-fn full_head(buffer: &Buffer) -> HeadNext
+fn full_head(buffer: &Buffer, access: &Access) -> HeadNext
     requires { 8192 ≤ length buffer.now }
-    ensures next { (after : Option (List ℕ)) → IsHeadNext after buffer.now result }
+    ensures next { (after : Option (List ℕ)) → IsHeadNext access.now after buffer.now result }
     ensures no_fault { result ≢ HeadNext.Fault }
 {
-    match judge(buffer.bytes()) {
+    match judge(buffer.bytes(), access.hosts(), access.user()) {
         Judged::Whole(head) => HeadNext::Whole(head),
         Judged::Refused(end) => HeadNext::End(end),
         Judged::Open => HeadNext::End(CutEnd::LargeHead),
@@ -59,8 +61,8 @@ fn full_head(buffer: &Buffer) -> HeadNext
 }
 
 /// Reads on until it is known what stands at the front.
-fn next_head<L: Link>(link: &mut L, buffer: &mut Buffer) -> HeadNext
-    ensures next { NextHead (L.input link.old) (L.input link.new) buffer.old buffer.new result }
+fn next_head<L: Link>(link: &mut L, buffer: &mut Buffer, access: &Access) -> HeadNext
+    ensures next { NextHead access.now (L.input link.old) (L.input link.new) buffer.old buffer.new result }
     ensures output { L.output link.new ≡ L.output link.old }
     ensures later { L.read_faults link.old ≤ L.read_faults link.new }
     ensures write_later { L.write_faults link.old ≤ L.write_faults link.new }
@@ -68,7 +70,7 @@ fn next_head<L: Link>(link: &mut L, buffer: &mut Buffer) -> HeadNext
         HasRisen (L.read_faults link.old) (L.read_faults link.new) }
 {
     while buffer.bytes().len() < 8192 {
-        match judge(buffer.bytes()) {
+        match judge(buffer.bytes(), access.hosts(), access.user()) {
             Judged::Whole(head) => return HeadNext::Whole(head),
             Judged::Refused(end) => return HeadNext::End(end),
             Judged::Open => {}
@@ -80,23 +82,38 @@ fn next_head<L: Link>(link: &mut L, buffer: &mut Buffer) -> HeadNext
             Filled::Fault => return HeadNext::Fault,
         }
     }
-    full_head(buffer)
+    full_head(buffer, access)
+}
+
+/// Has a message speak as these bytes say.
+fn name_user(message: &mut Message, bytes: &[u8], speaker: Speaker)
+    requires few { length bytes.now ≤ 8192 }
+    requires within { IsUserWithin (length bytes.now) speaker }
+    ensures { message.new ≡ record message.old { user = user_at bytes.now speaker } }
+{
+    match speaker {
+        Speaker::Anyone => message.speak_as_anyone(),
+        Speaker::Nobody => message.speak_as_nobody(),
+        Speaker::User(place) => message.speak_as(place.of(bytes)),
+    }
 }
 
 /// Begins the message of a head, and drops the bytes of the head.
 fn begin_message(buffer: &mut Buffer, message: &mut Message, head: &Head)
-    requires { IsWhole buffer.old head.now }
+    requires { (access : AccessData) × IsWhole access buffer.old head.now }
     ensures rest { buffer.new ≡ drop head.now.len buffer.old }
     ensures message { message.new ≡ record {
       method = span_bytes buffer.old head.now.method;
       target = span_bytes buffer.old head.now.target;
       body = [];
       closing = head.now.closing;
+      user = user_at buffer.old head.now.speaker;
     } }
 {
     let bytes = buffer.bytes();
     let target = str::from_utf8(head.target.of(bytes)).unwrap();
     message.begin(head.method.of(bytes), target, head.closing);
+    name_user(message, bytes, head.speaker);
     buffer.skip(head.len);
 }
 
@@ -185,8 +202,13 @@ fn read_body<L: Link>(
 }
 
 /// Reads on until the next message is whole, from the part of it that is there.
-fn read_message<L: Link>(link: &mut L, buffer: &mut Buffer, message: &mut Message) -> Next
-    ensures next { Nexts (L.input link.old) (L.input link.new)
+fn read_message<L: Link>(
+    link: &mut L,
+    buffer: &mut Buffer,
+    access: &Access,
+    message: &mut Message,
+) -> Next
+    ensures next { Nexts access.now (L.input link.old) (L.input link.new)
         buffer.old message.new buffer.new result }
     ensures output { L.output link.new ≡ L.output link.old }
     ensures later { L.read_faults link.old ≤ L.read_faults link.new }
@@ -194,7 +216,7 @@ fn read_message<L: Link>(link: &mut L, buffer: &mut Buffer, message: &mut Messag
     ensures cause { result ≡ Next.Fault →
         HasRisen (L.read_faults link.old) (L.read_faults link.new) }
 {
-    let head = match next_head(link, buffer) {
+    let head = match next_head(link, buffer, access) {
         HeadNext::Whole(head) => head,
         HeadNext::End(end) => return Next::End(end),
         HeadNext::Fault => return Next::Fault,
@@ -218,11 +240,17 @@ fn first_part(buffer: &Buffer) -> Part {
 /// Reads on until the next message is whole (docs/RULES.md, "Messages"). It takes no memory, and
 /// waits for the link.
 ///
-/// The link is told which part each read is for. The bytes behind the message stay in the buffer.
+/// `access` says which heads are let in, and as whom the message speaks. The link is told which part
+/// each read is for. The bytes behind the message stay in the buffer.
 /// `End` tells why no message follows; what follows such an end is not looked at. `Fault` only where
 /// the link's count of failed reads rose; no whole message has come then.
-pub fn next_message<L: Link>(link: &mut L, buffer: &mut Buffer, message: &mut Message) -> Next
-    ensures next { Nexts (L.input link.old) (L.input link.new)
+pub fn next_message<L: Link>(
+    link: &mut L,
+    buffer: &mut Buffer,
+    access: &Access,
+    message: &mut Message,
+) -> Next
+    ensures next { Nexts access.now (L.input link.old) (L.input link.new)
         buffer.old message.new buffer.new result }
     ensures output { L.output link.new ≡ L.output link.old }
     ensures later { L.read_faults link.old ≤ L.read_faults link.new }
@@ -231,5 +259,5 @@ pub fn next_message<L: Link>(link: &mut L, buffer: &mut Buffer, message: &mut Me
         HasRisen (L.read_faults link.old) (L.read_faults link.new) }
 {
     link.begin(first_part(buffer));
-    read_message(link, buffer, message)
+    read_message(link, buffer, access, message)
 }

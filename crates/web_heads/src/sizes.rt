@@ -31,7 +31,7 @@ fn front_of(bytes: &[u8]) -> MessageFront
     requires { length bytes.now ≤ 8192 }
     ensures { IsMessageFront bytes.now result }
 {
-    match judge(bytes) {
+    match judge(bytes, &[], None) {
         Judged::Whole(head) => MessageFront::Sized(MessageSize {
             head: head.len,
             body: head.body,
@@ -45,7 +45,8 @@ fn front_of(bytes: &[u8]) -> MessageFront
 
 /// What stands at the front of bytes that have come. It takes no memory. `next_message` of a link
 /// whose input begins so reads on where it is `Open`; it makes a message of as many bytes as
-/// `Sized` says, and reads on only while they are not there; and it ends where it is `Refused`.
+/// `Sized` says, and reads on only while they are not there; and it ends where it is `Refused`. No
+/// option is looked at: a foreign head is `Sized` too.
 pub fn message_front(bytes: &[u8]) -> MessageFront
     ensures { IsMessageFront bytes.now result }
 {

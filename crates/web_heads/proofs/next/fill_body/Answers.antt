@@ -27,6 +27,7 @@ loop-link-preserved g c =
         method = moved.head.method ∙ before.head.method;
         target = moved.head.target ∙ before.head.target;
         closing = moved.head.closing ∙ before.head.closing;
+        user = moved.head.user ∙ before.head.user;
       };
       output = filled.output ∙ before.output;
       later = no_less _ _ _ before.later filled.later;

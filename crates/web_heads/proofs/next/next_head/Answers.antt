@@ -1,7 +1,7 @@
 use Rattle.std.proofs.Common.{◌≢◌, ℕ, ◌<◌, ◌≤◌, [], length, subst, sym, ◌∙◌, inr, arith, rules}
 use Rattle.httparse.specs.Grammar.{HasNoRequest, MayBecomeRequest}
 use Rattle.web_heads.specs.declared.cut_end.CutEnd.TheVariants.{CutShort}
-use Rattle.web_heads.specs.Cuts.{Ends}
+use Rattle.web_heads.specs.Cuts.{EndsBy}
 use Rattle.web_heads.specs.Messages.{Waits}
 use Rattle.web_heads.proofs.Nexts.{stops_in_head, takes_more, takes_same, waits_in_head}
 use Rattle.web_heads.proofs.next.next_head.Goals as goal
@@ -12,7 +12,7 @@ returns-in-Fault-clause-next g c =
     let open_head = c.in-Open.ensures in
     let fault = c.in-Fault.ensures.input in (
       takes_same _ _ _ _ _ _ c.loop-buffer.invariant.taken fault.0 fault.1,
-      subst Waits (sym fault.1) (waits_in_head c.loop-buffer.buffer (subst (λ b. length b < 8192) c.bytes.ensures.bytes c.loop-buffer-test.true)
+      subst (Waits c.args.access.now) (sym fault.1) (waits_in_head c.args.access.now c.loop-buffer.buffer (subst (λ b. length b < 8192) c.bytes.ensures.bytes c.loop-buffer-test.true)
           (subst HasNoRequest same open_head.0) (subst MayBecomeRequest same open_head.1)),
     )
 
@@ -41,7 +41,7 @@ returns-in-End-2-clause-next g c =
     let end = c.in-End.ensures.input in (
       takes_same _ _ _ _ _ _ c.loop-buffer.invariant.taken end.0 end.1,
       (
-        subst (λ bytes. Ends bytes CutShort) (sym end.1) (stops_in_head c.loop-buffer.buffer (subst (λ bytes. bytes ≢ []) end.1 some) (subst (λ b. length b < 8192) c.bytes.ensures.bytes c.loop-buffer-test.true)
+        subst (λ bytes. EndsBy c.args.access.now bytes CutShort) (sym end.1) (stops_in_head c.args.access.now c.loop-buffer.buffer (subst (λ bytes. bytes ≢ []) end.1 some) (subst (λ b. length b < 8192) c.bytes.ensures.bytes c.loop-buffer-test.true)
             (subst HasNoRequest same open_head.0) (subst MayBecomeRequest same open_head.1)),
         inr end.2,
       ),
