@@ -24,6 +24,9 @@ _gafd() {
     *:export:*) _gafd_files 'sch|sym' ;;
     *:symcheck:*) _gafd_files sym ;;
     3:fill:*) _gafd_files csv ;;
+    *:serve:--host:*) COMPREPLY=($(compgen -W 'localhost' -- "$cur")) ;;
+    *:serve:--who:*) COMPREPLY=($(compgen -W 'X-Remote-User' -- "$cur")) ;;
+    *:serve:*:-*) COMPREPLY=($(compgen -W '--host --who' -- "$cur")) ;;
     2:serve:*) COMPREPLY=($(compgen -W '127.0.0.1:8080 unix:' -- "$cur")) ;;
     3:serve:* | *:store:*) _gafd_files db ;;
     esac

@@ -30,6 +30,8 @@ complete -c gafd -n '__gafd_command table fill; and __gafd_word 2' -a '(__gafd_f
 complete -c gafd -n '__gafd_command export' -a '(__gafd_files "sch|sym")'
 complete -c gafd -n '__gafd_command symcheck' -a '(__gafd_files sym)'
 complete -c gafd -n '__gafd_command fill; and __gafd_word 3' -a '(__gafd_files csv)'
+complete -c gafd -n '__gafd_command serve' -l host -x -a localhost -d 'a name that is answered'
+complete -c gafd -n '__gafd_command serve' -l who -x -a X-Remote-User -d 'the header that names the user'
 complete -c gafd -n '__gafd_command serve; and __gafd_word 2' -a '127.0.0.1:8080 unix:'
 complete -c gafd -n '__gafd_command serve; and __gafd_word 3' -F
 complete -c gafd -n '__gafd_command store' -F
