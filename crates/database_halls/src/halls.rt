@@ -9,7 +9,7 @@ use std::alloc::Global;
 use std::marker::Brand;
 use std::mem;
 use std::sync::Wait;
-use web_heads::MemoryLink;
+use web_heads::{Access, MemoryLink};
 
 /// What came of a hall.
 #[derive(Drop)]
@@ -37,7 +37,7 @@ fn serve_and_close<W: Wait, K: Keeper, B: HallName, S: ShowsBoard<B>, R: Wait + 
 {
     let mut link = link;
     let seat = seats.get_mut(0).ok_or(CaseFault::BadCase)?;
-    let end = serve_link(rt, alloc, hall, seat, &mut link);
+    let end = serve_link(rt, alloc, hall, seat, &Access::open(alloc), &mut link);
     let (keeper, held) = close_hall(rt, hall, keys, seats.as_mut_slice());
     Ok(Served {
         end,

@@ -7,6 +7,8 @@ use std::sync::Wait;
 fn row(alloc: Global, kind: &str, cells: &[&str]) -> Result<String, CaseFault> {
     match kind {
         "connection" => inputs::whole(alloc, cells),
+        "hosts" => inputs::of_hosts(alloc, cells),
+        "users" => inputs::of_users(alloc, cells),
         "refused" => inputs::refused(alloc, cells),
         "cuts" => inputs::cuts(alloc, cells),
         "partings" => inputs::partings(alloc, cells),
@@ -30,6 +32,7 @@ fn question<W: Wait>(
     match kind {
         "connections" => questions::connections(rt, alloc, words, files),
         "connections and groups" => questions::connections_and_groups(rt, alloc, words, files),
+        "connections of users" => questions::connections_of_users(rt, alloc, words, files),
         "bodies" => questions::bodies(rt, alloc, words, files),
         "openings" => questions::opening(rt, alloc, words, files),
         "steps of groups" => questions::steps(rt, alloc, words, files),

@@ -34,6 +34,7 @@ impl Connection {
             LinkEnd::BadHead => "BadHead",
             LinkEnd::TooLarge => "TooLarge",
             LinkEnd::Unsupported => "Unsupported",
+            LinkEnd::Foreign => "Foreign",
             LinkEnd::ReadFault => "ReadFault",
             LinkEnd::WriteFault => "WriteFault",
             LinkEnd::Spent => "Spent",

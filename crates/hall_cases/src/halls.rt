@@ -10,6 +10,7 @@ use std::alloc::{AllocError, Global};
 use std::marker::Brand;
 use std::mem;
 use std::sync::Wait;
+use web_heads::Access;
 
 /// What is seen of the groups of a board.
 #[derive(Clone, Copy)]
@@ -39,10 +40,11 @@ fn serve_input<W: Wait, B: HallName, S: ShowsBoard<B>, R: Wait + Drop>(
     alloc: Global,
     hall: &Hall<MemoryKeeper, B, S, R>,
     seat: &mut Seat<B, S>,
+    access: &Access,
     input: Vec<u8>,
 ) -> Result<Connection, AllocError> {
     let mut link = link_of(alloc, input, Vec::new(alloc))?;
-    let end = serve_link(rt, alloc, hall, seat, &mut link);
+    let end = serve_link(rt, alloc, hall, seat, access, &mut link);
     Ok(Connection { end, link })
 }
 
@@ -52,6 +54,7 @@ fn serve_inputs<W: Wait, B: HallName, S: ShowsBoard<B>, R: Wait + Drop>(
     alloc: Global,
     hall: &Hall<MemoryKeeper, B, S, R>,
     seats: &mut Vec<Seat<B, S>>,
+    access: &Access,
     inputs: Vec<Vec<u8>>,
 ) -> Result<Vec<Connection>, AllocError> {
     let mut connections = Vec::new(alloc);
@@ -60,7 +63,7 @@ fn serve_inputs<W: Wait, B: HallName, S: ShowsBoard<B>, R: Wait + Drop>(
         let Some(seat) = seats.get_mut(place) else {
             break;
         };
-        connections.push(serve_input(rt, alloc, hall, seat, input)?)?;
+        connections.push(serve_input(rt, alloc, hall, seat, access, input)?)?;
         place = if place == 0 { 1 } else { 0 };
     }
     Ok(connections)
@@ -84,11 +87,12 @@ fn serve_and_close<W: Wait, B: HallName, S: ShowsBoard<B>, R: Wait + Drop>(
     hall: &Hall<MemoryKeeper, B, S, R>,
     keys: Keys<B>,
     seats: &mut Vec<Seat<B, S>>,
+    access: &Access,
     inputs: Vec<Vec<u8>>,
 ) -> Result<Served, HallFault>
     requires { B.parts ≡ B.seats * 2 + 1 }
 {
-    let connections = serve_inputs(rt, alloc, hall, seats, inputs)?;
+    let connections = serve_inputs(rt, alloc, hall, seats, access, inputs)?;
     let last_look = last_look(seats);
     let (keeper, held) = close_hall(rt, hall, keys, seats.as_mut_slice());
     Ok(Served {
@@ -105,6 +109,7 @@ fn serve_named<W: Wait, B: HallName>(
     alloc: Global,
     log: NewLog,
     keeper: MemoryKeeper,
+    access: &Access,
     inputs: Vec<Vec<u8>>,
 ) -> Result<Served, HallFault>
     requires book { log.book ≡ B.book }
@@ -116,7 +121,7 @@ fn serve_named<W: Wait, B: HallName>(
     match open_hall(alloc, rt, named, keeper, 2, &mut places) {
         Ok((hall, seats, keys)) => {
             let mut seats = seats;
-            let served = serve_and_close(rt, alloc, &hall, keys, &mut seats, inputs);
+            let served = serve_and_close(rt, alloc, &hall, keys, &mut seats, access, inputs);
             mem::forget(seats);
             mem::forget(hall);
             served
@@ -125,12 +130,14 @@ fn serve_named<W: Wait, B: HallName>(
     }
 }
 
-/// Opens a hall over a keeper, has its two seats serve the inputs in turn, and closes it.
+/// Opens a hall over a keeper, has its two seats serve the inputs in turn by some options, and
+/// closes it.
 pub fn serve_new<W: Wait>(
     rt: &W,
     alloc: Global,
     keeper: MemoryKeeper,
+    access: &Access,
     inputs: Vec<Vec<u8>>,
 ) -> Result<Served, HallFault> {
-    serve_named::<W, Brand>(rt, alloc, NewLog::new(2), keeper, inputs)
+    serve_named::<W, Brand>(rt, alloc, NewLog::new(2), keeper, access, inputs)
 }

@@ -4,6 +4,7 @@ use crate::empty_service::EmptyService;
 use case_tables::{CaseFault, bytes_of, cell, number_of, text_in};
 use hall_server::{LinkEnd, serve_requests};
 use std::alloc::Global;
+use web_heads::Access;
 
 /// How a connection ended, and all that went out.
 fn told(alloc: Global, connection: &Connection) -> Result<String, CaseFault> {
@@ -11,17 +12,28 @@ fn told(alloc: Global, connection: &Connection) -> Result<String, CaseFault> {
     Ok(format!(in alloc; "{} {}", connection.end_name(), text.as_str())?)
 }
 
-/// Serves an input. The calls of these numbers fail, and so many looks are refused.
-fn connect(
+/// Serves an input by some options. The calls of these numbers fail, and so many looks are refused.
+fn connect_by(
     alloc: Global,
+    access: &Access,
     input: Vec<u8>,
     failing: Vec<u64>,
     refusing: u64,
 ) -> Result<Connection, CaseFault> {
     let mut service = EmptyService::new(alloc, refusing);
     let mut link = link_of(alloc, input, failing)?;
-    let end = serve_requests(alloc, &mut service, &mut link);
+    let end = serve_requests(alloc, &mut service, access, &mut link);
     Ok(Connection { end, link })
+}
+
+/// Serves an input without options. The calls of these numbers fail, and so many looks are refused.
+fn connect(
+    alloc: Global,
+    input: Vec<u8>,
+    failing: Vec<u64>,
+    refusing: u64,
+) -> Result<Connection, CaseFault> {
+    connect_by(alloc, &Access::open(alloc), input, failing, refusing)
 }
 
 /// Serves an input where nothing fails.
@@ -33,6 +45,34 @@ pub fn answered(alloc: Global, input: Vec<u8>) -> Result<Connection, CaseFault> 
 pub fn whole(alloc: Global, cells: &[&str]) -> Result<String, CaseFault> {
     let input = bytes_of(alloc, cell(cells, 0))?;
     told(alloc, &answered(alloc, input)?)
+}
+
+fn whole_by(alloc: Global, access: Option<Access>, text: &str) -> Result<String, CaseFault> {
+    let access = access.ok_or(CaseFault::BadCase)?;
+    let input = bytes_of(alloc, text)?;
+    told(
+        alloc,
+        &connect_by(alloc, &access, input, Vec::new(alloc), 0)?,
+    )
+}
+
+/// The same where hosts are answered whose names are parted by blanks.
+pub fn of_hosts(alloc: Global, cells: &[&str]) -> Result<String, CaseFault> {
+    let mut hosts = Vec::new(alloc);
+    for host in cell(cells, 0).split(' ') {
+        hosts.push(String::from_str(alloc, host)?)?;
+    }
+    whole_by(alloc, Access::new(hosts, None), cell(cells, 1))
+}
+
+/// The same where a header names the user.
+pub fn of_users(alloc: Global, cells: &[&str]) -> Result<String, CaseFault> {
+    let header = String::from_str(alloc, cell(cells, 0))?;
+    whole_by(
+        alloc,
+        Access::new(Vec::new(alloc), Some(header)),
+        cell(cells, 1),
+    )
 }
 
 /// The same where so many looks are refused.

@@ -6,6 +6,7 @@ use case_tables::{CaseFault, TableFiles, number_of};
 use http_lines::{AnswerLines, input_of, last_lines, lines_of, put_bodies};
 use std::alloc::Global;
 use std::sync::Wait;
+use web_heads::Access;
 
 /// The replies of all connections, each with all its bytes, and how each connection ended.
 fn whole_lines(alloc: Global, served: &Served) -> Result<String, CaseFault> {
@@ -46,7 +47,7 @@ fn serve_failing<W: Wait>(
 ) -> Result<Served, HallFault> {
     let inputs = inputs_of(alloc, names, files)?;
     let keeper = keeper_failing_at(alloc, call)?;
-    serve_new(rt, alloc, keeper, inputs)
+    serve_new(rt, alloc, keeper, &Access::open(alloc), inputs)
 }
 
 fn all_connections<W: Wait>(
@@ -77,6 +78,24 @@ pub fn connections<W: Wait>(
             let text = all_connections(rt, alloc, words, files)?;
             Ok(last_lines(alloc, text.as_str(), number_of(count)?)?)
         }
+    }
+}
+
+/// The connections of files where a header names the user: `ann bob by X-User`.
+pub fn connections_of_users<W: Wait>(
+    rt: &W,
+    alloc: Global,
+    words: &str,
+    files: &TableFiles,
+) -> Result<String, CaseFault> {
+    let (names, header) = words.split_once(" by ").ok_or(CaseFault::BadCase)?;
+    let inputs = inputs_of(alloc, names, files)?;
+    let header = String::from_str(alloc, header)?;
+    let access = Access::new(Vec::new(alloc), Some(header)).ok_or(CaseFault::BadCase)?;
+    let keeper = keeper_failing_at(alloc, 0)?;
+    match serve_new(rt, alloc, keeper, &access, inputs) {
+        Ok(served) => whole_lines(alloc, &served),
+        Err(fault) => fault_line(alloc, fault),
     }
 }
 
@@ -135,7 +154,7 @@ pub fn opening<W: Wait>(
     files: &TableFiles,
 ) -> Result<String, CaseFault> {
     let keeper = keeper_of(alloc, words, files)?;
-    match serve_new(rt, alloc, keeper, Vec::new(alloc)) {
+    match serve_new(rt, alloc, keeper, &Access::open(alloc), Vec::new(alloc)) {
         Ok(served) => front_line(alloc, &served),
         Err(fault) => fault_line(alloc, fault),
     }
@@ -189,7 +208,7 @@ fn put_again<W: Wait>(
     put_brief(alloc, out, &served)?;
     writeln!(out, "> held {}", served.held)?;
     let inputs = inputs_of(alloc, names, files)?;
-    let again = serve_new(rt, alloc, served.keeper, inputs)?;
+    let again = serve_new(rt, alloc, served.keeper, &Access::open(alloc), inputs)?;
     put_brief(alloc, out, &again)?;
     Ok(again.keeper.calls())
 }

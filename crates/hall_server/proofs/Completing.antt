@@ -9,6 +9,7 @@ use Rattle.hall_server.specs.declared.reply_kind.ReplyKind.{ReplyKind}
 use Rattle.hall_server.specs.declared.reply_kind.ReplyKind.TheVariants as kinds
 use Rattle.geda_defs.specs.Causes.{HasRisen}
 use Rattle.hall_server.specs.Completeness.{IsServed, IsServedKind, ServesAll, HasLost, CompletesConnection}
+use Rattle.web_heads.specs.Accesses.{AccessData}
 use Rattle.web_heads.specs.Cuts.{Cut}
 use Rattle.web_heads.specs.Links.{with_front}
 use Rattle.hall_server.specs.Services.{Stand}
@@ -57,10 +58,10 @@ bytes_left read input (Some left) e = (left, refl, some_same input (read ++ left
         value None = x
         value (Some z) = z
 
-module _ (first now : Stand) (in_first in_now out_first out_now : Option (List ℕ)) where
-  pub completes : (reads_first reads_now writes_first writes_now : ℕ) (result : LinkEnd) → Serves first now in_first in_now out_first out_now result
+module _ (access : AccessData) (first now : Stand) (in_first in_now out_first out_now : Option (List ℕ)) where
+  pub completes : (reads_first reads_now writes_first writes_now : ℕ) (result : LinkEnd) → Serves access first now in_first in_now out_first out_now result
       → (result ≡ ends.ReadFault → HasRisen reads_first reads_now) → (result ≡ ends.WriteFault → HasRisen writes_first writes_now)
-      → CompletesConnection first now reads_first reads_now writes_first writes_now in_first out_first out_now result
+      → CompletesConnection access first now reads_first reads_now writes_first writes_now in_first out_first out_now result
   completes reads_first reads_now writes_first writes_now result s read_cause write_cause input told no_read no_write kept opened = go result s.so read_cause write_cause
     where
       served : All IsServed s.answers
@@ -70,22 +71,22 @@ module _ (first now : Stand) (in_first in_now out_first out_now : Option (List �
       left = bytes_left s.read input in_now (sym told ∙ s.input)
 
       whole : (end : LinkEnd) → (at : CutEnd) × (link_end at ≡ end) × Transcript s.messages at s.written now.seen (length first.seen) s.answers
-          × ((left : List ℕ) → in_now ≡ Some left → Cut 10000 (s.read ++ left) s.messages at) → ServesAll first now input out_first out_now end
+          × ((left : List ℕ) → in_now ≡ Some left → Cut access 10000 (s.read ++ left) s.messages at) → ServesAll access first now input out_first out_now end
       whole end w = record {
         messages = s.messages;
         end = w.0;
         answers = s.answers;
         written = s.written;
-        cut = subst (λ b. Cut 10000 b s.messages w.0) (sym left.2) (w.3 left.0 left.1);
+        cut = subst (λ b. Cut access 10000 b s.messages w.0) (sym left.2) (w.3 left.0 left.1);
         ends = w.1;
         output = s.output;
         transcript = w.2;
         served = served;
       }
 
-      go : (end : LinkEnd) → EndsSo now.seen (length first.seen) s.read in_now s.messages s.answers s.written end
+      go : (end : LinkEnd) → EndsSo access now.seen (length first.seen) s.read in_now s.messages s.answers s.written end
           → (end ≡ ends.ReadFault → HasRisen reads_first reads_now) → (end ≡ ends.WriteFault → HasRisen writes_first writes_now)
-          → (end ≡ ends.NoMemory) ⊎ ServesAll first now input out_first out_now end
+          → (end ≡ ends.NoMemory) ⊎ ServesAll access first now input out_first out_now end
       go ends.ReadFault so r w = absurd (no_read (r refl))
       go ends.WriteFault so r w = absurd (no_write (w refl))
       go ends.NoMemory so r w = inl refl
@@ -94,4 +95,5 @@ module _ (first now : Stand) (in_first in_now out_first out_now : Option (List �
       go ends.BadHead so r w = inr (whole ends.BadHead so)
       go ends.TooLarge so r w = inr (whole ends.TooLarge so)
       go ends.Unsupported so r w = inr (whole ends.Unsupported so)
+      go ends.Foreign so r w = inr (whole ends.Foreign so)
       go ends.Spent so r w = inr (whole ends.Spent so)

@@ -1,7 +1,8 @@
 -- The reply to a request is a reply to each message that is this request.
-use Rattle.std.proofs.Common.{◌≡◌, ℕ, ◌≤◌, inl, inr, Bool, List, Option, Ok, Err, codes, refl, sym, ap, ◌∙◌, subst}
+use Rattle.std.proofs.Common.{◌≡◌, ℕ, ◌≤◌, inl, inr, Bool, true, false, List, Option, Ok, Err, codes, refl, sym, ap, ◌∙◌, subst}
 use Rattle.geda_defs.specs.Causes.{HasRisen}
 use Rattle.edit_entries.specs.Entries.{EntryData}
+use Rattle.web_heads.specs.Accesses.{speaks_as}
 use Rattle.web_heads.specs.Cuts.{MessageData}
 use Rattle.web_requests.specs.declared.request.Request.{Request}
 use Rattle.web_requests.specs.declared.request.Request.TheVariants.{Edit, Report, Fixed}
@@ -16,30 +17,43 @@ use Rattle.hall_server.specs.declared.shown.Shown.{Shown}
 use Rattle.hall_server.specs.declared.shown.Shown.TheVariants as shown
 use Rattle.hall_server.specs.steps.Pieces.{IsShownPiece, IsWritten}
 use Rattle.hall_server.specs.Services.{Grows, IsShownReport, Stand}
-use Rattle.hall_server.specs.Transcripts.{IsLostAt, IsRequestOf}
-use Rattle.hall_server.specs.steps.Responding.{IsLostEdit, Responds, RespondsTo, Wrote, WroteTo}
+use Rattle.hall_server.specs.Transcripts.{IsAnswerBy, IsLostAt, IsRequestOf, is_of_user}
+use Rattle.hall_server.specs.steps.Responding.{Declines, IsLostEdit, Responds, RespondsTo, Wrote, WroteTo}
 
 lost_at : (h : List EntryData) (m : MessageData) (request : Request) (closing : Bool) (text : List ℕ) → IsRequestOf m request
-    → IsLostEdit h request closing text → IsLostAt h m closing text
-lost_at h m (Edit entry) closing text is l = (entry, is, l.0, l.1)
-lost_at h m (Report least what) closing text is l = absurd l
-lost_at h m (Fixed request) closing text is l = absurd l
+    → is_of_user m request ≡ true → IsLostEdit h request closing text → IsLostAt h m closing text
+lost_at h m (Edit entry) closing text is own l = (entry, is, own, l.0, l.1)
+lost_at h m (Report least what) closing text is own l = absurd l
+lost_at h m (Fixed request) closing text is own l = absurd l
 
 wrote_to : (h : List EntryData) (m : MessageData) (request : Request) (closing : Bool) (text : List ℕ) (kind : ReplyKind) → IsRequestOf m request
-    → Wrote h request closing text kind → WroteTo h m closing text kind
-wrote_to h m request closing text kinds.Answer is w = (request, is, w)
-wrote_to h m request closing text kinds.Lost is w = lost_at h m request closing text is w
-wrote_to h m request closing text kinds.NoEntry is w = ((request, is, w.0), w.1)
-wrote_to h m request closing text kinds.NoMemory is w = w
+    → is_of_user m request ≡ true → Wrote h request closing text kind → WroteTo h m closing text kind
+wrote_to h m request closing text kinds.Answer is own w = (request, is, subst (λ b. IsAnswerBy b h request closing text) (sym own) w)
+wrote_to h m request closing text kinds.Lost is own w = lost_at h m request closing text is own w
+wrote_to h m request closing text kinds.NoEntry is own w = ((request, is, own, w.0), w.1)
+wrote_to h m request closing text kinds.NoMemory is own w = w
 
 pub of_request : (old new : Stand) (m : MessageData) (request : Request) (closing : Bool) (text : List ℕ) (kind : ReplyKind)
-    → IsRequest m.method m.target m.body request → Responds old new request closing text kind → RespondsTo old new m closing text kind
-of_request old new m request closing text kind is r = record {
+    → IsRequest m.method m.target m.body request → is_of_user m request ≡ true → Responds old new request closing text kind → RespondsTo old new m closing text kind
+of_request old new m request closing text kind is own r = record {
   grown = r.grown;
-  wrote = wrote_to new.seen m request closing text kind is r.wrote;
+  wrote = wrote_to new.seen m request closing text kind is own r.wrote;
   loses = r.loses;
   refuses = r.refuses;
 }
+
+-- an entry of a session as which its message does not speak
+pub of_other : (old new : Stand) (m : MessageData) (entry : EntryData) (closing : Bool) (text : List ℕ) (kind : ReplyKind)
+    → IsRequest m.method m.target m.body (Edit entry) → speaks_as m.user entry.session ≡ false → Declines old new closing text kind → RespondsTo old new m closing text kind
+of_other old new m entry closing text kinds.Answer is other d = record {
+  grown = d.grown;
+  wrote = (Edit entry, is, subst (λ b. IsAnswerBy b new.seen (Edit entry) closing text) (sym other) d.wrote);
+  loses = d.losses;
+  refuses = d.refusals;
+}
+of_other old new m entry closing text kinds.NoMemory is other d = record { grown = d.grown; wrote = d.wrote; loses = d.losses; refuses = d.refusals }
+of_other old new m entry closing text kinds.Lost is other d = absurd d.wrote
+of_other old new m entry closing text kinds.NoEntry is other d = absurd d.wrote
 
 module _ (old new : Stand) (least : Option ℕ) (what : What) (closing : Bool) (piece : List ℕ) where
   written : (kind : ReplyKind) (expected : List ℕ) → Grows old.seen new.seen → new.losses ≡ old.losses → old.refusals ≤ new.refusals

@@ -2,6 +2,7 @@
 use Rattle.std.specs.Prelude.{◌≡◌, ℕ, ◌+◌, ◌-◌, ◌^◌, ◌≤◌, ◌⊎◌, min, Bool, true, false, List, [], ◌++◌, length, filter, Option, Some}
 use Rattle.edit_entries.specs.Entries.{EntryData}
 use Rattle.web_heads.specs.declared.cut_end.CutEnd.{CutEnd}
+use Rattle.web_heads.specs.Accesses.{AccessData}
 use Rattle.web_heads.specs.Cuts.{MessageData, IsFinal, Cut, Begins}
 use Rattle.web_heads.specs.Links.{with_front, with_end, IsAtEnd, IsPrefixOf}
 use Rattle.hall_server.specs.declared.link_end.LinkEnd.{LinkEnd}
@@ -56,36 +57,39 @@ pub record CountsAnswers (first now : Stand) (answers : List Answered) : Type 0 
   pub refusals : HasRisenBy (refused_count answers) first.refusals now.refusals
 
 -- a write failed: in a reply, after which nothing was read; or in the fixed reply of the end
-pub data WriteFails (h : List EntryData) (from : ℕ) (read : List ℕ) (in_now : Option (List ℕ))
-    (messages : List MessageData) (answers : List Answered) (written : List ℕ) : Type 0 where
-  InReply : (all : List ℕ) → IsPrefixOf written all → Begins 10000 read messages
+pub data WriteFails (access : AccessData) (h : List EntryData) (from : ℕ) (read : List ℕ)
+    (in_now : Option (List ℕ)) (messages : List MessageData) (answers : List Answered)
+    (written : List ℕ) : Type 0 where
+  InReply : (all : List ℕ) → IsPrefixOf written all → Begins access 10000 read messages
       → Replies h 0 from messages answers all
-      → WriteFails h from read in_now messages answers written
+      → WriteFails access h from read in_now messages answers written
   InEnd : (all : List ℕ) (end : CutEnd) → IsPrefixOf written all
-      → (IsFinal end ⊎ IsAtEnd in_now) → Cut 10000 read messages end
+      → (IsFinal end ⊎ IsAtEnd in_now) → Cut access 10000 read messages end
       → Transcript messages end all h from answers
-      → WriteFails h from read in_now messages answers written
+      → WriteFails access h from read in_now messages answers written
 
 -- How it ended. ReadFault: the messages that were answered are those of the bytes that were read.
 -- WriteFault: the messages that were answered are the first of them. NoMemory: none was read. Else
 -- the messages that were answered are those of all the input, where it is told.
 abbrev pub EndsSo :
-    List EntryData → ℕ → List ℕ → Option (List ℕ) → List MessageData → List Answered
-    → List ℕ → LinkEnd → Type 0
-EndsSo h from read in_now messages answers written ends.ReadFault =
-    (end : CutEnd) × Cut 10000 read messages end × Replies h 0 from messages answers written
-EndsSo h from read in_now messages answers written ends.WriteFault =
-    WriteFails h from read in_now messages answers written
-EndsSo h from read in_now messages answers written ends.NoMemory =
+    AccessData → List EntryData → ℕ → List ℕ → Option (List ℕ) → List MessageData
+    → List Answered → List ℕ → LinkEnd → Type 0
+EndsSo access h from read in_now messages answers written ends.ReadFault =
+    (end : CutEnd) × Cut access 10000 read messages end
+    × Replies h 0 from messages answers written
+EndsSo access h from read in_now messages answers written ends.WriteFault =
+    WriteFails access h from read in_now messages answers written
+EndsSo access h from read in_now messages answers written ends.NoMemory =
     (read ≡ []) × (written ≡ []) × (messages ≡ []) × (answers ≡ [])
-EndsSo h from read in_now messages answers written end =
+EndsSo access h from read in_now messages answers written end =
     (at : CutEnd) × (link_end at ≡ end) × Transcript messages at written h from answers
-    × ((left : List ℕ) → in_now ≡ Some left → Cut 10000 (read ++ left) messages at)
+    × ((left : List ℕ) → in_now ≡ Some left → Cut access 10000 (read ++ left) messages at)
 
--- A whole connection: the bytes that were read and written, the messages that were answered and how
--- each was, what was seen and counted meanwhile, and how it ended.
-pub record Serves (first now : Stand) (in_first in_now out_first out_now : Option (List ℕ))
-    (result : LinkEnd) : Type 0 where
+-- A whole connection, by the options of a server: the bytes that were read and written, the
+-- messages that were answered and how each was, what was seen and counted meanwhile, and how it
+-- ended.
+pub record Serves (access : AccessData) (first now : Stand)
+    (in_first in_now out_first out_now : Option (List ℕ)) (result : LinkEnd) : Type 0 where
   pub read : List ℕ
   pub written : List ℕ
   pub messages : List MessageData
@@ -93,4 +97,4 @@ pub record Serves (first now : Stand) (in_first in_now out_first out_now : Optio
   pub input : in_first ≡ with_front read in_now
   pub output : out_now ≡ with_end written out_first
   pub counts : CountsAnswers first now answers
-  pub so : EndsSo now.seen (length first.seen) read in_now messages answers written result
+  pub so : EndsSo access now.seen (length first.seen) read in_now messages answers written result

@@ -1,14 +1,16 @@
 -- What a connection wrote: a reply to each message in order, each for a prefix of one history
 -- (own).
-use Rattle.std.specs.Prelude.{◌≡◌, ℕ, ◌+◌, ◌≤◌, ◌==◌, ◌||◌, Bool, true, List, [], ◌∷◌, ◌++◌, length, take, codes}
+use Rattle.std.specs.Prelude.{◌≡◌, ℕ, ◌+◌, ◌≤◌, ◌==◌, ◌||◌, Bool, true, false, List, [], ◌∷◌, ◌++◌, length, take, codes}
 use Rattle.edit_entries.specs.Entries.{EntryData}
 use Rattle.web_heads.specs.declared.cut_end.CutEnd.{CutEnd}
-use Rattle.web_heads.specs.declared.cut_end.CutEnd.TheVariants.{Closed, CutShort, BadHead, LargeHead, LargeBody, Unsupported, Spent}
+use Rattle.web_heads.specs.declared.cut_end.CutEnd.TheVariants.{Closed, CutShort, BadHead, LargeHead, LargeBody, Unsupported, Foreign, Spent}
+use Rattle.web_heads.specs.Accesses.{speaks_as}
 use Rattle.web_heads.specs.Cuts.{MessageData}
 use Rattle.web_requests.specs.declared.request.Request.{Request}
 use Rattle.web_requests.specs.declared.request.Request.TheVariants.{Edit}
 use Rattle.web_requests.specs.Requests.{IsRequest}
-use Rattle.web_requests.specs.Answers.{bare_reply, lost_reply, no_memory_reply, no_entry_reply, IsRequestAnswer, IsForService}
+use Rattle.web_requests.specs.Answers.{bare_reply, json_reply, lost_reply, no_memory_reply, no_entry_reply, IsRequestAnswer, IsForService}
+use Rattle.web_requests.specs.Bodies.{named_fault}
 use Rattle.hall_server.specs.declared.link_end.LinkEnd.{LinkEnd}
 use Rattle.hall_server.specs.declared.link_end.LinkEnd.TheVariants as ends
 use Rattle.hall_server.specs.declared.reply_kind.ReplyKind.{ReplyKind}
@@ -19,21 +21,39 @@ use Rattle.hall_server.specs.Services.{IsAcceptedAfter}
 abbrev pub IsRequestOf : MessageData → Request → Type 0
 IsRequestOf message request = IsRequest message.method message.target message.body request
 
+-- where the request brings an entry, the message speaks as its session
+abbrev pub is_of_user : MessageData → Request → Bool
+is_of_user message (Edit entry) = speaks_as message.user entry.session
+is_of_user message request = true
+
+-- the reply to an entry of a session as which its message does not speak, after so many entries
+abbrev pub not_you_reply : ℕ → Bool → List ℕ
+not_you_reply front closing = json_reply 403 front closing (named_fault (codes "NotYou"))
+
+-- the text is the answer to a request of a message's own after a history, or to another
+abbrev pub IsAnswerBy : Bool → List EntryData → Request → Bool → List ℕ → Type 0
+IsAnswerBy true h request closing text = IsRequestAnswer h request closing text
+IsAnswerBy false h request closing text = text ≡ not_you_reply (length h) closing
+
 -- the text is the answer to the message after a history
 abbrev pub IsAnswerTo : List EntryData → MessageData → Bool → List ℕ → Type 0
 IsAnswerTo h message closing text =
-    (request : Request) × IsRequestOf message request × IsRequestAnswer h request closing text
+    (request : Request) × IsRequestOf message request
+    × IsAnswerBy (is_of_user message request) h request closing text
 
--- the message is an edit that is accepted after a history, and the text says that it was not kept
+-- the message is an edit of its own that is accepted after a history, and the text says that it was
+-- not kept
 abbrev pub IsLostAt : List EntryData → MessageData → Bool → List ℕ → Type 0
 IsLostAt h message closing text =
-    (entry : EntryData) × IsRequestOf message (Edit entry) × IsAcceptedAfter h entry
+    (entry : EntryData) × IsRequestOf message (Edit entry)
+    × (is_of_user message (Edit entry) ≡ true) × IsAcceptedAfter h entry
     × (text ≡ lost_reply (length h) closing)
 
--- the message asks for an edit or a report
+-- the message asks for an edit of its own, or for a report
 abbrev pub AsksService : MessageData → Type 0
 AsksService message =
-    (request : Request) × IsRequestOf message request × IsForService request
+    (request : Request) × IsRequestOf message request × (is_of_user message request ≡ true)
+    × IsForService request
 
 -- The text is a reply of this kind to the message, where the front before it is the first number,
 -- and the prefix on which it stands is this. A reply that stands on no history has the front before
@@ -76,6 +96,7 @@ end_reply BadHead = bare_reply 400 true (codes "BadHead")
 end_reply LargeHead = bare_reply 431 true (codes "TooLarge")
 end_reply LargeBody = bare_reply 413 true (codes "TooLarge")
 end_reply Unsupported = bare_reply 501 true (codes "Unsupported")
+end_reply Foreign = bare_reply 403 true (codes "Foreign")
 end_reply Closed = []
 end_reply CutShort = []
 end_reply Spent = []
@@ -96,4 +117,5 @@ link_end BadHead = ends.BadHead
 link_end LargeHead = ends.TooLarge
 link_end LargeBody = ends.TooLarge
 link_end Unsupported = ends.Unsupported
+link_end Foreign = ends.Foreign
 link_end Spent = ends.Spent

@@ -14,12 +14,13 @@ use hall_core::{Hall, HallName, Seat, ShowsBoard};
 use keeper_core::Keeper;
 use std::alloc::Global;
 use std::sync::Wait;
-use web_heads::Link;
+use web_heads::{Access, Link};
 
 /// Answers the requests of a link in order until it ends, at most 10,000, by a seat of a hall
 /// (docs/RULES.md, "Transcripts", "Ends of connections", "Seats"). It waits for the link, and for
 /// an edit for the hall's lock, and there for looks at the board, which are over before a text is
-/// made.
+/// made. `access` says which heads are let in, and as whom a message speaks ("Foreign heads",
+/// "Users").
 ///
 /// What the seat has seen in the end is a legal history, which begins with what it had seen. Each
 /// reply is what a prefix of it answers the request, byte for byte, and the prefixes never shrink;
@@ -31,10 +32,11 @@ pub fn serve_link<W: Wait, K: Keeper, B: HallName, S: ShowsBoard<B>, R: Wait + D
     alloc: Global,
     hall: &Hall<K, B, S, R>,
     seat: &mut Seat<B, S>,
+    access: &Access,
     link: &mut L,
 ) -> LinkEnd
     // what was answered, and how it ended
-    ensures serves { Serves (stand_of seat.old) (stand_of seat.new)
+    ensures serves { Serves access.now (stand_of seat.old) (stand_of seat.new)
         (L.input link.old) (L.input link.new) (L.output link.old) (L.output link.new) result }
     ensures legal { Legal seat.new.seen }
     // the causes of the ends that are none of the input
@@ -44,7 +46,7 @@ pub fn serve_link<W: Wait, K: Keeper, B: HallName, S: ShowsBoard<B>, R: Wait + D
         HasRisen (L.write_faults link.old) (L.write_faults link.new) }
     ensures no_memory { result ≡ LinkEnd.NoMemory → seat.new.seen ≡ seat.old.seen }
     // all was answered where nothing failed
-    ensures complete { CompletesConnection (stand_of seat.old) (stand_of seat.new)
+    ensures complete { CompletesConnection access.now (stand_of seat.old) (stand_of seat.new)
         (L.read_faults link.old) (L.read_faults link.new)
         (L.write_faults link.old) (L.write_faults link.new)
         (L.input link.old) (L.output link.old) (L.output link.new) result }
@@ -60,6 +62,7 @@ pub fn serve_link<W: Wait, K: Keeper, B: HallName, S: ShowsBoard<B>, R: Wait + D
         hall,
         seat,
         &KeptReports::new(),
+        access,
         &mut memory,
         link,
     )
@@ -80,11 +83,12 @@ pub(crate) fn serve_link_with<
     hall: &Hall<K, B, S, R>,
     seat: &mut Seat<B, S>,
     reports: &KeptReports<B>,
+    access: &Access,
     memory: &mut LinkMemory,
     link: &mut L,
 ) -> LinkEnd
     // what was answered, and how it ended
-    ensures serves { Serves (stand_of seat.old) (stand_of seat.new)
+    ensures serves { Serves access.now (stand_of seat.old) (stand_of seat.new)
         (L.input link.old) (L.input link.new) (L.output link.old) (L.output link.new) result }
     ensures legal { Legal seat.new.seen }
     // the causes of the ends that are none of the input
@@ -94,7 +98,7 @@ pub(crate) fn serve_link_with<
         HasRisen (L.write_faults link.old) (L.write_faults link.new) }
     ensures no_memory { result ≢ LinkEnd.NoMemory }
     // all was answered where nothing failed
-    ensures complete { CompletesConnection (stand_of seat.old) (stand_of seat.new)
+    ensures complete { CompletesConnection access.now (stand_of seat.old) (stand_of seat.new)
         (L.read_faults link.old) (L.read_faults link.new)
         (L.write_faults link.old) (L.write_faults link.new)
         (L.input link.old) (L.output link.old) (L.output link.new) result }
@@ -107,5 +111,5 @@ pub(crate) fn serve_link_with<
         seat,
         reports,
     };
-    serve_requests_with(alloc, &mut service, memory, link)
+    serve_requests_with(alloc, &mut service, access, memory, link)
 }

@@ -14,6 +14,8 @@ pub enum LinkEnd {
     TooLarge,
     /// 501 was sent: a head has a Transfer-Encoding.
     Unsupported,
+    /// 403 was sent: a head is foreign.
+    Foreign,
     /// A read failed, and the link's count of such rose.
     ReadFault,
     /// A write failed, and the link's count of such rose.

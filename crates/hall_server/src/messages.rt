@@ -11,7 +11,7 @@ use crate::link_end::LinkEnd;
 use crate::respond::{piece, respond};
 use crate::service::Service;
 use std::alloc::{AllocError, Global};
-use web_heads::{Buffer, CutEnd, Link, Message, Next, next_message};
+use web_heads::{Access, Buffer, CutEnd, Link, Message, Next, next_message};
 use web_requests::{ReplyText, Routes};
 
 /// What a connection answers at an end.
@@ -25,6 +25,7 @@ fn as_link_end(end: CutEnd) -> LinkEnd
         CutEnd::LargeHead => LinkEnd::TooLarge,
         CutEnd::LargeBody => LinkEnd::TooLarge,
         CutEnd::Unsupported => LinkEnd::Unsupported,
+        CutEnd::Foreign => LinkEnd::Foreign,
         CutEnd::Spent => LinkEnd::Spent,
     }
 }
@@ -50,6 +51,10 @@ Connection: close\r\nContent-Length: 20\r\n\r\n{\"fault\":\"TooLarge\"}"
         CutEnd::Unsupported => {
             b"HTTP/1.1 501 Not Implemented\r\nContent-Type: application/json\r\n\
 Connection: close\r\nContent-Length: 23\r\n\r\n{\"fault\":\"Unsupported\"}"
+        }
+        CutEnd::Foreign => {
+            b"HTTP/1.1 403 Forbidden\r\nContent-Type: application/json\r\n\
+Connection: close\r\nContent-Length: 19\r\n\r\n{\"fault\":\"Foreign\"}"
         }
     }
 }
@@ -86,13 +91,14 @@ fn serve_messages<S: Service, L: Link>(
     alloc: Global,
     service: &mut S,
     link: &mut L,
+    access: &Access,
     routes: &Routes,
     buffer: &mut Buffer,
     message: &mut Message,
     text: &mut ReplyText,
 ) -> LinkEnd
     requires { buffer.old ≡ [] }
-    ensures serves { Serves
+    ensures serves { Serves access.now
         (stand (S.seen service.old) (S.losses service.old) (S.refusals service.old))
         (stand (S.seen service.new) (S.losses service.new) (S.refusals service.new))
         (L.input link.old) (L.input link.new) (L.output link.old) (L.output link.new) result }
@@ -104,7 +110,7 @@ fn serve_messages<S: Service, L: Link>(
     ensures same_reference { S.reference service.new ≡ S.reference service.old }
 {
     for turn in 0..10_000u32 {
-        match next_message(link, buffer, message) {
+        match next_message(link, buffer, access, message) {
             Next::Message => {}
             Next::End(end) => return finish(link, end),
             Next::Fault => return LinkEnd::ReadFault,
@@ -147,11 +153,12 @@ impl LinkMemory {
 pub(crate) fn serve_requests_with<S: Service, L: Link>(
     alloc: Global,
     service: &mut S,
+    access: &Access,
     memory: &mut LinkMemory,
     link: &mut L,
 ) -> LinkEnd
     // what was answered, and how it ended
-    ensures serves { Serves
+    ensures serves { Serves access.now
         (stand (S.seen service.old) (S.losses service.old) (S.refusals service.old))
         (stand (S.seen service.new) (S.losses service.new) (S.refusals service.new))
         (L.input link.old) (L.input link.new) (L.output link.old) (L.output link.new) result }
@@ -164,7 +171,7 @@ pub(crate) fn serve_requests_with<S: Service, L: Link>(
     // what was lent to the service is what was served
     ensures same_reference { S.reference service.new ≡ S.reference service.old }
     // all was answered where nothing failed
-    ensures complete { CompletesConnection
+    ensures complete { CompletesConnection access.now
         (stand (S.seen service.old) (S.losses service.old) (S.refusals service.old))
         (stand (S.seen service.new) (S.losses service.new) (S.refusals service.new))
         (L.read_faults link.old) (L.read_faults link.new)
@@ -176,6 +183,7 @@ pub(crate) fn serve_requests_with<S: Service, L: Link>(
         alloc,
         service,
         link,
+        access,
         &memory.routes,
         &mut memory.buffer,
         &mut memory.message,
@@ -188,12 +196,18 @@ pub(crate) fn serve_requests_with<S: Service, L: Link>(
 /// Answers the messages of a link in order until it ends, at most 10,000 (docs/RULES.md,
 /// "Transcripts" and "Ends of connections"). It waits for the link.
 ///
+/// `access` says which heads are let in, and as whom a message speaks ("Foreign heads", "Users").
 /// Each reply is what `service` makes of the request, byte for byte, for a prefix of what it has
 /// seen in the end; the prefixes never shrink. It is one write. After `NoMemory` nothing was read
 /// or written, and what was seen is as before.
-pub fn serve_requests<S: Service, L: Link>(alloc: Global, service: &mut S, link: &mut L) -> LinkEnd
+pub fn serve_requests<S: Service, L: Link>(
+    alloc: Global,
+    service: &mut S,
+    access: &Access,
+    link: &mut L,
+) -> LinkEnd
     // what was answered, and how it ended
-    ensures serves { Serves
+    ensures serves { Serves access.now
         (stand (S.seen service.old) (S.losses service.old) (S.refusals service.old))
         (stand (S.seen service.new) (S.losses service.new) (S.refusals service.new))
         (L.input link.old) (L.input link.new) (L.output link.old) (L.output link.new) result }
@@ -206,7 +220,7 @@ pub fn serve_requests<S: Service, L: Link>(alloc: Global, service: &mut S, link:
     // what was lent to the service is what was served
     ensures same_reference { S.reference service.new ≡ S.reference service.old }
     // all was answered where nothing failed
-    ensures complete { CompletesConnection
+    ensures complete { CompletesConnection access.now
         (stand (S.seen service.old) (S.losses service.old) (S.refusals service.old))
         (stand (S.seen service.new) (S.losses service.new) (S.refusals service.new))
         (L.read_faults link.old) (L.read_faults link.new)
@@ -216,5 +230,5 @@ pub fn serve_requests<S: Service, L: Link>(alloc: Global, service: &mut S, link:
     let Ok(mut memory) = LinkMemory::new(alloc) else {
         return LinkEnd::NoMemory;
     };
-    serve_requests_with(alloc, service, &mut memory, link)
+    serve_requests_with(alloc, service, access, &mut memory, link)
 }

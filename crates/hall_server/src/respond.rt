@@ -2,7 +2,8 @@
 ghost use Rattle.std.specs.Prelude.{◌≡◌};
 ghost use Rattle.hall_server.specs.Services.{stand};
 ghost use Rattle.hall_server.specs.steps.Pieces.{IsEditPiece, IsShownPiece, kind_written, piece_of};
-ghost use Rattle.hall_server.specs.steps.Responding.{Responds, RespondsTo};
+ghost use Rattle.hall_server.specs.steps.Responding.{Declines, Responds, RespondsTo};
+ghost use Rattle.web_requests.specs.Requests.{IsRequest};
 
 use crate::reply_kind::ReplyKind;
 use crate::service::Service;
@@ -162,6 +163,48 @@ fn respond_fixed<S: Service>(
     answered(write_fixed(alloc, text, request, front, closing))
 }
 
+/// Looks, and writes the reply to an entry of a session as which its message does not speak.
+fn decline<S: Service>(
+    alloc: Global,
+    service: &mut S,
+    closing: bool,
+    text: &mut ReplyText,
+) -> ReplyKind
+    ensures declines { Declines
+        (stand (S.seen service.old) (S.losses service.old) (S.refusals service.old))
+        (stand (S.seen service.new) (S.losses service.new) (S.refusals service.new))
+        closing (piece_of result text.new) result }
+    ensures same_reference { S.reference service.new ≡ S.reference service.old }
+{
+    let front = service.front();
+    let status = StatusCode::FORBIDDEN;
+    answered(write_named(alloc, text, status, front, closing, "NotYou"))
+}
+
+/// Answers a message that brings an entry, which it may where it speaks as the entry's session.
+#[tactic(auto, using(crate::proofs::Responses::of_request, crate::proofs::Responses::of_other))]
+fn respond_entry<S: Service>(
+    alloc: Global,
+    service: &mut S,
+    message: &Message,
+    entry: Entry,
+    closing: bool,
+    text: &mut ReplyText,
+) -> ReplyKind
+    requires { IsRequest message.now.method message.now.target message.now.body
+        (Request.Edit entry) }
+    ensures responds { RespondsTo
+        (stand (S.seen service.old) (S.losses service.old) (S.refusals service.old))
+        (stand (S.seen service.new) (S.losses service.new) (S.refusals service.new))
+        message.now closing (piece_of result text.new) result }
+    ensures same_reference { S.reference service.new ≡ S.reference service.old }
+{
+    if !message.speaks_as(entry.session.as_str().as_bytes()) {
+        return decline(alloc, service, closing, text);
+    }
+    respond_edit(alloc, service, entry, closing, text)
+}
+
 /// Answers a message: the kind of the reply, and its text where that is not a fixed one.
 #[tactic(auto, using(crate::proofs::Responses::of_request))]
 pub fn respond<S: Service>(
@@ -185,7 +228,7 @@ pub fn respond<S: Service>(
         message.target(),
         message.body(),
     ) {
-        Ok(Request::Edit(entry)) => respond_edit(alloc, service, entry, closing, text),
+        Ok(Request::Edit(entry)) => { respond_entry(alloc, service, message, entry, closing, text) }
         Ok(Request::Report { least, what }) => {
             respond_report(alloc, service, least, &what, closing, text)
         }

@@ -16,6 +16,7 @@ use std::marker::Brand;
 use std::mem;
 use std::sync::Wait;
 use std::thread::Threads;
+use web_heads::Access;
 
 /// How many seats a hall that is served has.
 const SEATS: u32 = 8;
@@ -55,6 +56,7 @@ fn serve_opened<
     hall: &BoardHall<K, B, R>,
     seats: Vec<BoardSeat<B>>,
     gate: &G,
+    access: &Access,
     out: &mut O,
 ) -> Result<(), ServeFault>
     ensures { OpenServesTo (stream (O.written out.old) (O.written out.new)
@@ -68,7 +70,7 @@ fn serve_opened<
         mem::forget(seats);
         return Err(ServeFault::OutputFault);
     }
-    match serve_all(rt, alloc, hall, seats, gate) {
+    match serve_all(rt, alloc, hall, seats, gate, access) {
         Ok(seats) => {
             mem::forget(seats);
             Ok(())
@@ -90,6 +92,7 @@ fn serve_named<
     log: NewLog,
     keeper: K,
     gate: &G,
+    access: &Access,
     places: &mut Places,
     out: &mut O,
 ) -> Result<(), ServeFault>
@@ -103,7 +106,7 @@ fn serve_named<
 {
     match open_hall(alloc, rt, log.named::<B>(), keeper, SEATS, places) {
         Ok((hall, seats, _keys)) => {
-            let served = serve_opened(rt, alloc, &hall, seats, gate, out);
+            let served = serve_opened(rt, alloc, &hall, seats, gate, access, out);
             mem::forget(hall);
             served
         }
@@ -114,7 +117,7 @@ fn serve_named<
 /// Binds the gate to an address, attaches the keeper to a store, opens a hall of eight seats over
 /// its rows, writes `serving` and LF to `out`, and then serves the links of the gate by eight
 /// workers until it gives none to each (docs/RULES.md, "Serving"). The first fault that is met ends
-/// it.
+/// it. `access` says which heads are let in, and as whom a message speaks.
 ///
 /// `GateFault` only where the gate's count of faults rose, `NoPlace` only where that of `places`
 /// did, and `OutputFault` only where that of `out` did; then a prefix of the line is out.
@@ -127,6 +130,7 @@ pub fn serve<W: Threads + Wait + Sync, G: Gate + Sync, K: Keeper + Send, O: Sink
     alloc: Global,
     address: &str,
     store: &str,
+    access: &Access,
     gate: &mut G,
     keeper: K,
     places: &mut Places,
@@ -142,5 +146,5 @@ pub fn serve<W: Threads + Wait + Sync, G: Gate + Sync, K: Keeper + Send, O: Sink
     let mut keeper = keeper;
     keeper.attach(store)?;
     let log = NewLog::new(SEATS);
-    serve_named::<W, Brand, K, G, O>(rt, alloc, log, keeper, gate, places, out)
+    serve_named::<W, Brand, K, G, O>(rt, alloc, log, keeper, gate, access, places, out)
 }

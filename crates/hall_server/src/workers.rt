@@ -11,6 +11,7 @@ use std::alloc::{AllocError, Global};
 use std::sync::Wait;
 use std::thread;
 use std::thread::Threads;
+use web_heads::Access;
 
 /// What works with something, and hands it back.
 trait Work<T> {
@@ -37,6 +38,7 @@ struct LinkWork<'a, W: Wait, K: Keeper, B: HallName, S: ShowsBoard<B>, R: Wait +
     hall: &'a Hall<K, B, S, R>,
     reports: &'a KeptReports<B>,
     gate: &'a G,
+    access: &'a Access,
 }
 
 impl<W: Wait, K: Keeper, B: HallName, S: ShowsBoard<B>, R: Wait + Drop, G: Gate> Work<Seat<B, S>>
@@ -50,8 +52,18 @@ impl<W: Wait, K: Keeper, B: HallName, S: ShowsBoard<B>, R: Wait + Drop, G: Gate>
             let Some(mut link) = self.gate.next() else {
                 break;
             };
-            let (rt, alloc, hall, reports) = (self.rt, self.alloc, self.hall, self.reports);
-            let _end = serve_link_with(rt, alloc, hall, &mut seat, reports, &mut memory, &mut link);
+            let (rt, alloc, hall) = (self.rt, self.alloc, self.hall);
+            let (reports, access) = (self.reports, self.access);
+            let _end = serve_link_with(
+                rt,
+                alloc,
+                hall,
+                &mut seat,
+                reports,
+                access,
+                &mut memory,
+                &mut link,
+            );
         }
         seat
     }
@@ -77,6 +89,7 @@ pub fn serve_all<
     hall: &BoardHall<K, B, R>,
     seats: Vec<BoardSeat<B>>,
     gate: &G,
+    access: &Access,
 ) -> Result<Vec<BoardSeat<B>>, AllocError>
     ensures all { IfOk result (λ back. length back.items ≡ length seats.items) }
 {
@@ -87,6 +100,7 @@ pub fn serve_all<
         hall,
         reports: &reports,
         gate,
+        access,
     };
     work_with_each(rt, seats, &work)
 }

@@ -3,6 +3,7 @@ use Rattle.std.specs.Prelude.{◌≡◌, ℕ, ◌≤◌, ◌⊎◌, Bool, List, 
 use Rattle.geda_defs.specs.Causes.{HasRisen}
 use Rattle.edit_entries.specs.Entries.{EntryData}
 use Rattle.web_heads.specs.declared.cut_end.CutEnd.{CutEnd}
+use Rattle.web_heads.specs.Accesses.{AccessData}
 use Rattle.web_heads.specs.Cuts.{MessageData}
 use Rattle.web_heads.specs.Links.{with_front, with_end, IsPrefixOf}
 use Rattle.web_heads.specs.steps.Fronts.{Front}
@@ -14,8 +15,9 @@ use Rattle.hall_server.specs.declared.link_end.LinkEnd.TheVariants as ends
 use Rattle.hall_server.specs.declared.reply_kind.ReplyKind.{ReplyKind}
 use Rattle.hall_server.specs.declared.reply_kind.ReplyKind.TheVariants as kinds
 use Rattle.hall_server.specs.Services.{Stand, Grows, IsAcceptedAfter, one_more_loss}
-use Rattle.hall_server.specs.Transcripts.{Answered, AsksService, IsAnswerTo, IsLostAt, Replies, end_reply, link_end}
+use Rattle.hall_server.specs.Transcripts.{Answered, AsksService, IsAnswerTo, IsLostAt, Replies, end_reply, link_end, not_you_reply}
 use Rattle.hall_server.specs.Connections.{CountsAnswers}
+use Rattle.hall_server.specs.steps.Pieces.{IsWritten}
 
 -- the reply to an accepted edit that could not be kept
 abbrev pub IsLostEdit : List EntryData → Request → Bool → List ℕ → Type 0
@@ -61,6 +63,14 @@ pub record Responds (old new : Stand) (request : Request) (closing : Bool) (text
   pub loses : Loses old.losses new.losses kind
   pub refuses : Refuses old.refusals new.refusals kind
 
+-- an entry of another session is answered by a reply of this kind
+pub record Declines (old new : Stand) (closing : Bool) (text : List ℕ) (kind : ReplyKind)
+    : Type 0 where
+  pub grown : Grows old.seen new.seen
+  pub wrote : IsWritten (not_you_reply (length new.seen) closing) text kind
+  pub losses : new.losses ≡ old.losses
+  pub refusals : old.refusals ≤ new.refusals
+
 -- a message is answered by a reply of this kind
 pub record RespondsTo (old new : Stand) (message : MessageData) (closing : Bool) (text : List ℕ)
     (kind : ReplyKind) : Type 0 where
@@ -75,15 +85,16 @@ last_front from [] = from
 last_front from (answered ∷ more) = last_front answered.front more
 
 -- the messages so far are answered, with these bytes left
-pub record SoFar (first now : Stand) (in_first in_now out_first out_now : Option (List ℕ))
-    (left : List ℕ) (count : ℕ) : Type 0 where
+pub record SoFar (access : AccessData) (first now : Stand)
+    (in_first in_now out_first out_now : Option (List ℕ)) (left : List ℕ) (count : ℕ)
+    : Type 0 where
   pub read : List ℕ
   pub written : List ℕ
   pub messages : List MessageData
   pub answers : List Answered
   pub input : in_first ≡ with_front read in_now
   pub output : out_now ≡ with_end written out_first
-  pub front : Front read messages left
+  pub front : Front access read messages left
   pub counted : length messages ≡ count
   pub counts : CountsAnswers first now answers
   pub replies : Replies now.seen 0 (length first.seen) messages answers written
