@@ -12,6 +12,8 @@ use Rattle.geda_model.specs.Names.{is_name}
 use Rattle.net_list.specs.declared.form.Form.{Form}
 use Rattle.net_list.specs.declared.form.Form.TheVariants as forms
 use Rattle.option_words.specs.Words.{Parts, parts_of}
+use Rattle.web_heads.specs.Accesses.{AccessData, access_of}
+use Rattle.command_words.specs.HostWords.{hosts_apart}
 use Rattle.command_words.specs.declared.command.Command.{Command}
 use Rattle.command_words.specs.declared.command.Command.TheVariants.{Netlist, Spice, Drc, Export, Symcheck, Renumber, Table, Fill, Work, Serve, Store}
 
@@ -126,17 +128,28 @@ work_of (start ∷ count ∷ []) =
     (number_of 4294967295 start)
 work_of words = None
 
--- the serving at an address of what a store keeps: both are any words
-abbrev pub serve_of : List (List ℕ) → Option Command
-serve_of (address ∷ store ∷ []) = Some (Serve address store)
-serve_of words = None
+-- the serving at an address of what a store keeps, both any words, by these options
+abbrev pub serving_of : AccessData → List (List ℕ) → Option Command
+serving_of access (address ∷ store ∷ []) = Some (Serve address store access)
+serving_of access words = None
+
+-- the same, given the values of `--host`, and of `--who` where there is one
+abbrev pub serve_of : List (List ℕ) → Parts → Option Command
+serve_of hosts parts =
+    option_and_then (λ access. serving_of access parts.words) (access_of hosts parts.value)
+
+-- the serving that the words behind `serve` ask for
+abbrev pub serve_with : List (List ℕ) → Option Command
+serve_with words =
+    option_and_then (λ found. option_and_then (serve_of found.hosts)
+    (parts_of (Some (codes "who")) found.words)) (hosts_apart words)
 
 -- the copying of what a store keeps into a database: both are any words
 abbrev pub store_of : List (List ℕ) → Option Command
 store_of (store ∷ database ∷ []) = Some (Store store database)
 store_of words = None
 
--- the command of this name, with the words behind it: each command has one option or none
+-- the command of this name, with the words behind it: each has one option or none, but serve
 abbrev pub command_with : List ℕ → List (List ℕ) → Option Command
 command_with command words =
     if bytes_eq command (codes "netlist")
@@ -156,7 +169,7 @@ command_with command words =
     else if bytes_eq command (codes "work")
     then option_and_then (λ parts. work_of parts.words) (parts_of None words)
     else if bytes_eq command (codes "serve")
-    then option_and_then (λ parts. serve_of parts.words) (parts_of None words)
+    then serve_with words
     else if bytes_eq command (codes "store")
     then option_and_then (λ parts. store_of parts.words) (parts_of None words)
     else None
@@ -177,5 +190,5 @@ IsAskable (Renumber sheets) = AllPairs ◌≢◌ sheets
 IsAskable (Table sheet) = ⊤
 IsAskable (Fill sheet table) = ⊤
 IsAskable (Work start count) = count ≤ most_steps
-IsAskable (Serve address store) = ⊤
+IsAskable (Serve address store access) = ⊤
 IsAskable (Store store database) = ⊤

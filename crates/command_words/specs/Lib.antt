@@ -1,1 +1,2 @@
+pub mod HostWords
 pub mod Commands

@@ -1,21 +1,24 @@
 // The commands, and which of them the arguments ask for.
 ghost use Rattle.std.specs.Prelude.{◌≡◌, ⊤, None, Some, IfOk, MatchOption, codes, map, option_and_then};
-ghost use Rattle.std.specs.Prelude.{option_copied, string_bytes};
+ghost use Rattle.std.specs.Prelude.{option_copied, option_map, string_bytes};
 ghost use Rattle.option_words.specs.Reads.{Gives, parts_seen};
 ghost use Rattle.option_words.specs.Words.{parts_of};
 ghost use Rattle.command_words.specs.Commands.{IsAskable, command_of, drc_of, export_of, fill_of};
 ghost use Rattle.command_words.specs.Commands.{filling, form_of, table_of};
 ghost use Rattle.command_words.specs.Commands.{is_spice, list_of, matrix_of, netlist_of};
-ghost use Rattle.command_words.specs.Commands.{renumber_of, serve_of, spice_of, symcheck_of};
+ghost use Rattle.command_words.specs.Commands.{renumber_of, serve_of, serve_with, serving_of, spice_of};
+ghost use Rattle.command_words.specs.Commands.{symcheck_of};
 ghost use Rattle.command_words.specs.Commands.{store_of, work_of};
 
 use crate::argument::Argument;
 use crate::files::{file_of, sheets_of};
+use crate::host_words::hosts_apart;
 use crate::numbers::{MOST_STEPS, number_of};
 use geda_model::{Items, Name};
 use net_list::Form;
 use option_words::{Parts, WordFault, read_parts};
-use std::alloc::Global;
+use std::alloc::{AllocError, Global};
+use web_heads::Access;
 
 /// What the program can do (docs/FORMATS.md, "Command lines").
 #[derive(Debug, Drop)]
@@ -79,6 +82,8 @@ pub enum Command {
         address: Argument,
         /// The name of the store.
         store: Argument,
+        /// Which heads are let in, and as whom a message speaks.
+        access: Access,
     },
     /// Copies the history that a store keeps into a database.
     Store {
@@ -254,9 +259,10 @@ fn work_of(words: &[&str]) -> Option<Command>
     Some(Command::Work { start, count })
 }
 
-/// The serving that the words name: at an address, of what a store keeps.
-fn serve_of(alloc: Global, words: &[&str]) -> Result<Command, WordFault>
-    ensures asked { Gives (λ command. command) result (serve_of (map (λ w. w.now) words.now)) }
+/// The serving that the words name by some options: at an address, of what a store keeps.
+fn serving_of(alloc: Global, access: Access, words: &[&str]) -> Result<Command, WordFault>
+    ensures asked { Gives (λ command. command) result
+        (serving_of access (map (λ w. w.now) words.now)) }
     ensures any { IfOk result IsAskable }
 {
     let [address, store] = words else {
@@ -264,7 +270,32 @@ fn serve_of(alloc: Global, words: &[&str]) -> Result<Command, WordFault>
     };
     let address = Argument::new(alloc, *address)?;
     let store = Argument::new(alloc, *store)?;
-    Ok(Command::Serve { address, store })
+    Ok(Command::Serve {
+        address,
+        store,
+        access,
+    })
+}
+
+/// The name of the header that the value of `--who` is, where there is one.
+fn user_of(alloc: Global, value: Option<&str>) -> Result<Option<String>, AllocError>
+    ensures { IfOk result (λ user. option_map string_bytes user ≡ option_copied value.entry) }
+{
+    match value {
+        Some(name) => Ok(Some(String::from_str(alloc, name)?)),
+        None => Ok(None),
+    }
+}
+
+/// The serving that these parts ask for, where these hosts are answered.
+fn serve_of(alloc: Global, hosts: Vec<String>, parts: Parts<'_>) -> Result<Command, WordFault>
+    ensures asked { Gives (λ command. command) result
+        (serve_of (map string_bytes hosts.items) (parts_seen parts.entry)) }
+    ensures any { IfOk result IsAskable }
+{
+    let user = user_of(alloc, parts.value)?;
+    let access = Access::new(hosts, user).ok_or(WordFault::Usage)?;
+    serving_of(alloc, access, parts.words.as_slice())
 }
 
 /// The copying that the words name: of what a store keeps, into a database.
@@ -368,13 +399,12 @@ fn work(alloc: Global, words: &[String]) -> Result<Command, WordFault>
 
 /// The serving that the words behind `serve` ask for.
 fn serve(alloc: Global, words: &[String]) -> Result<Command, WordFault>
-    ensures asked { Gives (λ command. command) result
-        (option_and_then (λ parts. serve_of parts.words)
-        (parts_of None (map string_bytes words.now))) }
+    ensures asked { Gives (λ command. command) result (serve_with (map string_bytes words.now)) }
     ensures any { IfOk result IsAskable }
 {
-    let parts = read_parts(alloc, None, words)?;
-    serve_of(alloc, parts.words.as_slice())
+    let (hosts, others) = hosts_apart(alloc, words)?.into_parts();
+    let parts = read_parts(alloc, Some("who"), &others)?;
+    serve_of(alloc, hosts, parts)
 }
 
 /// The copying that the words behind `store` ask for.

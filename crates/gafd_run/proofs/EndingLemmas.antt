@@ -58,7 +58,7 @@ good told (Some (commands.Table sheet)) answer come = of_opened (IsGood (Some (c
 good told (Some (commands.Fill sheet table)) answer come =
     of_opened (IsGood (Some (commands.Fill sheet table))) (FillsTo told sheet table) (λ h. of_filled (IsGood (Some (commands.Fill sheet table))) (λ f. inl refl) told sheet table h) told sheet (Ok answer) come
 good told (Some (commands.Work start count)) answer (text, come, is) = as_one (IsGood (Some (commands.Work start count))) _ (Ok answer) is (inl refl)
-good told (Some (commands.Serve address store)) answer come = absurd come
+good told (Some (commands.Serve address store access)) answer come = absurd come
 good told (Some (commands.Store store database)) answer come = absurd come
 
 module _ (outside : Outside) (keepers : Keepers) (folder : FolderRun) (command : Option Command) (out err : Stream) (status : ℕ) where
@@ -109,12 +109,12 @@ module _ (outside : Outside) (keepers : Keepers) (folder : FolderRun) (command :
 -- so of the whole program
 pub all_left : (outside : Outside) (keepers : Keepers) (folder : FolderRun) (command : Option Command) (out err : Stream) (status : ℕ) → RunEnds outside keepers folder command out err status → Completes outside keepers folder command out status
 all_left outside keepers folder (Some (commands.Store store database)) out err status ends = storing_left outside keepers folder (Some (commands.Store store database)) out err status tt ends.0
-all_left outside keepers folder (Some (commands.Serve address store)) out err status ends = serving_left outside keepers folder (Some (commands.Serve address store)) out err status tt ends.0
+all_left outside keepers folder (Some (commands.Serve address store access)) out err status ends = serving_left outside keepers folder (Some (commands.Serve address store)) out err status tt ends.0
 all_left outside keepers folder command out err status ends = files_left outside keepers folder command out err status ends
 
 -- a run on files is one of the program
 pub on_files : (outside : Outside) (keepers : Keepers) (folder : FolderRun) (command : Command) (out err : Stream) (status : ℕ) → IsOnFiles command → Ends folder (Some command) out err status → RunEnds outside keepers folder (Some command) out err status
-on_files outside keepers folder (commands.Serve address store) out err status on ends = absurd on
+on_files outside keepers folder (commands.Serve address store access) out err status on ends = absurd on
 on_files outside keepers folder (commands.Store store database) out err status on ends = absurd on
 on_files outside keepers folder command out err status on ends = ends
 
@@ -171,6 +171,6 @@ words_failed outside keepers folder command out err status words.NoMemory e from
     plain c = record { outcome = Err faults.NoMemory; cause = (inl kept, quiet); said = said; status_is = status_is }
 
     ends : (c : Option Command) → RunEnds outside keepers folder c out err status
-    ends (Some (commands.Serve address store)) = (record { served = Err serve_faults.NoMemory; cause = inl quiet; said = said; status_is = status_is }, kept)
+    ends (Some (commands.Serve address store access)) = (record { served = Err serve_faults.NoMemory; cause = inl quiet; said = said; status_is = status_is }, kept)
     ends (Some (commands.Store store database)) = (record { stored = Err storing_faults.NoMemory; cause = (inl same_rows, quiet); said = said; status_is = status_is }, kept)
     ends c = plain c

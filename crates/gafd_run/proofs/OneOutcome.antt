@@ -69,5 +69,5 @@ same_outcomes files (Some (commands.Table sheet)) first second fixed p q = opene
 same_outcomes files (Some (commands.Fill sheet table)) first second fixed p q =
     opened_one files sheet (FillsTo (Some files) sheet table) (λ h. file_one (faults.Missing table) (λ bytes end. end ≡ fill_outcome sheet table h bytes) (λ bytes one other is so. is ∙ sym so) (files table)) first second p q
 same_outcomes files (Some (commands.Work start count)) first second fixed p q = absurd fixed
-same_outcomes files (Some (commands.Serve address store)) first second fixed p q = absurd p
+same_outcomes files (Some (commands.Serve address store access)) first second fixed p q = absurd p
 same_outcomes files (Some (commands.Store store database)) first second fixed p q = absurd p

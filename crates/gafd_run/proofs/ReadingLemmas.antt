@@ -34,7 +34,7 @@ writes_none told (Some (commands.Renumber names)) reading answer come = absurd r
 writes_none told (Some (commands.Table sheet)) reading answer come = of_opened WritesNone (λ h end. end ≡ tabled sheet h) (λ h. as_done WritesNone (table_text (project h) sheet) refl) told sheet (Ok answer) come
 writes_none told (Some (commands.Fill sheet table)) reading answer come = absurd reading
 writes_none told (Some (commands.Work start count)) reading answer (text, come, is) = as_one WritesNone _ (Ok answer) is refl
-writes_none told (Some (commands.Serve address store)) reading answer come = absurd come
+writes_none told (Some (commands.Serve address store access)) reading answer come = absurd come
 writes_none told (Some (commands.Store store database)) reading answer come = absurd come
 
 module _ (folder : FolderRun) (command : Option Command) (out : Stream) (reading : IsReading command) where

@@ -239,7 +239,7 @@ CommandComesTo files (Table sheet) outcome =
 CommandComesTo files (Fill sheet table) outcome =
     Opened files sheet (FillsTo files sheet table) outcome
 CommandComesTo files (Work start count) outcome = WorkOf start count outcome
-CommandComesTo files (Serve address store) outcome = ⊥
+CommandComesTo files (Serve address store access) outcome = ⊥
 CommandComesTo files (Store store database) outcome = ⊥
 
 -- what the arguments come to: what their command comes to, or a fault of usage

@@ -62,7 +62,7 @@ pub record StoringEnds (keepers : Keepers) (out err : Stream) (status : ℕ) : T
 -- the program ends as a serving or as a copying, by which told files stay, or as a run on files
 abbrev pub RunEnds :
     Outside → Keepers → FolderRun → Option Command → Stream → Stream → ℕ → Type 0
-RunEnds outside keepers folder (Some (Serve address store)) out err status =
+RunEnds outside keepers folder (Some (Serve address store access)) out err status =
     ServingEnds outside out err status × KeepsFiles folder.old folder.new
 RunEnds outside keepers folder (Some (Store store database)) out err status =
     StoringEnds keepers out err status × KeepsFiles folder.old folder.new
@@ -81,7 +81,7 @@ IsCheck other = ⊥
 
 -- the command serves
 abbrev pub IsServing : Option Command → Type 0
-IsServing (Some (Serve address store)) = ⊤
+IsServing (Some (Serve address store access)) = ⊤
 IsServing other = ⊥
 
 -- the command copies a store

@@ -15,6 +15,7 @@ use sinks::Sink;
 use std::alloc::Global;
 use std::sync::Wait;
 use std::thread::Threads;
+use web_heads::Access;
 
 /// Serves, and answers the status with which that ends. For a fault its line goes to `err`.
 #[tactic(auto, using(crate::proofs::ServingLemmas::serving_reported))]
@@ -23,6 +24,7 @@ pub fn served<W: Threads + Wait + Sync, O: Sink, E: Sink, G: Gate + Sync, K: Kee
     alloc: Global,
     address: Argument,
     store: Argument,
+    access: &Access,
     out: &mut O,
     err: &mut E,
     gate: &mut G,
@@ -43,6 +45,7 @@ pub fn served<W: Threads + Wait + Sync, O: Sink, E: Sink, G: Gate + Sync, K: Kee
         alloc,
         address.as_str(),
         store.as_str(),
+        access,
         gate,
         keeper,
         places,

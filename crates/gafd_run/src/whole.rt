@@ -123,8 +123,14 @@ fn run_command<
         Err(fault) => return report(alloc, &RunFault::from(fault), err),
     };
     match command {
-        Command::Serve { address, store } => {
-            served(rt, alloc, address, store, out, err, gate, keeper, places)
+        Command::Serve {
+            address,
+            store,
+            access,
+        } => {
+            served(
+                rt, alloc, address, store, &access, out, err, gate, keeper, places,
+            )
         }
         Command::Store {
             store,

@@ -60,7 +60,7 @@ Delivers folder out answer (Err fault) = ⊥
 
 -- the command is done on files: it does not serve or copy a store
 abbrev pub IsOnFiles : Command → Type 0
-IsOnFiles (Serve address store) = ⊥
+IsOnFiles (Serve address store access) = ⊥
 IsOnFiles (Store store database) = ⊥
 IsOnFiles other = ⊤
 
