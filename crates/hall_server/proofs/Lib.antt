@@ -2,6 +2,7 @@ mod Answering
 mod Completing
 mod Counting
 mod EndTexts
+mod OwnEntries
 mod Replying
 mod Responses
 mod SeatReports

@@ -23,6 +23,7 @@ mod fault;
 mod kept_reports;
 mod kept_text;
 mod last_text;
+mod laws;
 mod link_end;
 mod messages;
 mod project_copy;
@@ -38,6 +39,7 @@ mod workers;
 
 pub use connection::serve_link;
 pub use fault::ServeFault;
+pub use laws::own_entry_law;
 pub use link_end::LinkEnd;
 pub use messages::serve_requests;
 pub use reply_kind::ReplyKind;
