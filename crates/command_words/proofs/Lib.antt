@@ -1,2 +1,3 @@
+pub mod HostLemmas
 mod NameLemmas
 mod NumberLemmas
