@@ -182,7 +182,6 @@ fn decline<S: Service>(
 }
 
 /// Answers a message that brings an entry, which it may where it speaks as the entry's session.
-#[tactic(auto, using(crate::proofs::Responses::of_request, crate::proofs::Responses::of_other))]
 fn respond_entry<S: Service>(
     alloc: Global,
     service: &mut S,
@@ -200,6 +199,7 @@ fn respond_entry<S: Service>(
     ensures same_reference { S.reference service.new ≡ S.reference service.old }
 {
     if !message.speaks_as(entry.session.as_str().as_bytes()) {
+        drop(entry);
         return decline(alloc, service, closing, text);
     }
     respond_edit(alloc, service, entry, closing, text)
