@@ -5,7 +5,7 @@ use Rattle.sinks.specs.Streams.{stream}
 use Rattle.hall_server.specs.Serving.{outside}
 use Rattle.store_copy.specs.Storing.{keepers}
 use Rattle.gafd_run.specs.Writing.{folder_run}
-use Rattle.gafd_run.proofs.EndingLemmas.{words_failed}
+use Rattle.gafd_run.proofs.EndingLemmas.{rows_stay, words_failed}
 use Rattle.gafd_run.proofs.whole.run_command.Goals as goal
 
 pub returns-in-Err-clause-end : goal.returns-in-Err-clause-end
@@ -22,3 +22,7 @@ returns-in-Err-clause-end g c =
     (folder_run files files (counts failed failed)) (command_of c.args.arguments.now) (stream written written (counts lost lost))
     (stream (g.E.Sink.written c.args.err.now) (g.E.Sink.written c.report.new.err) (counts (g.E.Sink.faults c.args.err.now) (g.E.Sink.faults c.report.new.err)))
     c.report.result c.in-Err.fault c.from.result c.from.ensures c.in-Err.ensures.asked refl refl refl c.report.ensures
+
+pub returns-in-Err-clause-database : goal.returns-in-Err-clause-database
+returns-in-Err-clause-database g c =
+    rows_stay (command_of c.args.arguments.now) (g.D.Keeper.rows c.args.database.now)
