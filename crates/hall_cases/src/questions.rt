@@ -81,6 +81,22 @@ pub fn connections<W: Wait>(
     }
 }
 
+/// Has a new hall serve the requests of files over a keeper of no rows, where a header names the
+/// user.
+fn serve_users<W: Wait>(
+    rt: &W,
+    alloc: Global,
+    names: &str,
+    header: &str,
+    files: &TableFiles,
+) -> Result<Served, HallFault> {
+    let inputs = inputs_of(alloc, names, files)?;
+    let header = String::from_str(alloc, header)?;
+    let access = Access::new(Vec::new(alloc), Some(header)).ok_or(CaseFault::BadCase)?;
+    let keeper = keeper_failing_at(alloc, 0)?;
+    serve_new(rt, alloc, keeper, &access, inputs)
+}
+
 /// The connections of files where a header names the user: `ann bob by X-User`.
 pub fn connections_of_users<W: Wait>(
     rt: &W,
@@ -89,11 +105,7 @@ pub fn connections_of_users<W: Wait>(
     files: &TableFiles,
 ) -> Result<String, CaseFault> {
     let (names, header) = words.split_once(" by ").ok_or(CaseFault::BadCase)?;
-    let inputs = inputs_of(alloc, names, files)?;
-    let header = String::from_str(alloc, header)?;
-    let access = Access::new(Vec::new(alloc), Some(header)).ok_or(CaseFault::BadCase)?;
-    let keeper = keeper_failing_at(alloc, 0)?;
-    match serve_new(rt, alloc, keeper, &access, inputs) {
+    match serve_users(rt, alloc, names, header, files) {
         Ok(served) => whole_lines(alloc, &served),
         Err(fault) => fault_line(alloc, fault),
     }
