@@ -1,5 +1,5 @@
 -- How the whole program ends, and which statuses are left where nothing failed.
-use Rattle.std.proofs.Common.{◌≡◌, ◌⊎◌, ℕ, Bool, true, false, Option, Some, None, Result, Ok, Err, inl, inr, refl, sym, subst, ap, ◌∙◌}
+use Rattle.std.proofs.Common.{◌≡◌, ◌⊎◌, ℕ, List, Bool, true, false, Option, Some, None, Result, Ok, Err, inl, inr, refl, sym, subst, ap, ◌∙◌}
 use Rattle.std.specs.Prelude.{if◌then◌else◌}
 use Rattle.std.specs.declared.option.Option.{Option}
 use Rattle.std.specs.Result.{result_map_both}
@@ -109,7 +109,7 @@ module _ (outside : Outside) (keepers : Keepers) (folder : FolderRun) (command :
 -- so of the whole program
 pub all_left : (outside : Outside) (keepers : Keepers) (folder : FolderRun) (command : Option Command) (out err : Stream) (status : ℕ) → RunEnds outside keepers folder command out err status → Completes outside keepers folder command out status
 all_left outside keepers folder (Some (commands.Store store database)) out err status ends = storing_left outside keepers folder (Some (commands.Store store database)) out err status tt ends.0
-all_left outside keepers folder (Some (commands.Serve address store access)) out err status ends = serving_left outside keepers folder (Some (commands.Serve address store)) out err status tt ends.0
+all_left outside keepers folder (Some (commands.Serve address store access)) out err status ends = serving_left outside keepers folder (Some (commands.Serve address store access)) out err status tt ends.0
 all_left outside keepers folder command out err status ends = files_left outside keepers folder command out err status ends
 
 -- a run on files is one of the program
@@ -126,9 +126,8 @@ kept_same (Some files) = λ name. refl
 -- the rows of the database, where they stay
 pub rows_stay : (command : Option Command) (rows : Option (List EntryData))
     → KeepsUnlessStoring command rows rows
-rows_stay None rows = refl
 rows_stay (Some (commands.Store store database)) rows = tt
-rows_stay (Some command) rows = refl
+rows_stay command rows = refl
 
 -- the words were not read
 pub words_failed : (outside : Outside) (keepers : Keepers) (folder : FolderRun)
