@@ -723,6 +723,7 @@ class Large(PageCase):
                          self.sheet_of(PARTS // SHEETS, 1, f"R{at:03}_"))
         page = self.page("ann")
         page.until(lambda: f"parts {PARTS}" in page.text("tabs"), 240)
+        page.one("#follow").click()
         number = self.ann.ids("s000.sch")[0]
         page.press(number)
         times = []
