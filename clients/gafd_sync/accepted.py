@@ -27,9 +27,10 @@ class Accepted:
         try:
             # What is no UTF-8 stays as it is.
             with open(self.path, encoding="utf-8", errors="surrogateescape") as file:
-                return file.read().split("\n")
+                text = file.read()
         except FileNotFoundError:
-            return []
+            text = ""
+        return text.removesuffix("\n").split("\n") if text else []
 
     def listed(self):
         """Each accepted finding once, with who accepted it, when and why, as far as that is told."""
@@ -47,13 +48,13 @@ class Accepted:
         with self.reviews.alone("accepted.lock"):
             lines = self.lines()
             if finding not in lines:
-                self.write([*lines_without_end(lines), f"# {who} {now()}: {reason}", finding])
+                self.write([*lines, f"# {who} {now()}: {reason}", finding])
 
     def take_back(self, finding):
         """Accepts it no longer."""
         with self.reviews.alone("accepted.lock"):
             kept = []
-            for line in lines_without_end(self.lines()):
+            for line in self.lines():
                 if line != finding:
                     kept.append(line)
                 elif kept and SIGNED.fullmatch(kept[-1]):
@@ -68,7 +69,3 @@ class Accepted:
             file.flush()
             os.fsync(file.fileno())
         os.replace(new, self.path)
-
-
-def lines_without_end(lines):
-    return lines[:-1] if lines and not lines[-1] else lines
